@@ -1,7 +1,8 @@
 // guess PORT: a client of the reference library at a server of crates/example_game at PORT of 127.0.0.1. It guesses a number from 1 to
 // 1,000 by halving what is left. Status 0 where each guess was answered once, no answer was against an earlier one, the last one was right
-// and told how many guesses there were, and the server ended the connection then; else it says why on standard error, with status 2
-// where something came too late, and status 1 where anything else is amiss.
+// and told how many guesses there were, all that came on channel 1 was the news that somebody else has won, and the server ended the
+// connection then; else it says why on standard error, with status 2 where something came too late, and status 1 where anything else is
+// amiss.
 #include <enet/enet.h>
 
 #include "common.h"
@@ -49,6 +50,14 @@ static void hear(const ENetEvent *event)
         give_up("no number is left after guess %d", guesses);
 }
 
+// Another player has won.
+static void hear_news(const ENetPacket *packet)
+{
+    static const char news[] = "somebody won";
+    if (packet->dataLength != sizeof news - 1 || memcmp(packet->data, news, sizeof news - 1) != 0)
+        give_up("news of %zu bytes that aren't awaited", packet->dataLength);
+}
+
 int main(int count, char **words)
 {
     ENetAddress address = { .port = (enet_uint16)number_of(count, words, 1, 1, 65535) };
@@ -66,6 +75,11 @@ int main(int count, char **words)
             return 0;
         if (event.type == ENET_EVENT_TYPE_DISCONNECT)
             give_up("the connection ended after %d guesses", guesses);
+        if (event.type == ENET_EVENT_TYPE_RECEIVE && event.channelID == 1) {
+            hear_news(event.packet);
+            enet_packet_destroy(event.packet);
+            continue;
+        }
         if (event.type == ENET_EVENT_TYPE_RECEIVE) {
             hear(&event);
             enet_packet_destroy(event.packet);

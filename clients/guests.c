@@ -1,5 +1,5 @@
-// guests PORT AFTER: two clients of the reference library at the relay at PORT of 127.0.0.1 talk to one another, a reliable packet each in
-// 20 milliseconds. Once each got ten of the other's they write `talking`. Where AFTER is `told` they go on until both were told that the
+// guests PORT AFTER: two clients of the reference library at the relay at PORT of 127.0.0.1 talk to one another, in turns, a reliable packet
+// each in 20 milliseconds. Once each got ten of the other's they write `talking`. Where AFTER is `told` they go on until both were told that the
 // relay ends, which must come within 3 seconds of a packet or sooner, since ENet itself ends a connection that stands still only after 5;
 // where it is a number, until each got so many packets more, and they leave with the word 5. Status 0 where that came; else it is told on standard error what went wrong,
 // with status 2 where it came too late, and status 1 where anything else is amiss.
@@ -20,6 +20,7 @@ typedef struct Guest {
     ENetPeer *peer;
     bool is_there, is_told;
     double heard_at; // when the last packet came
+    double says_at;  // when it says something next
     int got;
 } Guest;
 
@@ -54,6 +55,9 @@ static void hear(Guest *guest, bool may_end)
 
 static void say(Guest *guest)
 {
+    if (now() < guest->says_at)
+        return;
+    guest->says_at = now() + PAUSE;
     if (!guest->is_there || guest->is_told)
         return;
     ENetPacket *packet = enet_packet_create("hello", 5, ENET_PACKET_FLAG_RELIABLE);
@@ -80,15 +84,13 @@ int main(int count, char **words)
         give_up("guests: the library can't be used");
     for (int i = 0; i < 2; i++)
         join(&guests[i], &relay);
-    double begun = now(), said_at = 0;
+    double begun = now();
+    guests[1].says_at = begun + PAUSE / 2;
     while (now() - begun < LIMIT) {
         for (int i = 0; i < 2; i++)
             hear(&guests[i], is_talking && until_told);
-        if (now() - said_at >= PAUSE) {
-            said_at = now();
-            for (int i = 0; i < 2; i++)
-                say(&guests[i]);
-        }
+        for (int i = 0; i < 2; i++)
+            say(&guests[i]);
         if (!is_talking && both_got(AT_FIRST)) {
             is_talking = true;
             puts("talking");

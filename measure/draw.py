@@ -90,7 +90,7 @@ def ranges():
             least, median, most = (float(row[f"ratio_{word}"]) for word in ("least", "median", "most"))
             picture.line(across(least), height, across(most), height, colour, 1.5)
             picture.dot(across(median), height, colour)
-    picture.text(LEFT + 280, bottom + 32, "dot: median of three runs; bar: least to most; logarithmic", anchor="middle")
+    picture.text(LEFT + 280, bottom + 32, "dot: median of two or three runs; bar: least to most; logarithmic", anchor="middle")
     return picture.svg()
 
 

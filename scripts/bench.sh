@@ -1,13 +1,15 @@
 #!/usr/bin/env bash
 # Measures `enet_relay serve` side by side with a relay of the same rule over the reference library (clients/server.c), with the clients
-# of clients/load.c: `bench.sh [PROGRAM] [SECONDS] [slots | broadcast]`. Where PROGRAM is `layer`, clients/server.c over our layer (c/enet) stands in
+# of clients/load.c: `bench.sh [PROGRAM] [SECONDS] [slots | broadcast | options]`. Where PROGRAM is `layer`, clients/server.c over our layer (c/enet) stands in
 # the place of `serve`, in one thread as over the reference library; it needs crates/enet_c/out/libenet_c.a, which `rt lib` makes there, and
 # tells first what an idle call of the C library takes. For each number of clients, size and kind of packet, both relays are measured one
 # after the other, SECONDS each for the trip at light load and for the most that goes through (2 where it isn't given). Prints a table;
 # in each cell ours stands first. With `slots` the table is one of 8 clients that talk, reliably and 32 bytes a packet, among 40, 400 and
 # 4,000 slots, and among 400 clients that only listen. With `layer` and `broadcast` it is one of a server that tells 64 or 200 clients of the
 # reference library 100 bytes 60 times a second (clients/tell.c): what each broadcast takes with all that comes of it, in processor time and,
-# in a second run, which takes valgrind, in instructions outside the system. Where PROCESSOR is set, each relay runs on that processor alone;
+# in a second run, which takes valgrind, in instructions outside the system. With `options` `serve` is measured beside itself with the limits
+# of admission, `--metrics` and `--control`, ROUNDS times (3 where that isn't set) by turns, at each number, size and kind: packets a second of
+# processor time, without and with them, and the least, median and greatest ratio; it fails where a median is above 1.05. Where PROCESSOR is set, each relay runs on that processor alone;
 # where THREADS is set, `serve` serves in so many threads (1 or 2; else 1). Proves nothing, and takes some minutes.
 cd "$(dirname "$0")/.." || exit 1
 . scripts/clients.sh
@@ -97,6 +99,41 @@ if [ "${3:-}" = broadcast ]; then
         tell_row "$clients" 0
     done
     exit
+fi
+
+# A line of the table of options, that begins with $1: both measured with the rest, by turns. Whether no more is taken than a twentieth.
+options_row() {
+    local begins=$1 round
+    shift
+    : > "$room/turns"
+    for ((round = 0; round < ${ROUNDS:-3}; round++)); do
+        options=()
+        measure "$program" "$@" > "$room/without"
+        options=(--per-address 4095 --connects-per-address 1000 --connects-per-second 1000 --ban 192.0.2.1 --metrics "127.0.0.1:$port" --control)
+        measure "$program" "$@" > "$room/with"
+        paste "$room/without" "$room/with" >> "$room/turns"
+    done
+    awk '$2 > 0 && $6 > 0 { printf "%.4f %d %d %d %d\n", $2 / $6, $2, $6, $3, $7 }' "$room/turns" | sort -n | awk -v begins="$begins" -v rounds="${ROUNDS:-3}" '
+        { ratio[NR] = $1; line[NR] = $0 }
+        END {
+            if (NR < rounds) { printf "| %s | %d of %d turns came to no end |\n", begins, rounds - NR, rounds; exit 1 }
+            split(line[int((NR + 1) / 2)], middle)
+            printf "| %s | %d, %d | %.2f, %.2f, %.2f | %d, %d |\n", begins, middle[2], middle[3], ratio[1], middle[1], ratio[NR], middle[4], middle[5]
+            exit middle[1] > 1.05
+        }'
+}
+
+if [ "${3:-}" = options ]; then
+    printf '| clients | bytes | kind | packets a second of processor time, without and with | processor time with them: least, median, most | trip: median (µs), without and with |\n|---|---|---|---|---|---|\n'
+    dearer=0
+    for clients in 1 8 32; do
+        for size in 32 1000 20000; do
+            options_row "$clients | $size | reliable" 40 "$clients" "$size" 0 || dearer=$((dearer + 1))
+            options_row "$clients | $size | unreliable" 40 "$clients" "$size" 1 || dearer=$((dearer + 1))
+        done
+    done
+    echo "$dearer of 18 are dearer by over a twentieth"
+    exit $((dearer > 0))
 fi
 
 figures='packets delivered a second | packets a second of processor time | ratio | trip: median, 99th percentile (µs) |'

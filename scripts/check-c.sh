@@ -16,6 +16,7 @@
 #   libenet on our shared library;
 # - programs that weren't written for it: libenet's tutorial (c/tests/tutorial.c) on the layer, and Debian's python3-enet, which was built
 #   for libenet, on our shared library (c/tests/binding.py), each with the reference library at the other end, both ways round;
+# - the programs that docs/C.md shows, in C and in Python, as they stand there but for their port, with either at the other end;
 # - sockets by TCP, duplicatePeers, intercept, compressor, checksum and range coder (c/tests/offered.c), with each of the libraries at either
 #   end;
 # - what waits at a receiver never keeps the next packet out for good: the reference library or the layer sends, the layer receives
@@ -230,6 +231,48 @@ conversations() {
     wait
 }
 
+# Puts the program of docs/C.md in the language $1 into the file $2, for the port `port`.
+shown() {
+    sed -n "/^\`\`\`$1\$/,/^\`\`\`\$/{//!p}" docs/C.md | sed "s/7777/$port/" > "$2" && [ -s "$2" ]
+}
+
+# Makes both, and a program for libenet (the tutorial), those in C by the words of pkg-config, as docs/C.md says.
+make_shown() {
+    local words
+    shown c "$room/echo.c" && shown python "$room/echo.py" || return 1
+    read -ra words <<< "$(PKG_CONFIG_PATH=$room/made/lib/pkgconfig pkg-config --cflags --libs gofnjerta)"
+    cc -Wall -Wextra "$room/echo.c" "${words[@]}" -o "$room/shown" || return 1
+    read -ra words <<< "$(PKG_CONFIG_PATH=$room/made/lib/pkgconfig pkg-config --cflags --libs gofnjerta-enet)"
+    cc -Wall -Wextra c/tests/tutorial.c "${words[@]}" -o "$room/game"
+}
+
+# The command $1 serves at the port `port` until it is ended, and the command $2 says hello to it.
+greet() {
+    local server client said
+    read -ra server <<< "$1"
+    read -ra client <<< "$2"
+    "${server[@]}" &
+    relay=$!
+    until_bound
+    said=$(timeout 60 "${client[@]}" 127.0.0.1)
+    kill "$relay"
+    wait "$relay"
+    relay=
+    echo "$said"
+    [ "$said" = 'got hello' ]
+}
+
+# Each of the two programs with each.
+documented() {
+    local in_c="env LD_LIBRARY_PATH=$room/made/lib $room/shown" in_python="/usr/bin/python3 $room/echo.py $room/made/lib/libgofnjerta.so"
+    free_port
+    try documented make_shown
+    try documented-c greet "$in_c" "$in_c"
+    try documented-python greet "$in_python" "$in_python"
+    try documented-c-at-python greet "$in_python" "$in_c"
+    try documented-python-at-c greet "$in_c" "$in_python"
+}
+
 # A program that asks for libenet, compiled and run where the library is installed; and its end.
 installed() {
     local prefix=$room/prefix header words
@@ -302,6 +345,7 @@ else
     try pool-valgrind "${grind[@]}" "$room/pool"
     try layout diff <("$room/layout-ours") <("$room/layout-theirs")
     try installed installed
+    documented
     meetings
     conversations
     for name in "${names[@]}"; do

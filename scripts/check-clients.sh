@@ -2,7 +2,7 @@
 # Clients of the reference library talk through a relay, in the scenarios of clients/client.c: first straight, then by way of
 # clients/proxy.c, which drops, repeats and reorders datagrams; eight by way of one that drops all for 4 seconds, in which no connection may
 # end; and a crowd of them (clients/crowd.c) straight. These come to a server of one thread, and the crowd and some of the others to one of
-# two, each of whose queues has 64 places for the crowd, so that both are full at once and neither thread may wait for the other. Clients of
+# two, each of whose queues has 16 places for the crowd, so that both are full at once and neither thread may wait for the other. Clients of
 # `demo` visit a server of the reference library, and so does `example_echo`, whose own server a client of that library visits
 # (clients/echo.c). Three of that library play at `example_game` side by side until each has won (clients/guess.c), and it ends. Two guests
 # (clients/guests.c) are told when a server ends after its turns, and when it ends since its relay found no memory; they notice nothing of
@@ -35,9 +35,9 @@ end_attempt() {
 # The scenario $2 with $3 clients and a relay of $4 slots, on ports $5 and $6. $1 is its name here, which says whether the way is lossy or
 # has an outage; $7 seeds the proxy. The status is the client's, or 1 where the relay or the proxy ended; what went wrong is on standard output.
 attempt() {
-    local words=() line=() places=65536 to=$5 status
+    local words=() line=() places= to=$5 status
     [ "$program" = reference ] && words+=(reference)
-    [ "$2" = crowd ] && places=64
+    [ "$2" = crowd ] && places=16
     relay "$program" "$5" "$4" "$room" "$places" > /dev/null 2> "$room/$1.relay" &
     relay=$!
     if [[ $1 != *straight ]]; then
@@ -218,22 +218,22 @@ server_ended() {
     [[ $(<"$room/$1.out") == "$3"* ]] || { echo "it wrote $(<"$room/$1.out")"; return 1; }
 }
 
-# What relays in a server of $2 threads finds no memory once. Where that is the only thread, most of its growths are of packets that come,
-# which are sent again where one is refused: so growths are refused one by one until the server ends.
+# What relays in a server of $2 threads finds no memory. If it is a thread of its own, it submits packets that follow one another together,
+# and goes on one by one if there is no memory for that; if it is the only thread, most of its growths are of packets that come, which are
+# sent again if one is refused. So growths are refused one by one until the server ends.
 no_memory() {
     trap end_attempt EXIT
     trap 'exit 1' TERM
     local name=no-memory-$2
     if [ "$2" = 2 ]; then
         receive_guests "$name" "$1" told --forever --threads 2
-        kill -USR1 "$relay"
     else
         FAULTS_ANYWHERE=1 receive_guests "$name" "$1" told --forever --threads 1
-        for _ in {1..200}; do
-            kill -USR1 "$relay" 2> /dev/null && ! grep -q '^E1' "$room/$name.err" || break
-            sleep 0.05
-        done
     fi
+    for _ in {1..200}; do
+        kill -USR1 "$relay" 2> /dev/null && ! grep -q '^E1' "$room/$name.err" || break
+        sleep 0.05
+    done
     guests_fared "$name" 0 'E1 Memory' > "$room/$name.first" || return
     server_ended "$name" 1 '' > "$room/$name.first" && : > "$room/$name.passed"
 }

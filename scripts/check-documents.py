@@ -6,6 +6,7 @@
 - each file that a document links to is there;
 - each commit of measure/results is one of this history (told as passed over where the history isn't there);
 - README's commands name files that are there, and its command for all tests is the one that .ci/run runs;
+- the code that docs/USING.md shows stands in an example or in a trial, which the tests compile and run;
 - the counts of definitions that docs/HEADLINE.md and docs/PROOFS.md tell are those of scripts/trusted.py;
 - the plots are what measure/draw.py makes of measure/results.
 
@@ -22,7 +23,7 @@ DOCUMENTS = ["README.md", "CONTRIBUTING.md", *sorted(glob.glob("docs/*.md"))]
 # Names that stand nowhere in the repository by their nature: the kit's, the system's, the reference library's own, and those of definitions
 # that are gone, which docs/PERF.md names to say what replaced them.
 ELSEWHERE = re.compile(
-    r"rt( .*)?|rattle.*|logic [0-9a-f]+|SHORTER_PROOFS\.md|docs/NOT_COVERED\.md|itoa|"
+    r"rt( .*)?|rattle.*|logic [0-9a-f]+|SHORTER_PROOFS\.md|FIRST_PROOFS\.md|docs/NOT_COVERED\.md|itoa|"
     r"ss( .*)?|perf.*|valgrind.*|nft.*|ulimit.*|net\..*|[A-Z]\w+=.*|-l\w+|"
     r"ENetChannel|enet_channel|initialize_with_callbacks|peer_throttle|reset_queues|setup_outgoing_command|protocol_command_size|recvmmsg|"
     r"KeepsSkips|Witness"
@@ -155,6 +156,25 @@ def commands(counts):
         counts.check(run and run[1] in lines, "README.md hasn't the command that .ci/run runs")
 
 
+def without_layout(code):
+    """Code without what `rt fmt` may set otherwise: white space, and commas behind the last of several."""
+    return re.sub(r",(?=[)}\]])", "", re.sub(r"\s", "", code))
+
+
+def shown(counts):
+    """The blocks of docs/USING.md that are no commands."""
+    paths = [*glob.glob("crates/example_*/src/*.rt"), *glob.glob("trials/src/**/*.rt.in", recursive=True)]
+    compiled = [without_layout(read(path)) for path in paths]
+    blocks = re.findall(r"(?:(?<=\n\n)|^)((?:    .*\n|\n(?=    ))+)", read("docs/USING.md"))
+    code = [block for block in blocks if not re.match(r"    (\(cd|cc|bash) ", block)]
+    counts.check(code, "docs/USING.md shows no code")
+    for block in code:
+        counts.check(
+            any(without_layout(block) in text for text in compiled),
+            f"docs/USING.md: no example and no trial has\n{block}",
+        )
+
+
 def trusted(counts):
     """What a reader of a clause must trust: so many definitions, so many lines."""
     said = subprocess.run([sys.executable, "scripts/trusted.py"], capture_output=True, text=True, check=False).stdout
@@ -178,7 +198,7 @@ def plots(counts):
 def main():
     os.chdir(os.path.join(os.path.dirname(os.path.abspath(__file__)), ".."))
     counts = Counts()
-    for check in (stated, names, links, commits, commands, trusted, plots):
+    for check in (stated, names, links, commits, commands, shown, trusted, plots):
         check(counts)
     print(f"{counts.passed} passed, {counts.failed} failed")
     return 1 if counts.failed else 0

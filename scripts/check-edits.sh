@@ -100,11 +100,16 @@ drop_answers() {
     return "$found"
 }
 
+# Puts the crate back as it stands, with what its check kept, in its folder of the copy.
+restore() {
+    rm -rf src specs proofs out
+    cp -a "$room/whole/." .
+}
+
 # Tries the edit of the file $1 of the crate $2, in its folder of the copy, over what the check of the crate as it stands kept.
 try_edit() {
     local name=$2/${1##*/} what
-    rm -rf src specs proofs out
-    cp -a "$room/whole/." . || return 1
+    restore || return 1
     if ! make_edit "$1" 2> "$room/said"; then
         fail "$name" "$(<"$room/said")"
         return
@@ -123,7 +128,7 @@ try_edit() {
     became[$what]=$((${became[$what]:-0} + 1))
 }
 
-# Tries all edits of the crate $1.
+# Tries all edits of the crate $1, and leaves it as it stands for the crates above it.
 try_all() {
     local begun=$SECONDS edit what told=''
     local -A became=()
@@ -137,6 +142,7 @@ try_all() {
         for edit in must-fail/*; do
             try_edit "$edit" "$1"
         done
+        restore || fail "$1" "it could not be put back"
         for what in false limit open proof; do
             told="$told, ${became[$what]:-0} $what"
         done

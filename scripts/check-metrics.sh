@@ -1,9 +1,11 @@
 #!/usr/bin/env bash
 # Asks `enet_relay serve --metrics` for its figures while 32 clients of the reference library talk (clients/tally.c), and compares these with
 # what the clients counted; sends it datagrams that it must stop, and requests that it must refuse; has 20 ask nothing for six seconds, and
-# others get their answer meanwhile; and stops the thread of the service alone (clients/hold.c), of which /healthz must tell. In one thread and
-# in two: `check-metrics.sh [PROGRAM]`. PROGRAM is the built `enet_relay`, by default the one that `rt ci`, or `rt run` in crates/enet_relay,
-# leaves. Prints what failed, and as last line 'N passed, M failed'; the status is 1 where one failed. It takes a minute.
+# others get their answer meanwhile; forges CONNECTs (clients/forge.c), whose slots must be told as half-open ones, and free again; stops
+# clients, to whom what others say must stay in transit; and stops the thread of the service alone (clients/hold.c), of which /healthz must
+# tell. Each figure that the dashboard of deploy/grafana asks for must be told (dashboard.py). In one thread and in two: `check-metrics.sh
+# [PROGRAM]`. PROGRAM is the built `enet_relay`, by default the one that `rt ci`, or `rt run` in crates/enet_relay,
+# leaves. Prints what failed, and as last line 'N passed, M failed'; the status is 1 where one failed. It takes two minutes.
 cd "$(dirname "$0")/.." || exit 1
 . scripts/clients.sh
 program=${1:-crates/enet_relay/out/enet_relay}
@@ -52,6 +54,55 @@ figure() {
     awk -v name="$1" '$1 == name { print $2 }' <<< "$2"
 }
 
+# How many slots are free, spent, connecting, answering, connected and leaving, by the answer $1.
+slots() {
+    local state
+    for state in free spent connecting answering connected leaving; do
+        figure "enet_slots_by_state{state=\"$state\"}" "$1"
+    done | paste -sd ' '
+}
+
+# Asks until the slots are $2, for $3 seconds at most; the case is $1.
+slots_become() {
+    local told
+    for ((i = 0; i < $3 * 5; i++)); do
+        told=$(slots "$(ask 'GET /metrics')")
+        [ "$told" != "$2" ] || break
+        sleep 0.2
+    done
+    same "$1" "$told" "$2"
+}
+
+# CONNECTs that nobody confirms each take a slot, for seven and a half seconds. One second after the last look that counted slots they are
+# counted again.
+half_open() {
+    local sent
+    sent=$("$room/forge" "$port" 20 1)
+    sent=${sent% sent}
+    [ "${sent:-0}" -ge 10 ] || fail forge "only '$sent' went"
+    slots_become half-open "$((64 - sent)) 0 0 $sent 0 0" 3
+    slots_become half-open-no-more '64 0 0 0 0 0' 12
+}
+
+# Two clients talk, and two others stop: what these are sent, 17 bytes each time, stays in transit until they go on.
+in_transit() {
+    local told stopped talking
+    "$room/tally" "$port" 2 12 > "$room/stopped.out" 2>&1 &
+    stopped=$!
+    "$room/tally" "$port" 2 7 > "$room/talking.out" 2>&1 &
+    talking=$!
+    slots_become connected '60 0 0 0 4 0' 10
+    kill -STOP "$stopped"
+    sleep 3
+    told=$(figure enet_in_transit_bytes "$(ask 'GET /metrics')")
+    [ "${told:-0}" -ge 68 ] && [ $((told % 17)) -eq 0 ] && passed=$((passed + 1)) || fail in-transit "'$told' bytes"
+    kill -CONT "$stopped"
+    wait "$talking" || fail talking "$(<"$room/talking.out")"
+    wait "$stopped" || fail stopped "$(<"$room/stopped.out")"
+    slots_become gone '64 0 0 0 0 0' 10
+    same in-transit-no-more "$(figure enet_in_transit_bytes "$(ask 'GET /metrics')")" 0
+}
+
 # Figures while clients talk, and once they have gone.
 figures() {
     local told
@@ -75,6 +126,7 @@ figures() {
     same status "$(status "$told")" 200
     same peers "$(figure enet_peers "$told")" 32
     same slots "$(figure enet_slots "$told")" 64
+    slots_become slots-by-state '32 0 0 0 32 0' 3
     wait "$tally" || fail tally "$(<"$room/tally.out")"
     sleep 1
     local sent bytes_sent came bytes_came
@@ -87,11 +139,19 @@ figures() {
     same bytes-out "$(figure 'enet_bytes_total{way="out"}' "$told")" "$bytes_came"
     same lost "$(figure enet_datagrams_lost_total "$told")" 0
     same passed-over "$(figure enet_connects_passed_over_total "$told")" 0
+    same in-transit "$(figure enet_in_transit_bytes "$told")" 0
     same refused "$(figure 'enet_orders_refused_total{reason="E4"}' "$told")" 20
     same short "$(figure 'enet_datagrams_stopped_total{reason="S1"}' "$told")" 5
     same unknown "$(figure 'enet_datagrams_stopped_total{reason="S3"}' "$told")" 3
     same waiting "$(figure 'enet_waiting{what="orders"}' "$told") $(figure 'enet_waiting{what="events"}' "$told")" '0 0'
     round_trips "$told"
+}
+
+# The dashboard asks for what is told, and for all of it.
+dashboard() {
+    local said
+    ask 'GET /metrics' > "$room/page"
+    said=$(python3 scripts/dashboard.py "$room/page") && passed=$((passed + 1)) || fail dashboard "$said"
 }
 
 # Buckets grow, the last has all, and in six seconds each of 32 was taken at least three times.
@@ -163,6 +223,9 @@ else
     for threads in 1 2; do
         begin
         figures
+        half_open
+        in_transit
+        dashboard
         requests
         silent
         hung

@@ -3,8 +3,9 @@
 # to standard output with NAME.out, to standard error with NAME.err (no such file: nothing) and its status with NAME.status
 # (no such file: 0). A long script and its output are made by NAME.awk. A script that is listed and missing fails. Each line of
 # unreadable-lines.txt and of unreadable-lines-of-a-fleet.txt, whose escapes are printf's, is the second of a script for a pair or a
-# fleet, and the first that can't be read. Each short script that makes two hosts, and the first of a fleet, is also run by `check_memory` as one list of events,
-# in one call. Command lines are tried too; those of `demo` take port 47100, which no other socket may have. The last line is
+# fleet, and the first that can't be read. Each short script that makes two hosts, without `calm`, and the first of a fleet, is also run by
+# `check_memory` as one list of events, in one call. The lines that README shows are a script, too, with their answers. Command lines are
+# tried too; those of `demo` take port 47100, which no other socket may have. The last line is
 # 'N passed, M failed'; the status is 1 where one fails. The programs are those that `rt ci`, or `rt run` in crates/enet_relay and
 # crates/check_memory, leaves; another `enet_relay` can be named as argument.
 cd "$(dirname "$0")/.." || exit 1
@@ -45,12 +46,18 @@ row() {
     script "$1" "$row.lab" "$row.out" "$err" "$wanted"
 }
 
+# The lines of the lab that README shows, each with its answer and a remark.
+readme_lines() {
+    awk -F '  +' -v lab="$room/readme.lab" -v out="$room/readme.out" '/^    / && NF == 4 { print $2 > lab; print $3 > out }' README.md
+    script README.md "$room/readme.lab" "$room/readme.out" /dev/null 0
+}
+
 # A script as one list of events. The row of a fleet stands in the program itself.
 at_once() {
     local row=$rows/$1
     if [ "$1" = fleet-and-strangers ]; then
         printf 'run\nfleet\n' > "$room/list"
-    elif [ -r "$row.lab" ] && [ ! -e "$row.status" ] && grep -Eq '^(pair|open) ' < <(head -n 1 "$row.lab"); then
+    elif [ -r "$row.lab" ] && [ ! -e "$row.status" ] && grep -Eq '^(pair|open) ' < <(head -n 1 "$row.lab") && ! grep -q '^calm ' "$row.lab"; then
         { echo run; cat "$row.lab"; echo =; cat "$row.out"; } > "$room/list"
     else
         return
@@ -315,6 +322,7 @@ else
     while IFS= read -r name || [ -n "$name" ]; do
         case $name in '' | '#'*) ;; *) row "$name"; at_once "$name" ;; esac
     done < "$rows/list.txt"
+    readme_lines
     unreadable_lines 'pair 1' 'turn A' unreadable-lines.txt
     unreadable_lines 'fleet 2 2 2' 'turn S' unreadable-lines-of-a-fleet.txt
     command_lines

@@ -1,9 +1,10 @@
 #!/usr/bin/env bash
-# Runs the trials of the crates, which stand in trials/: worked values, trials of a peer, captured datagrams of the reference library byte for
-# byte, queues, wires and a service with a real host, from several threads and through sockets. Their files end in .in, which no check reads:
-# here they become a crate in a copy of the repository, and `rt try` builds all tests at once, with all that they stand on. That build isn't
-# proved; it stops at each overflow and each index or access out of range. Its files must be as `rt fmt` lays them out. Takes three minutes
-# of a processor. Prints each trial that failed; the last line is 'N passed, M failed', and the status 1 where one failed.
+# Runs the trials of the crates, which stand in trials/: worked values, trials of a peer, captured datagrams of the reference library byte
+# for byte, states of two hosts after losses, queues, wires and a service with a real host, from several threads and through sockets. Their
+# files end in .in, which no check reads: here they become a crate in a copy of the repository, and `rt try` builds all tests at once, with
+# all that they stand on. That build isn't proved; it stops at each overflow and each index or access out of range. Its files must be as `rt
+# fmt` lays them out. Takes three minutes of a processor, and two more for those states. Prints each trial that failed; the last line is 'N
+# passed, M failed', and the status 1 where one failed.
 cd "$(dirname "$0")/.." || exit 1
 room=$(mktemp -d) || exit 1
 trap 'rm -rf "$room"' EXIT
@@ -29,7 +30,7 @@ data=(--data peer.txt=peer.txt)
 for file in captured/*.txt; do
     data+=(--data "${file#captured/}=$file")
 done
-rt try --test --seconds 300 "${data[@]}" > "$room/said" 2>&1
+rt try --test --seconds 600 "${data[@]}" > "$room/said" 2>&1
 grep -vE '^(test .* \.\.\. ok|tests: [0-9]+|test result: .*|races: .*|run=ended status=0 .*)$' "$room/said"
 passed=$(sed -nE 's/^test result: [A-Za-z]+\. ([0-9]+) passed; ([0-9]+) failed.*/\1/p' "$room/said")
 lost=$(sed -nE 's/^test result: [A-Za-z]+\. ([0-9]+) passed; ([0-9]+) failed.*/\2/p' "$room/said")

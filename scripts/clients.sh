@@ -29,8 +29,9 @@ free_port() {
 }
 
 # Becomes a relay on port $2 of 127.0.0.1 with $3 slots and 3 channels: that of server.c in the directory $4 where $1 is `reference`, the
-# same over our layer where it is `layer`, else the program $1, with $5 places in each queue between its threads (65,536 where it isn't given).
-# Where PROCESSOR is set, it runs on that processor alone. That program serves in as many threads as THREADS says, one where it isn't set.
+# same over our layer where it is `layer`, else the program $1, with $5 places in each queue between its threads where it is given.
+# Where PROCESSOR is set, it runs on that processor alone. That program serves in as many threads as THREADS says, one where it isn't set, and
+# with the options that `options` has, where that is set.
 relay() {
     local on=()
     [ -z "${PROCESSOR:-}" ] || on=(taskset -c "$PROCESSOR")
@@ -39,7 +40,7 @@ relay() {
     elif [ "$1" = layer ]; then
         exec "${on[@]}" "$4/our-server" "$2" "$3" 3
     else
-        exec "${on[@]}" "$1" serve --port "$2" --peers "$3" --channels 3 --queue-capacity "${5:-65536}" --forever \
-            ${THREADS:+--threads "$THREADS"}
+        exec "${on[@]}" "$1" serve --port "$2" --peers "$3" --channels 3 --forever ${5:+--queue-capacity "$5"} \
+            ${THREADS:+--threads "$THREADS"} ${options[@]+"${options[@]}"} < /dev/null
     fi
 }

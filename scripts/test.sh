@@ -14,30 +14,18 @@ RT_JOBS=${RT_JOBS:-$(nproc)} rt ci
 gate=$?
 echo "rt ci ended with status $gate after $((SECONDS - begun)) seconds"
 [ "$gate" = 0 ] || exit 1
-bash scripts/check-edits.sh --read
-edits=$?
-python3 scripts/quotes.py
-quotes=$?
-python3 scripts/check-documents.py
-documents=$?
-bash scripts/check-trials.sh
-trials=$?
-bash scripts/check-rows.sh
-rows=$?
-bash scripts/check-inspect.sh
-inspected=$?
-bash scripts/check-memory.sh
-memory=$?
-bash scripts/check-speed.sh
-speed=$?
-bash scripts/check-clients.sh
-clients=$?
-bash scripts/check-admission.sh
-admitted=$?
-bash scripts/check-metrics.sh
-metrics=$?
-bash scripts/check-deploy.sh
-deployed=$?
-if bash scripts/archive-c.sh > /dev/null; then bash scripts/check-c.sh; else echo '0 passed, 1 failed'; false; fi
-library=$?
-[ "$edits $quotes $documents $trials $rows $inspected $memory $speed $clients $admitted $metrics $deployed $library" = '0 0 0 0 0 0 0 0 0 0 0 0 0' ]
+failed=()
+try() {
+    "$@" || failed+=("$*")
+}
+library() {
+    if bash scripts/archive-c.sh > /dev/null; then bash scripts/check-c.sh; else echo '0 passed, 1 failed'; false; fi
+}
+try bash scripts/check-edits.sh --read
+try python3 scripts/quotes.py
+try python3 scripts/check-documents.py
+for name in trials rows inspect memory speed clients admission metrics deploy; do
+    try bash "scripts/check-$name.sh"
+done
+try library
+[ ${#failed[@]} -eq 0 ] || { echo "failed: ${failed[*]}" >&2; exit 1; }

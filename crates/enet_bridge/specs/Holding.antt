@@ -4,7 +4,7 @@ use Rattle.crossbeam_queue.specs.Fifo.{Held}
 use Rattle.enet_submit.specs.declared.order.Order.{Order}
 use Rattle.enet_submit.specs.declared.order.Submission.{Submission}
 use Rattle.enet_submit.specs.declared.queue.SubmitQueue.{SubmitQueue}
-use Rattle.enet_submit.specs.Words.{sent, capacity_of, SeatSees}
+use Rattle.enet_submit.specs.Words.{sent, capacity_of, SeatSeesIn}
 use Rattle.enet_events.specs.declared.numbered.Numbered.{Numbered}
 use Rattle.enet_events.specs.Words.{Queue, TakerState, TakerFits}
 use Rattle.enet_bridge.specs.declared.order_sender.OrderSender.{OrderSender}
@@ -30,10 +30,10 @@ submitted_at sender = sent sender.seat
 abbrev pub asked : OrderSender → List Order
 asked sender = orders (submitted_at sender) ++ waiting_at sender
 
--- a state of the queue in which it holds as many orders as it has places, and what the seat submitted is just its part of all that was taken
--- and is held
+-- a state of the queue in which all its places are taken, each by an order or by packets for several peers, and what the seat submitted is
+-- just its part of all that was taken and is held
 abbrev pub FoundFull : OrderSender → Type 0
-FoundFull sender = Held (capacity_of (sender_queue sender)) (SeatSees (sender_queue sender) sender.seat)
+FoundFull sender = Held (capacity_of (sender_queue sender)) (SeatSeesIn (sender_queue sender) sender.seat)
 
 -- by what an event receiver takes
 abbrev pub taker_of : EventReceiver → TakerState

@@ -1,12 +1,12 @@
 //! A seat with the orders that wait for room, and the bell that tells the service of what was submitted.
-ghost use Rattle.std.specs.Prelude.{◌≡◌, ◌++◌, ◌∷◌, [], OnOk, OnErr, IfErr, IsOk, IsTrue, ◌↔◌, ◌<◌, length};
+ghost use Rattle.std.specs.Prelude.{◌≡◌, ◌+◌, ◌++◌, ◌∷◌, [], ◌⊎◌, OnOk, OnErr, IfErr, IsOk, IsTrue, ◌↔◌, ◌<◌, length};
 ghost use Rattle.enet_submit.specs.Words.{IsSeatOf, IsFinishedOf, sent, all_sent, limit_of};
 ghost use Rattle.enet_bridge.specs.Ends.{orders};
 
 use crate::Bell;
 use crate::waiting::{Pumped, pump};
 use enet_codec::Refusal;
-use enet_submit::{Finished, Order, Seat, SubmitQueue};
+use enet_submit::{Broadcast, Finished, Order, Seat, SubmitQueue};
 use std::alloc::Global;
 use std::collections::VecDeque;
 use std::sync::Wait;
@@ -92,6 +92,53 @@ impl<'a> OrderSender<'a> {
             self.bell.set_idle(false);
         }
         pump(rt, self.queue, &mut self.seat, &mut self.waiting)
+    }
+
+    /// Submits what waits, and behind it packets for several peers: the orders for which they stand, which take one place of the queue
+    /// together. Nothing waits then.
+    ///
+    /// E9 where a step of this call found the queue full, E10 where the seat may not submit so many orders any more. The packets then come
+    /// back as they were, and what was asked stays the same.
+    pub fn submit_each<R: Wait>(
+        &mut self,
+        rt: &R,
+        broadcast: Broadcast,
+    ) -> Result<(), (Refusal, Broadcast)>
+        ensures added { OnOk result (asked self.new ≡ asked self.old ++ broadcast) }
+        ensures none { OnOk result (waiting_at self.new ≡ []) }
+        ensures back { IfErr result (λ e. (e.1 ≡ broadcast) × (asked self.new ≡ asked self.old)) }
+        ensures why { IfErr result (λ e. (e.0 ≡ Refusal.Full) ⊎ (e.0 ≡ Refusal.SeatSpent)) }
+        ensures full { IfErr result (λ e. e.0 ≡ Refusal.Full → FoundFull self.new) }
+        ensures spent { IfErr result (λ e. e.0 ≡ Refusal.SeatSpent → limit_of (sender_queue self.new) < length (asked self.new) + length broadcast) }
+        ensures queue { sender_queue self.new ≡ sender_queue self.old }
+    {
+        match self.submit(rt) {
+            Pumped::All => self.submit_behind(rt, broadcast),
+            Pumped::Full => Err((Refusal::Full, broadcast)),
+            Pumped::Spent => Err((Refusal::SeatSpent, broadcast)),
+        }
+    }
+
+    /// Submits packets for several peers, where nothing waits: as [`OrderSender::submit_each`].
+    pub fn submit_behind<R: Wait>(
+        &mut self,
+        rt: &R,
+        broadcast: Broadcast,
+    ) -> Result<(), (Refusal, Broadcast)>
+        requires { waiting_at self.old ≡ [] }
+        ensures added { OnOk result (asked self.new ≡ asked self.old ++ broadcast) }
+        ensures none { waiting_at self.new ≡ [] }
+        ensures back { IfErr result (λ e. (e.1 ≡ broadcast) × (asked self.new ≡ asked self.old)) }
+        ensures why { IfErr result (λ e. (e.0 ≡ Refusal.Full) ⊎ (e.0 ≡ Refusal.SeatSpent)) }
+        ensures full { IfErr result (λ e. e.0 ≡ Refusal.Full → FoundFull self.new) }
+        ensures spent { IfErr result (λ e. e.0 ≡ Refusal.SeatSpent → limit_of (sender_queue self.new) < length (asked self.new) + length broadcast) }
+        ensures queue { sender_queue self.new ≡ sender_queue self.old }
+    {
+        self.bell.set_idle(false);
+        match self.queue.submit_each(rt, &mut self.seat, broadcast) {
+            Ok(_ticket) => Ok(()),
+            Err(back) => Err(back),
+        }
     }
 
     /// Whether the service has lately found no order. It may answer true though an order has just been submitted, until the next

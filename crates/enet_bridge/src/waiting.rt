@@ -1,7 +1,7 @@
 //! Orders that wait for room in the submit queue.
 ghost use Rattle.std.specs.Prelude.{◌≡◌, ◌<◌, ◌++◌, [], length};
 ghost use Rattle.crossbeam_queue.specs.Fifo.{Held};
-ghost use Rattle.enet_submit.specs.Words.{IsSeatOf, sent, limit_of, capacity_of, SeatSees};
+ghost use Rattle.enet_submit.specs.Words.{IsSeatOf, sent, limit_of, capacity_of, SeatSeesIn};
 ghost use Rattle.enet_bridge.specs.Ends.{orders};
 
 use enet_codec::Refusal;
@@ -38,7 +38,7 @@ pub(crate) fn pump<R: Wait>(
     ensures spent { result ≡ Pumped.Spent → length (sent seat.new) ≡ limit_of queue.now }
     ensures waits { result ≡ Pumped.Full → 0 < length waiting.new.items }
     ensures left { result ≡ Pumped.Spent → 0 < length waiting.new.items }
-    ensures full { result ≡ Pumped.Full → Held (capacity_of queue.now) (SeatSees queue.now seat.new) }
+    ensures full { result ≡ Pumped.Full → Held (capacity_of queue.now) (SeatSeesIn queue.now seat.new) }
 {
     while let Some(order) = waiting.pop_front() {
         match queue.submit(rt, seat, order) {

@@ -7,10 +7,11 @@ use Rattle.enet_codec.specs.declared.event.Event.{Event}
 use Rattle.enet_codec.specs.declared.event.Event.TheVariants.{Connect, Receive, Disconnect, Refused}
 use Rattle.enet_submit.specs.declared.order.Order.{Order}
 use Rattle.enet_events.specs.declared.numbered.Numbered.{Numbered}
-use Rattle.enet_bridge.specs.Holding.{asked, received}
+use Rattle.enet_bridge.specs.Ends.{orders}
+use Rattle.enet_bridge.specs.Holding.{asked, received, waiting_at, submitted_at}
 use Rattle.enet_chat.specs.Chat.{noted, IsNewcomer, relayed}
 use Rattle.enet_chat.specs.declared.relaying.Relay.{Relay}
-use Rattle.enet_chat.specs.Relaying.{events, noted_all, relayed_all, is_for, those_for, SameForEach, SameQueues, Relays}
+use Rattle.enet_chat.specs.Relaying.{events, noted_all, relayed_all, is_for, those_for, SameForEach, SameQueues, Relays, SubmitsOn}
 use Rattle.enet_chat.specs.Private.Relaying.{ArePackets}
 use Rattle.enet_chat.proofs.GroupingLemmas.{packets_note}
 
@@ -132,3 +133,27 @@ relays_packets a b es os packets each same receiver backlog table sender = recor
   orders = sender;
   for_each = each;
 }
+
+-- ---- what was submitted
+-- where no order waits, before and after
+pub submits_on : (a b : Relay) (os : List Order) → waiting_at a.sender ≡ [] → waiting_at b.sender ≡ [] → asked b.sender ≡ asked a.sender ++ os → SubmitsOn a b
+submits_on a b os none still is =
+    let before : asked a.sender ≡ orders (submitted_at a.sender) = ap (λ (zs : List Order). orders (submitted_at a.sender) ++ zs) none ∙ append-nil (orders (submitted_at a.sender)) in
+    let after : asked b.sender ≡ orders (submitted_at b.sender) = ap (λ (zs : List Order). orders (submitted_at b.sender) ++ zs) still ∙ append-nil (orders (submitted_at b.sender)) in
+    (os, sym after ∙ (is ∙ ap (λ (zs : List Order). zs ++ os) before))
+
+pub submits_none : (a b : Relay) → waiting_at a.sender ≡ [] → waiting_at b.sender ≡ [] → asked b.sender ≡ asked a.sender → SubmitsOn a b
+submits_none a b none still is = submits_on a b [] none still (is ∙ sym (append-nil (asked a.sender)))
+
+pub submits_same : (a b : Relay) → submitted_at b.sender ≡ submitted_at a.sender → SubmitsOn a b
+submits_same a b e = ([], ap orders e ∙ sym (append-nil (orders (submitted_at a.sender))))
+
+pub submits_then : (a b c : Relay) → SubmitsOn a b → submitted_at c.sender ≡ submitted_at b.sender → SubmitsOn a c
+submits_then a b c s e = (s.0, ap orders e ∙ s.1)
+
+-- what had been asked for was submitted, and then some more
+pub submits_first : (a b c : Relay) → asked b.sender ≡ asked a.sender → waiting_at b.sender ≡ [] → SubmitsOn b c → (more : List Order) × (orders (submitted_at c.sender) ≡ asked a.sender ++ more)
+submits_first a b c kept none s =
+    let all : orders (submitted_at b.sender) ≡ asked a.sender =
+    sym (ap (λ (zs : List Order). orders (submitted_at b.sender) ++ zs) none ∙ append-nil (orders (submitted_at b.sender))) ∙ kept in
+    (s.0, s.1 ∙ ap (λ (zs : List Order). zs ++ s.0) all)

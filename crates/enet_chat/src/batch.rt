@@ -1,13 +1,13 @@
 //! The orders of several chat packets, receiver by receiver.
-ghost use Rattle.std.specs.Prelude.{◌≡◌, ◌≤◌, ◌++◌, [], ◌∷◌, length, take, drop, true, IfErr, IfOk, OnErr, OnOk, option_to_list};
+ghost use Rattle.std.specs.Prelude.{◌≡◌, ◌≤◌, ◌++◌, [], ◌∷◌, length, take, drop, true, IfErr, IfOk, IfSome, OnErr, OnOk, option_to_list};
 ghost use Rattle.enet_chat.specs.Chat.{relayed};
 ghost use Rattle.enet_chat.specs.Relaying.{SameForEach, relayed_all};
 ghost use Rattle.enet_chat.specs.Private.Relaying.{IsPacket, ArePackets};
-ghost use Rattle.enet_chat.specs.Private.Grouping.{relayed_to, grouped};
+ghost use Rattle.enet_chat.specs.Private.Grouping.{relayed_to, grouped, outward, outwards};
 
 use crate::table::Table;
-use enet_codec::{Event, PeerRef, RELIABLE, Refusal};
-use enet_submit::Order;
+use enet_codec::{Event, Outward, PeerRef, RELIABLE, Refusal};
+use enet_submit::{Broadcast, Order};
 use std::alloc::Global;
 use std::collections::VecDeque;
 
@@ -50,6 +50,66 @@ pub(crate) fn batch_orders(
     let mut orders = VecDeque::new(alloc);
     put_grouped(&mut orders, table.peers.as_slice(), backlog, count)?;
     Ok(orders)
+}
+
+// The same as packets for several peers, which have the receivers one after another; None for want of memory, or where they are too many
+// orders for a seat.
+pub(crate) fn broadcast_of(
+    alloc: Global,
+    table: &Table,
+    backlog: &VecDeque<Event>,
+    count: usize,
+) -> Option<Broadcast>
+    requires within { count ≤ length backlog.now.items }
+    requires packets { ArePackets (take count backlog.now.items) }
+    ensures orders { IfSome result (λ broadcast. SameForEach broadcast (relayed_all table.now (take count backlog.now.items))) }
+{
+    let Ok(peers) = Vec::from_slice(alloc, table.as_slice()) else {
+        return None;
+    };
+    let packets = packets_of(alloc, backlog, count)?;
+    match Broadcast::new(peers, packets) {
+        Ok(broadcast) => Some(broadcast),
+        Err(_) => None,
+    }
+}
+
+// The packets of the first events, each for all but the peer from which it came. None for want of memory.
+fn packets_of(alloc: Global, backlog: &VecDeque<Event>, count: usize) -> Option<Vec<Outward>>
+    requires { count ≤ length backlog.now.items }
+    ensures { IfSome result (λ packets. packets.items ≡ outwards (take count backlog.now.items)) }
+{
+    let mut packets = Vec::new(alloc);
+    for at in 0..count {
+        if !put_packet(&mut packets, &backlog[at]) {
+            return None;
+        }
+    }
+    Some(packets)
+}
+
+// Puts the packet of an event behind these; false for want of memory.
+fn put_packet(packets: &mut Vec<Outward>, event: &Event) -> bool
+    ensures { result ≡ true → packets.new.items ≡ packets.old.items ++ outward event.now }
+{
+    let Event::Receive { peer, packet } = event else {
+        return true;
+    };
+    let flags = match packet.channel {
+        0 => RELIABLE,
+        1 => 0,
+        _ => return true,
+    };
+    let Ok(body) = packet.body.clone() else {
+        return false;
+    };
+    let outward = Outward {
+        except: Some(*peer),
+        channel: packet.channel,
+        flags,
+        body,
+    };
+    packets.push(outward).is_ok()
 }
 
 // Puts what the first events of the backlog give behind these orders, receiver by receiver. For want of memory it may put some of it.

@@ -1,5 +1,5 @@
 //! The thread that takes the service's events and asks for what they give.
-use crate::batch::{MOST_EVENTS, batch_orders, drop_first, packets_first};
+use crate::batch::{MOST_EVENTS, batch_orders, broadcast_of, drop_first, packets_first};
 use crate::gauge::Gauge;
 use crate::relay::relay_step;
 use crate::table::Table;
@@ -21,6 +21,9 @@ const MANY_PEERS: usize = 16;
 
 /// So many kept events are enough to be expanded together.
 const ENOUGH: usize = 32;
+
+/// So many orders at most are submitted in one place of the queue, where they are more than one event gives.
+const MOST_TOGETHER: usize = 4_096;
 
 /// With so many events expanded since the last rest, and some kept, it pays to look a few times before the next: the service is at work,
 /// and its turn is soon over. Where no event is kept a sleep costs less.
@@ -97,7 +100,7 @@ impl<'a> Relay<'a> {
     ghost use Rattle.enet_submit.specs.Words.{IsFinishedOf, all_sent};
     ghost use Rattle.enet_bridge.specs.Ends.{orders};
     ghost use Rattle.enet_bridge.specs.Holding.{asked, waiting_at, submitted_at, received, sender_queue, receiver_queue, FoundFull, FoundNone};
-    ghost use Rattle.enet_chat.specs.Relaying.{peers_of, backlog_of, sender_of, receiver_of, Relays, IsThrough, IsSpent, IsHeldUp, HasSubmitted, SubmitsFirst};
+    ghost use Rattle.enet_chat.specs.Relaying.{peers_of, backlog_of, sender_of, receiver_of, Relays, IsThrough, IsSpent, IsHeldUp, HasSubmitted, SubmitsFirst, SubmitsOn};
     ghost use Rattle.enet_chat.specs.Private.Relaying.{ArePackets};
 
     /// A relay that goes on from these peers and these events.
@@ -281,7 +284,7 @@ impl<'a> Relay<'a> {
         ensures relays { Relays self.old self.new }
         ensures none { IfOk result (λ found. found ≡ Found.Nothing → FoundNone (receiver_of self.new)) }
         ensures all { IfOk result (λ found. found ≡ Found.Nothing → (backlog_of self.new ≡ []) × (waiting_at (sender_of self.new) ≡ [])) }
-        ensures submitted { submitted_at (sender_of self.new) ≡ submitted_at (sender_of self.old) }
+        ensures submitted { SubmitsOn self.old self.new }
         ensures queue { sender_queue (sender_of self.new) ≡ sender_queue (sender_of self.old) }
         ensures stays { OnErr result (waiting_at (sender_of self.new) ≡ []) }
         ensures why { IfErr result (λ why. why ≡ Refusal.Memory) }
@@ -289,10 +292,58 @@ impl<'a> Relay<'a> {
         if self.keeps(over) {
             return self.take_more(rt);
         }
+        if self.broadcast(rt) {
+            return Ok(Found::Work);
+        }
         if self.expand()? {
             return Ok(Found::Work);
         }
         self.take_some(rt)
+    }
+
+    // Submits what the oldest events give in one place of the queue, where they are chat packets that follow one another. False where they
+    // aren't, or where there is no memory or no room for it: then nothing was asked for.
+    fn broadcast<R: Wait>(&mut self, rt: &R) -> bool
+        requires { waiting_at (sender_of self.old) ≡ [] }
+        ensures relays { Relays self.old self.new }
+        ensures waits { waiting_at (sender_of self.new) ≡ [] }
+        ensures submitted { SubmitsOn self.old self.new }
+        ensures queue { sender_queue (sender_of self.new) ≡ sender_queue (sender_of self.old) }
+    {
+        let count = packets_first(&self.backlog, self.most_packets());
+        if count < 2 {
+            return false;
+        }
+        self.broadcast_packets(rt, count)
+    }
+
+    // How many packets are submitted in one place at most.
+    fn most_packets(&self) -> usize {
+        let most = MOST_TOGETHER / self.table.len().max(1);
+        most.min(MOST_EVENTS)
+    }
+
+    // Submits what so many chat packets give in one place of the queue, the oldest events that were taken and weren't expanded yet.
+    fn broadcast_packets<R: Wait>(&mut self, rt: &R, count: usize) -> bool
+        requires within { count ≤ length (backlog_of self.old) }
+        requires packets { ArePackets (take count (backlog_of self.old)) }
+        requires none { waiting_at (sender_of self.old) ≡ [] }
+        ensures relays { Relays self.old self.new }
+        ensures waits { waiting_at (sender_of self.new) ≡ [] }
+        ensures submitted { SubmitsOn self.old self.new }
+        ensures queue { sender_queue (sender_of self.new) ≡ sender_queue (sender_of self.old) }
+    {
+        let Some(broadcast) = broadcast_of(self.alloc, &self.table, &self.backlog, count) else {
+            return false;
+        };
+        let asked = broadcast.len() as usize;
+        if let Err(_) = self.sender.submit_behind(rt, broadcast) {
+            return false;
+        }
+        drop_first(&mut self.backlog, count);
+        self.tally.untold = self.tally.untold.saturating_add(asked);
+        self.tally.add(count, asked);
+        true
     }
 
     // Whether the events that were taken are kept for a while: they are few, each gives many orders, and the service has some left.

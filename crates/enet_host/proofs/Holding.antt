@@ -118,7 +118,7 @@ named-over : (K : List SlotState → Type 0) (slots new : List SlotState) (name 
     → ((s : SlotState) (q : Peering) → K (slice_set slots name.slot (with_peer s q))) → on_named slots name call ≡ Ok new → K new
 named-over K slots new name call each e = on-slot-over K slots new name.slot call (with_generation name.generation (slice_get slots name.slot)) each e
 
-does-over : {T : Type 0} (K : List SlotState → Type 0) (slots new : List SlotState) (name : PeerRef) (call : Peering → Result Peering Refusal) (r : Result T Refusal) → K slots
+pub does-over : {T : Type 0} (K : List SlotState → Type 0) (slots new : List SlotState) (name : PeerRef) (call : Peering → Result Peering Refusal) (r : Result T Refusal) → K slots
     → ((s : SlotState) (q : Peering) → K (slice_set slots name.slot (with_peer s q))) → Does r (on_named slots name call) slots new → K new
 does-over K slots new name call (Ok done) old each d = named-over K slots new name call each d
 does-over K slots new name call (Err why) old each d = subst K (sym d.1) old

@@ -1,10 +1,10 @@
 -- A host as its callers see it: slots, a clock, and where the turns of `service` and `next_event` begin. Times are in milliseconds.
-use Rattle.std.specs.Prelude.{◌≡◌, ◌≢◌, ℕ, ◌≤◌, ◌==◌, if◌then◌else◌, Option, Some, None, List, slice_get}
+use Rattle.std.specs.Prelude.{◌≡◌, ◌≢◌, ℕ, zero, suc, ◌≤◌, ◌==◌, if◌then◌else◌, Option, Some, None, List, [], ◌∷◌, ◌++◌, length, slice_get}
 use Rattle.enet_codec.specs.declared.config.Config.{Config}
 use Rattle.enet_codec.specs.declared.event.PeerRef.{PeerRef}
 use Rattle.enet_peer.specs.declared.parts.PeerState.TheVariants as state
 use Rattle.enet_peer.specs.Peering.{Peering}
-use Rattle.enet_slot.specs.Slot.{SlotState, greatest}
+use Rattle.enet_slot.specs.Slot.{SlotState, greatest, name_of}
 use Rattle.enet_host.specs.declared.totals.Totals.{Totals}
 
 pub record Host : Type 0 where
@@ -40,6 +40,30 @@ peer_in (Some s) = s.peer
 -- the peer that a name means, if there is one
 abbrev pub named : List SlotState → PeerRef → Option Peering
 named slots name = peer_in (slot_named slots name)
+
+-- the name of the peer that a slot holds; None where it holds none
+abbrev pub name_if : ℕ → SlotState → Option Peering → Option PeerRef
+name_if i s None = None
+name_if i s (Some p) = Some (name_of i s)
+
+abbrev pub name_held : ℕ → Option SlotState → Option PeerRef
+name_held i None = None
+name_held i (Some s) = name_if i s s.peer
+
+abbrev pub name_in : List SlotState → ℕ → Option PeerRef
+name_in slots i = name_held i (slice_get slots i)
+
+-- the names of the peers in the first slots, in the order of these, and those of all peers
+abbrev pub one_name : Option PeerRef → List PeerRef
+one_name None = []
+one_name (Some name) = name ∷ []
+
+abbrev pub names_below : List SlotState → ℕ → List PeerRef
+names_below slots zero = []
+names_below slots (suc i) = names_below slots i ++ one_name (name_in slots i)
+
+abbrev pub all_names : List SlotState → List PeerRef
+all_names slots = names_below slots (length slots)
 
 -- a call changed slots alone
 abbrev pub KeepsRest : Host → Host → Type 0

@@ -14,7 +14,8 @@
 //! gets, `submission_refusal` the refusal of `submit` but E1. `submit_each` is the submissions of its errands, peer by peer and one after
 //! another, and answers the first refusal but E2 and E3 (`SubmitsEach`). `tick` and `set_bandwidth` are one change on each slot; once a
 //! second the outgoing bandwidth is shared out among the connected peers. `due_in` is in how many milliseconds time brings something: a
-//! tick of fewer changes the clock alone (`IsDueIn`).
+//! tick of fewer changes the clock alone (`IsDueIn`). `slot_counts` counts the slots that are free, with a generation left or without, and
+//! of the others how far their connections have come (`Counts`).
 //! No slot of any host holds a peer that is free (`HostCore::keeps`). Want of memory, of which no clause can say when it comes,
 //! changes nothing.
 //! Only tested, by `check_hosts`: that calls succeed with ample memory, worked scripts, captured files, foreign bytes. Neither: that
@@ -42,5 +43,6 @@ pub use enet_codec::{
 };
 pub use enet_connect::Terms;
 pub use enet_peer::{PeerState, RoundTrip};
+pub use enet_slot::SlotCounts;
 pub use host::HostCore;
 pub use totals::Totals;

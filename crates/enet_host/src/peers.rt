@@ -6,7 +6,7 @@ ghost use Rattle.std.specs.Option.{option_map};
 ghost use Rattle.enet_codec.specs.declared.event.DisconnectMode.TheVariants.{Now, Ask, Later};
 ghost use Rattle.enet_outbox.specs.Outbox.{transit_of};
 ghost use Rattle.enet_sender.specs.CommandChoice.{Packet};
-ghost use Rattle.enet_host.specs.Host.{KeepsRest, named};
+ghost use Rattle.enet_host.specs.Host.{KeepsRest, name_in, named};
 ghost use Rattle.enet_host.specs.Foretelling.{submission_refusal, refusal_of};
 ghost use Rattle.enet_slot.specs.Calls.{Submits, Does, DoesWithMemory, submission, leaving, throttling, pinging, waiting};
 ghost use Rattle.enet_slot.specs.Sharing.{wants_room_in};
@@ -14,7 +14,6 @@ ghost use Rattle.enet_host.specs.Calls.{address_named, on_named};
 
 use crate::calls;
 use crate::host::HostCore;
-use crate::totals::Totals;
 use bytes::Bytes;
 use enet_codec::{Addr, DisconnectMode, PeerRef, Refusal};
 use enet_connect::Terms;
@@ -140,6 +139,25 @@ impl HostCore {
         calls::set(&mut self.slots, peer, setting)
     }
 
+    /// How many slots the host has, free or not.
+    pub fn slot_count(&self) -> u16
+        ensures { result ≡ length self.now.slots }
+    {
+        self.start.config.peers
+    }
+
+    /// The name of the peer that the slot of this number holds; None where it is free, or there is no such slot.
+    pub fn name_in(&self, slot: u16) -> Option<PeerRef>
+        ensures { result ≡ name_in self.now.slots slot }
+    {
+        let held = self.slots.get(usize::from(slot))?;
+        held.peer()?;
+        Some(PeerRef {
+            slot,
+            generation: held.generation(),
+        })
+    }
+
     /// How far the peer's connection has come; None where there is no such peer.
     pub fn state(&self, peer: PeerRef) -> Option<PeerState>
         ensures { result ≡ option_map (λ p. p.state) (named self.now.slots peer) }
@@ -182,12 +200,5 @@ impl HostCore {
         ensures { result ≡ address_named self.now.slots peer }
     {
         calls::address_of(&self.slots, peer)
-    }
-
-    /// How much went through the host.
-    pub fn totals(&self) -> Totals
-        ensures { result ≡ self.now.totals }
-    {
-        self.totals
     }
 }

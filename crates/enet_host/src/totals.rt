@@ -1,9 +1,13 @@
-//! How much went through a host.
+//! How much went through a host, and what its slots are.
 
 ghost use Rattle.std.specs.Prelude.{◌≡◌};
+ghost use Rattle.enet_slot.specs.Counting.{Counts};
 ghost use Rattle.enet_host.specs.Opening.{no_totals};
 ghost use Rattle.enet_host.specs.Receiving.{with_datagram_in};
 ghost use Rattle.enet_host.specs.Serving.{with_datagram_out};
+
+use crate::host::HostCore;
+use enet_slot::{SlotCounts, count_slots};
 
 /// How many datagrams and bytes came to a host and went out. Each number stops at its greatest value.
 #[derive(Clone, Copy, PartialEq, Eq)]
@@ -51,5 +55,21 @@ impl Totals {
             bytes_out: self.bytes_out.saturating_add(len as u64),
             ..self
         }
+    }
+}
+
+impl HostCore {
+    /// How much went through the host.
+    pub fn totals(&self) -> Totals
+        ensures { result ≡ self.now.totals }
+    {
+        self.totals
+    }
+
+    /// How many of its slots are free, and how far the connections of the others have come. Each slot is looked at.
+    pub fn slot_counts(&self) -> SlotCounts
+        ensures { Counts self.now.config.generations self.now.slots result }
+    {
+        count_slots(&self.slots, self.start.config.generations)
     }
 }

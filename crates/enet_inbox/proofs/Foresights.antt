@@ -1,6 +1,7 @@
 -- What is foreseen of a data command is what becomes of it.
-use Rattle.std.proofs.Common.{◌≡◌, ℕ, Bool, true, false, cond, leb, ltb, Option, Some, None, Result, Ok, Err, is_ok, List, length, refl, sym, ap, subst, ◌∙◌, ◌⊎◌, inl, inr}
+use Rattle.std.proofs.Common.{◌≡◌, ℕ, Bool, true, false, cond, leb, ltb, Some, Result, Ok, Err, is_ok, List, length, refl, sym, ap, subst, ◌∙◌, ◌⊎◌, inl, inr, ◌≤◌, arith}
 use Rattle.std.specs.Prelude.{◌&&◌, not, IfOk}
+use Rattle.std.proofs.lemmas.Bool.Decides.{nat_tests}
 use Rattle.enet_codec.specs.declared.stop.Stop.{Stop}
 use Rattle.enet_codec.specs.declared.stop.Stop.TheVariants as stop
 use Rattle.enet_codec.specs.Message.{Message, Body, acknowledge, connect, verify_connect, disconnect, ping, send_reliable, send_unreliable, send_fragment, send_unsequenced, bandwidth_limit, throttle_configure, send_unreliable_fragment}
@@ -9,7 +10,7 @@ use Rattle.enet_codec.specs.declared.command.Head.{Head}
 use Rattle.enet_fragment.specs.declared.data.DataCommand.{DataCommand}
 use Rattle.enet_fragment.specs.DataCommand.{data_of}
 use Rattle.enet_inbox.specs.Inbox.{Inbox, is_full, given_way}
-use Rattle.enet_inbox.specs.DataEffect.{DataEffect, DataArrives, arrival, plain_arrival, makes_room, met, is_waiting, arrival_of, handled, is_kept, is_kept_of, sequenced, stopped, unsequenced, unsequenced_taken}
+use Rattle.enet_inbox.specs.DataEffect.{DataEffect, arrival, plain_arrival, makes_room, met, is_waiting, arrival_of, handled, is_kept, is_kept_of, sequenced, stopped, unsequenced, unsequenced_taken}
 use Rattle.enet_inbox.specs.Private.Invariant.{HasFront}
 use Rattle.enet_inbox.specs.InboxParts.{foreseen, plain_foreseen, with_room, foreseen_of, foreseen_sequenced, foresight_of, seen_of, seen_by, seen_new, told, unsequenced_verdict}
 use Rattle.enet_inbox.specs.Private.InboxParts.{met_by, FindsRoom}
@@ -19,7 +20,6 @@ use Rattle.enet_receiver.specs.declared.took.Took.{Took}
 use Rattle.enet_receiver.specs.declared.took.Took.TheVariants.{Held, Again, Outside, Bad, Waiting, Memory}
 use Rattle.enet_receiver.specs.declared.took.Foresight.{Foresight}
 use Rattle.enet_inbox.proofs.Outcomes.{told_sequenced, kept_sequenced}
-use Rattle.enet_inbox.proofs.Stops.{Tells, arrival_stays, arrival_tells, quiet_stays}
 
 -- an unsequenced packet, by its tests
 abbrev verdict_by : Bool → Bool → Bool → Bool → Result Bool Stop
@@ -189,34 +189,7 @@ meets-by false b m what made e =
 pub meets : (b : Inbox) (m : Message) (what : Foreseen) → foreseen b m ≡ Ok what → Meets b m what
 meets b m what e = meets-by (makes_room b m) b m what refl e
 
--- a stop is that of the arrival
-arrives-as : (why : Stop) (kept : Bool) (a : DataEffect) (b new : Inbox) → Tells a.answer → a.answer ≡ Err why → a.after ≡ b → new ≡ b → DataArrives (Err why) kept a b new
-arrives-as stop.Memory kept a b new t e after same = absurd (t stop.Memory e refl)
-arrives-as stop.Short kept a b new t e after same = (sym e, same ∙ sym after)
-arrives-as stop.Compressed kept a b new t e after same = (sym e, same ∙ sym after)
-arrives-as stop.UnknownPeer kept a b new t e after same = (sym e, same ∙ sym after)
-arrives-as stop.WrongAddress kept a b new t e after same = (sym e, same ∙ sym after)
-arrives-as stop.WrongSession kept a b new t e after same = (sym e, same ∙ sym after)
-arrives-as stop.BadCommand kept a b new t e after same = (sym e, same ∙ sym after)
-arrives-as stop.NotConnected kept a b new t e after same = (sym e, same ∙ sym after)
-arrives-as stop.BadChannel kept a b new t e after same = (sym e, same ∙ sym after)
-arrives-as stop.BadFragment kept a b new t e after same = (sym e, same ∙ sym after)
-arrives-as stop.Waiting kept a b new t e after same = (sym e, same ∙ sym after)
-arrives-as stop.NoSentTime kept a b new t e after same = (sym e, same ∙ sym after)
-arrives-as stop.NoSlot kept a b new t e after same = (sym e, same ∙ sym after)
-
-pub arrives_stopped : (b new : Inbox) (m : Message) (why : Stop) → told (foreseen b m) ≡ (arrival b m).answer → foreseen b m ≡ Err why → new ≡ b → DataArrives (Err why) (is_kept b m) (arrival b m) b new
-arrives_stopped b new m why t e same =
-    let is : (arrival b m).answer ≡ Err why = sym t ∙ ap told e in
-    arrives-as why (is_kept b m) (arrival b m) b new (arrival_tells b m) is (arrival_stays b m why is) same
-
--- what is foreseen is answered
-pub answer_is_told : (b : Inbox) (m : Message) (s : Foreseen) → told (foreseen b m) ≡ (arrival b m).answer → foreseen b m ≡ Ok s → Ok s.acknowledged ≡ (arrival b m).answer
-answer_is_told b m s t e = sym (ap told e) ∙ t
-
-pub stays_is : (b : Inbox) (m : Message) (s : Foreseen) → HasFront b m.head.channel → foreseen b m ≡ Ok s → s.kept ≡ false → (arrival b m).after ≡ b
-stays_is b m s h e k = quiet_stays b m (sym (kept_is b m s h e) ∙ k)
-
+-- what is foreseen to be kept is
 pub if_kept : (b : Inbox) (m : Message) (r : Result Foreseen Stop) → HasFront b m.head.channel → r ≡ foreseen b m → IfOk r (λ s. s.kept ≡ is_kept b m)
 if_kept b m (Err why) h e = tt
 if_kept b m (Ok s) h e = kept_is b m s h (sym e)
@@ -258,13 +231,35 @@ taken-new false false false full b taken n e = absurd (cc)
 taken-new false false true true b taken n e = absurd (cc)
 taken-new false false true false b taken n e = refl
 
+-- and it is short, and there is room for it
+room-new : (far long new full : Bool) (b taken : Inbox) → new ≡ true → is_ok (arrival_by far long new full b taken).answer ≡ true → (full ≡ false) × (long ≡ false)
+room-new true long new full b taken n e = absurd (cc)
+room-new false true new full b taken n e = absurd (cc)
+room-new false false false full b taken n e = absurd (cc)
+room-new false false true true b taken n e = absurd (cc)
+room-new false false true false b taken n e = (refl, refl)
+
+room-kept : (far long new full : Bool) (s : Foreseen) → seen_new (verdict_by far long new full) ≡ Ok s → s.kept ≡ true → (full ≡ false) × (long ≡ false)
+room-kept true long new full s e k = absurd (cc)
+room-kept false true new full s e k = absurd (cc)
+room-kept false false false full s e k = absurd (let kept = kept_new false false false full s e in cc)
+room-kept false false true true s e k = absurd (cc)
+room-kept false false true false s e k = (refl, refl)
+
+not-long : (most n : ℕ) → ltb most n ≡ false → n ≤ most
+not-long most n e = grind (arith, nat_tests)
+
 pub record MeetsNew (b : Inbox) (m : Message) (channel group : ℕ) (payload : List ℕ) (what : Foreseen) : Type 0 where
   pub is_new : dispatches b.seen group ≡ true
+  pub room : is_full (met_by what.makes_room b) ≡ false
+  pub short : length payload ≤ b.max_packet
   pub after : unsequenced_taken (met_by what.makes_room b) channel group payload ≡ (arrival b m).after
 
 new-by : (t : Bool) (b : Inbox) (h : Head) (group : ℕ) (payload : List ℕ) (what : Foreseen) → makes_room b (record { head = h; body = send_unsequenced group payload }) ≡ t
     → foreseen-by t b (record { head = h; body = send_unsequenced group payload }) ≡ Ok what → what.kept ≡ true
     → (dispatches b.seen group ≡ true) × (unsequenced_taken (met_by what.makes_room b) h.channel group payload ≡ (unsequenced (met_by t b) h.channel group payload).after)
+    × (is_full (met_by what.makes_room b) ≡ false)
+    × (length payload ≤ b.max_packet)
 new-by true b h group payload what made e kept =
     let m : Message = record { head = h; body = send_unsequenced group payload } in
     let g = given_way b in
@@ -272,13 +267,25 @@ new-by true b h group payload what made e kept =
     let room = (room_made b m made).then_room in
     let after : (unsequenced g h.channel group payload).after ≡ unsequenced_taken g h.channel group payload =
     taken-new (leb (length g.receivers) h.channel) (ltb b.max_packet (length payload)) (dispatches b.seen group) (is_full g) g (unsequenced_taken g h.channel group payload) is_new room in
-    (is_new, ap (λ t. unsequenced_taken (met_by t b) h.channel group payload) (in-room (plain_arrival g m).answer what e).1 ∙ sym after)
+    let makes = (in-room (plain_arrival g m).answer what e).1 in
+    let fits = room-new (leb (length g.receivers) h.channel) (ltb b.max_packet (length payload)) (dispatches b.seen group) (is_full g) g (unsequenced_taken g h.channel group payload) is_new room in (
+      is_new,
+      ap (λ t. unsequenced_taken (met_by t b) h.channel group payload) makes ∙ sym after,
+      ap (λ t. is_full (met_by t b)) makes ∙ fits.0,
+      not-long b.max_packet (length payload) fits.1,
+    )
 new-by false b h group payload what made e kept =
     let k = unsequenced_kept b h.channel group payload what e kept in
-    (k.0, ap (λ t. unsequenced_taken (met_by t b) h.channel group payload) (new-plain (unsequenced_verdict b h.channel group payload) what e) ∙ sym k.1)
+    let plain = new-plain (unsequenced_verdict b h.channel group payload) what e in
+    let fits = room-kept (leb (length b.receivers) h.channel) (ltb b.max_packet (length payload)) (dispatches b.seen group) (is_full b) what e kept in (
+      k.0,
+      ap (λ t. unsequenced_taken (met_by t b) h.channel group payload) plain ∙ sym k.1,
+      ap (λ t. is_full (met_by t b)) plain ∙ fits.0,
+      not-long b.max_packet (length payload) fits.1,
+    )
 
 pub meets_unsequenced : (b : Inbox) (h : Head) (group : ℕ) (payload : List ℕ) (what : Foreseen) → foreseen b (record { head = h; body = send_unsequenced group payload }) ≡ Ok what → what.kept ≡ true
     → MeetsNew b (record { head = h; body = send_unsequenced group payload }) h.channel group payload what
 meets_unsequenced b h group payload what e kept =
     let k = new-by (makes_room b (record { head = h; body = send_unsequenced group payload })) b h group payload what refl e kept in
-    record { is_new = k.0; after = k.1 }
+    record { is_new = k.0; after = k.1; room = k.2; short = k.3 }

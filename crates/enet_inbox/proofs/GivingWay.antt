@@ -1,29 +1,29 @@
 -- An inbox in which the unreliable packets that wait give way keeps what it keeps.
-use Rattle.std.proofs.Common.{◌≡◌, ◌≢◌, ℕ, ◌+◌, ◌-◌, ◌*◌, ◌^◌, ◌<◌, ◌≤◌, Bool, true, false, cond, List, [], ◌∷◌, ◌++◌, All, length, map, get_or, set, refl, sym, ap, subst, ◌∙◌, inl, inr, ◌⊎◌, arith, length-set, Option, Some, None, Ok, Err}
-use Rattle.std.specs.Prelude.{slice_get, ◌==◌}
+use Rattle.std.proofs.Common.{◌≡◌, ◌≢◌, ℕ, ◌+◌, ◌-◌, ◌^◌, ◌<◌, ◌≤◌, Bool, true, false, cond, List, [], ◌∷◌, ◌++◌, All, length, map, get_or, set, refl, sym, ap, subst, ◌∙◌, inl, inr, ◌⊎◌, arith, length-set, Option, Some}
+use Rattle.std.specs.Prelude.{slice_get}
 use Rattle.std.proofs.lemmas.Bool.{eq-eqb}
 use Rattle.std.proofs.lemmas.Bool.Decides.{eqb_tells}
 use Rattle.std.proofs.lemmas.List.{ext_get_or, get_or-set_same, get_or-set_other, get_or-map, length-map}
 use Rattle.std.proofs.lemmas.List.Sums.{sum_by-cons}
-use Rattle.std.proofs.lemmas.Option.{slice_get_read, slice_get_within, get_or_from_slice_get}
+use Rattle.std.proofs.lemmas.Option.{slice_get_read, slice_get_within}
 use Rattle.std.specs.Ordering.{nat_cmp}
 use Rattle.std.specs.FinMap.{FinMap}
 use Rattle.enet_codec.specs.declared.packet.Packet.{Packet}
-use Rattle.enet_codec.specs.declared.stop.Stop.TheVariants as stop
 use Rattle.enet_fragment.specs.declared.data.DataCommand.{DataCommand}
 use Rattle.enet_packets.specs.declared.incoming_packet.IncomingPacket.{IncomingPacket}
 use Rattle.enet_packets.specs.Packets.{bytes_of}
 use Rattle.enet_packets.specs.Packets as packets
 use Rattle.enet_receiver.specs.Receiver.{held_bytes}
+use Rattle.enet_receiver.proofs.Rooming.{made_alone}
 use Rattle.enet_receiver.specs.declared.took.Took.TheVariants.{Held, Waiting}
 use Rattle.enet_receiver.specs.Foresight.{ReceivingEnd, outcome_for, after_command}
-use Rattle.enet_inbox.specs.Inbox.{Inbox, is_full_for, waiting_of, given_way, given_way_receiver}
+use Rattle.enet_inbox.specs.Inbox.{Inbox, is_full_for, given_way, given_way_receiver}
 use Rattle.enet_inbox.specs.DataEffect.{by_took, emptied, packet_of, sequenced, handed_over}
 use Rattle.enet_inbox.specs.Invariant.{IsShort, IsInPlace, KeepsInbox}
 use Rattle.enet_inbox.specs.Private.Invariant.{held_in, waiting_in, bytes_in}
 use Rattle.enet_inbox.specs.Private.InboxParts.{given_way_but, FindsRoom}
 use Rattle.enet_inbox.proofs.Keeping.{sum_of_empty, in_place, held_counted, kept_after}
-use Rattle.enet_inbox.proofs.Rooms.{Makes, makes, given_way_to, outcome_then}
+use Rattle.enet_inbox.proofs.Rooms.{makes, given_way_to, outcome_then}
 
 pub held_alone : (r : ReceivingEnd) → held_bytes (given_way_receiver r).receiver + packets.bytes_in r.receiver.waiting ≡ held_bytes r.receiver
 held_alone r = let none = sum_of_empty {X = FinMap nat_cmp IncomingPacket} bytes_of in omega arith
@@ -46,6 +46,8 @@ alone_in_place most channel r is = record {
   front = is.front;
   none_left = is.none_left;
   light = (let light = is.light in let less = held_alone r in omega arith);
+  small = is.small;
+  made = made_alone most r.receiver is.made;
 }
 
 placed_alone : (most : ℕ) (rs : List ReceivingEnd) → ((i : ℕ) (d : ReceivingEnd) → i < length rs → IsInPlace most i (get_or rs i d)) → (i : ℕ) (d : ReceivingEnd) → i < length (map given_way_receiver rs)

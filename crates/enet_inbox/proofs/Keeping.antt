@@ -14,9 +14,13 @@ use Rattle.enet_codec.specs.declared.packet.Packet.{Packet}
 use Rattle.enet_codec.specs.declared.refusal.Refusal.{Refusal}
 use Rattle.enet_unsequenced.specs.Groups.{Seen}
 use Rattle.enet_fragment.specs.declared.data.DataCommand.{DataCommand}
+use Rattle.enet_seq.specs.Numbering.{wire}
+use Rattle.enet_receiver.specs.Room.{HasMade}
+use Rattle.enet_receiver.specs.DataOutcome.{received}
+use Rattle.enet_receiver.proofs.Rooming.{keeps_made, made_cleared}
 use Rattle.enet_packets.specs.declared.incoming_packet.IncomingPacket.{IncomingPacket}
 use Rattle.enet_packets.specs.Packets.{bytes_of}
-use Rattle.enet_receiver.specs.Receiver.{held_bytes}
+use Rattle.enet_receiver.specs.Receiver.{Receiver, held_bytes, nothing_received}
 use Rattle.enet_receiver.specs.declared.took.Foresight.{Foresight}
 use Rattle.enet_receiver.specs.Foresight.{ReceivingEnd, new_end, after_command}
 use Rattle.enet_inbox.specs.declared.arriving.Foreseen.{Foreseen}
@@ -96,16 +100,25 @@ held_counted b waiting channel old k inside at =
     let part = get_or-le-sum_by (λ (r : ReceivingEnd). held_bytes r.receiver) b.receivers channel old inside in
     omega arith
 
+-- what is dispatched makes no difference to what is held
+emptied_made : (most : ℕ) (r : Receiver) → HasMade most r → HasMade most (record r { dispatched = [] })
+emptied_made most r k = record { held = k.held; waiting = k.waiting }
+
 -- the receiver of a channel after a command
 pub after_in_place : (most channel : ℕ) (r : ReceivingEnd) (o : Option DataCommand) (full : Bool) → IsInPlace most channel r → held_bytes (after_command r o full).receiver < 2 ^ 64
     → IsInPlace most channel (emptied (after_command r o full))
-after_in_place most channel r None full is light = record { channel = is.channel; max_packet = is.max_packet; front = is.front; none_left = refl; light = light }
+after_in_place most channel r None full is light = record { channel = is.channel; max_packet = is.max_packet; front = is.front; none_left = refl; light = light; small = is.small; made = emptied_made most r.receiver is.made }
 after_in_place most channel r (Some c) full is light = record {
   channel = is.channel;
   max_packet = is.max_packet;
   front = front_received r.max_packet r.receiver c full is.front;
   none_left = refl;
   light = light;
+  small = is.small;
+  made =
+      emptied_made most (received wire r.max_packet r.receiver c full)
+      (subst (λ n. HasMade n (received wire r.max_packet r.receiver c full)) is.max_packet
+      (keeps_made r.max_packet r.receiver c full (subst (λ n. n < 2 ^ 32) (sym is.max_packet) is.small) (subst (λ n. HasMade n r.receiver) (sym is.max_packet) is.made)));
 }
 
 -- an unsequenced packet is dispatched
@@ -153,19 +166,21 @@ sum_of_none f (x ∷ es) e = absurd (omega arith)
 pub sum_of_empty : {X : Type 0} (f : X → ℕ) → sum_by f (values (empty {X = X} {R = nat_cmp})) ≡ 0
 sum_of_empty {X = X} f = sum_of_none f (entries (empty {X = X} {R = nat_cmp})) (sym (len-entries (empty {X = X} {R = nat_cmp})) ∙ len-empty nat_cmp X)
 
-nothing_held : (r : ReceivingEnd) → held_bytes (cleared_receiver r).receiver ≡ 0
+pub nothing_held : (r : ReceivingEnd) → held_bytes (cleared_receiver r).receiver ≡ 0
 nothing_held r =
     let one = sum_of_empty {X = IncomingPacket} (λ c. c.making.total) in
     let two = sum_of_empty {X = FinMap nat_cmp IncomingPacket} bytes_of in
     omega arith
 
-new_in_place : (most channel : ℕ) → IsInPlace most channel (new_end channel most)
-new_in_place most channel = record {
+new_in_place : (most channel : ℕ) → most < 2 ^ 32 → IsInPlace most channel (new_end channel most)
+new_in_place most channel small = record {
   channel = refl;
   max_packet = refl;
   front = omega arith;
   none_left = refl;
   light = (let none = nothing_held (new_end channel most) in omega arith);
+  small = small;
+  made = made_cleared most nothing_received;
 }
 
 cleared_in_place : (most channel : ℕ) (r : ReceivingEnd) → IsInPlace most channel r → IsInPlace most channel (cleared_receiver r)
@@ -175,19 +190,21 @@ cleared_in_place most channel r is = record {
   front = is.front;
   none_left = is.none_left;
   light = (let none = nothing_held r in omega arith);
+  small = is.small;
+  made = made_cleared most r.receiver;
 }
 
-none_held : (rs : List ReceivingEnd) → All (λ (r : ReceivingEnd). held_bytes r.receiver ≤ 0) rs → held_in rs ≡ 0
+pub none_held : (rs : List ReceivingEnd) → All (λ (r : ReceivingEnd). held_bytes r.receiver ≤ 0) rs → held_in rs ≡ 0
 none_held rs h = let sum = sum_by-le (λ (r : ReceivingEnd). held_bytes r.receiver) 0 rs h in omega arith
 
 -- an inbox to which nothing came
-pub keeps_new : (channels most limit : ℕ) → channels < 256 → KeepsInbox (empty_inbox channels most limit) 0
-keeps_new channels most limit few =
+pub keeps_new : (channels most limit : ℕ) → channels < 256 → most < 2 ^ 32 → KeepsInbox (empty_inbox channels most limit) 0
+keeps_new channels most limit few small =
     let ends : ℕ → ReceivingEnd = λ channel. new_end channel most in
     let at : (i : ℕ) (d : ReceivingEnd) → i < channels → get_or (map ends (range_with_len 0 channels)) i d ≡ ends i = λ i d h. get_or-map-range_with_len ends 0 channels i i d h (omega arith) in
     let len : length (map ends (range_with_len 0 channels)) ≡ channels = length-map-range_with_len ends 0 channels in
     record {
-      receivers = λ i d h. subst (λ (r : ReceivingEnd). IsInPlace most i r) (sym (at i d (subst (λ n. i < n) len h))) (new_in_place most i);
+      receivers = λ i d h. subst (λ (r : ReceivingEnd). IsInPlace most i r) (sym (at i d (subst (λ n. i < n) len h))) (new_in_place most i small);
       few = omega arith;
       short = λ i d h. absurd (omega arith);
       counted =
@@ -202,7 +219,7 @@ placed_cleared most rs is i d inside =
     let low : i < length rs = subst (λ n. i < n) (length-map rs cleared_receiver) inside in
     subst (λ (r : ReceivingEnd). IsInPlace most i r) (sym (get_or-map cleared_receiver rs i d d low)) (cleared_in_place most i (get_or rs i d) (is i d low))
 
-cleared_none : (rs : List ReceivingEnd) → held_in (map cleared_receiver rs) ≡ 0
+pub cleared_none : (rs : List ReceivingEnd) → held_in (map cleared_receiver rs) ≡ 0
 cleared_none rs = none_held (map cleared_receiver rs) (λ i d h.
     let low : i < length rs = subst (λ n. i < n) (length-map rs cleared_receiver) h in
     subst (λ (r : ReceivingEnd). held_bytes r.receiver ≤ 0) (sym (get_or-map cleared_receiver rs i d d low)) (let z = nothing_held (get_or rs i d) in omega arith))

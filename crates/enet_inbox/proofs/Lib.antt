@@ -6,4 +6,7 @@ pub mod Rooms
 pub mod GivingWay
 pub mod Stops
 pub mod Counting
+pub mod Bounding
+pub mod Weighing
+pub mod Limits
 pub mod Foresights

@@ -1,5 +1,5 @@
 -- What a data command makes of an inbox.
-use Rattle.std.specs.Prelude.{◌≡◌, ℕ, not, ◌&&◌, Bool, true, false, is_ok, nat_lt, nat_le, if◌then◌else◌, Option, Some, None, Result, Ok, Err, List, [], ◌∷◌, ◌++◌, length, map, slice_get, slice_set}
+use Rattle.std.specs.Prelude.{ℕ, not, ◌&&◌, Bool, true, false, is_ok, nat_lt, nat_le, if◌then◌else◌, Option, Some, None, Result, Ok, Err, List, [], ◌∷◌, ◌++◌, length, map, slice_get, slice_set}
 use Rattle.enet_codec.specs.declared.packet.Packet.{Packet}
 use Rattle.enet_codec.specs.declared.stop.Stop.{Stop}
 use Rattle.enet_codec.specs.declared.stop.Stop.TheVariants as stop
@@ -135,9 +135,3 @@ is_kept_of b m body = is_kept_sequenced b m.head.channel (data_of m)
 
 abbrev pub is_kept : Inbox → Message → Bool
 is_kept b m = is_kept_of (met b m) m m.body
-
--- what a call did, where `kept` says whether something of the command is kept: want of memory changes nothing, and comes only
--- where nothing else stops the command and something of it is kept
-abbrev pub DataArrives : Result Bool Stop → Bool → DataEffect → Inbox → Inbox → Type 0
-DataArrives (Err stop.Memory) kept a old new = (kept ≡ true) × ((may : Bool) × (a.answer ≡ Ok may)) × (new ≡ old)
-DataArrives answer kept a old new = (answer ≡ a.answer) × (new ≡ a.after)

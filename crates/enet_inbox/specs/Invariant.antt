@@ -3,7 +3,9 @@ use Rattle.std.specs.Prelude.{◌≡◌, ℕ, ◌^◌, ◌<◌, ◌≤◌, List,
 use Rattle.enet_codec.specs.declared.packet.Packet.{Packet}
 use Rattle.enet_receiver.specs.Receiver.{held_bytes, held_packets}
 use Rattle.enet_receiver.specs.Foresight.{ReceivingEnd}
+use Rattle.enet_receiver.specs.Room.{HasMade}
 use Rattle.enet_inbox.specs.Inbox.{Inbox, waiting_of}
+use Rattle.enet_inbox.specs.Bounds.{IsBounded}
 
 -- a packet's bytes are no more than memory can have
 abbrev pub IsShort : Packet → Type 0
@@ -16,6 +18,8 @@ pub record IsInPlace (most place : ℕ) (r : ReceivingEnd) : Type 0 where
   pub front : r.receiver.front < 65536
   pub none_left : r.receiver.dispatched ≡ []
   pub light : held_bytes r.receiver < 2 ^ 64
+  pub small : most < 2 ^ 32
+  pub made : HasMade most r.receiver
 
 -- The receivers are in their places, and the first counter is the bytes that wait.
 pub record KeepsInbox (b : Inbox) (waiting : ℕ) : Type 0 where
@@ -37,3 +41,4 @@ pub record KeepsPackets (rs : List ReceivingEnd) (packets : ℕ) : Type 0 where
 pub record Keeps (b : Inbox) (waiting packets : ℕ) : Type 0 where
   pub inbox : KeepsInbox b waiting
   pub places : KeepsPackets b.receivers packets
+  pub bounded : IsBounded b

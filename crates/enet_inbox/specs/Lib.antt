@@ -1,4 +1,5 @@
 pub mod Inbox
+pub mod Bounds
 pub mod DataEffect
 pub mod Invariant
 pub mod Codes

@@ -1,13 +1,15 @@
 //! All that comes to a peer.
 
-ghost use Rattle.std.specs.Prelude.{◌≡◌, ◌+◌, ◌<◌, ◌^◌, drop, IsTrue, IfOk, IfErr, OnOk, OnErr, Ok, Err, Some, true, false, slice_get};
+ghost use Rattle.std.specs.Prelude.{◌≡◌, ◌+◌, ◌*◌, ◌<◌, ◌≤◌, ◌^◌, drop, IsTrue, IfOk, IfErr, OnOk, OnErr, Ok, Err, Some, true, false, length, slice_get};
 ghost use Rattle.std.specs.Option.{option_copied};
 ghost use Rattle.enet_codec.specs.Message.{view};
 ghost use Rattle.enet_fragment.specs.DataCommand.{data_of};
 ghost use Rattle.enet_unsequenced.specs.Groups.{dispatches};
 ghost use Rattle.enet_receiver.specs.ArrivingData.{data_command};
-ghost use Rattle.enet_inbox.specs.Inbox.{empty_inbox, place_limit, is_at_limit, is_full, is_full_for, cleared, forgotten, narrowed, given_way};
-ghost use Rattle.enet_inbox.specs.DataEffect.{plain_arrival, arrival, sequenced, unsequenced_taken, passed_over, passed_length, passed_sequenced, is_kept, DataArrives};
+ghost use Rattle.enet_inbox.specs.Bounds.{most_places, most_bytes};
+ghost use Rattle.enet_inbox.specs.Invariant.{packets_in};
+ghost use Rattle.enet_inbox.specs.Inbox.{empty_inbox, place_limit, places_of, untaken_of, waiting_of, is_at_limit, is_full, is_full_for, cleared, forgotten, narrowed, given_way};
+ghost use Rattle.enet_inbox.specs.DataEffect.{plain_arrival, arrival, sequenced, unsequenced_taken, passed_over, passed_length, passed_sequenced, is_kept};
 ghost use Rattle.enet_inbox.specs.InboxParts.{foresight_of, unsequenced_verdict, plain_foreseen, foreseen, foreseen_sequenced, with_room, told};
 ghost use Rattle.enet_inbox.specs.Private.InboxParts.{met_by, FindsRoom};
 
@@ -80,7 +82,7 @@ fn places_taken(packets: usize, untaken: usize) -> usize
 
 impl Inbox {
     /// An inbox of so many channels to which nothing came. It takes packets of at most `max_packet` bytes, and begins none once
-    /// `max_waiting` bytes or more wait, or as many packets as a 128th of that, but at least 1,024: as `data` says, the next packet
+    /// `max_waiting` bytes or more wait, or as many packets as a 128th of that, but at least 1,024: as `foresee` says, the next packet
     /// of each channel may come all the same, and unreliable ones may give way. E1 where memory is refused.
     pub fn open(
         alloc: Global,
@@ -103,8 +105,19 @@ impl Inbox {
         })
     }
 
-    /// What `data` would do with a command with ample memory: why it stops the datagram, or whether the command may be
-    /// acknowledged and whether something of it is kept. It is what `take_in` is handed.
+    /// What becomes of a data command with ample memory (SEND_RELIABLE, SEND_UNRELIABLE, SEND_FRAGMENT, SEND_UNRELIABLE_FRAGMENT or
+    /// SEND_UNSEQUENCED): why it stops the datagram, or whether it may be acknowledged, if it asks for it, and whether something of it is
+    /// kept. Then it goes to `take_in` with this answer; else it changes nothing. Late and repeated ones may be acknowledged, those just
+    /// past the window may not (ENet 1.3).
+    ///
+    /// A stop is the first that applies: S6 for a command that is no data; S8 where the channel is not below the channel
+    /// count; S9 where the payload or the packet is above the maximum packet size, or a fragment's fields fit together
+    /// neither with themselves nor with the pieces before (fields and sizes before the window: our profile); S10 where it
+    /// begins a packet while the bytes or the packets that are held reliably or weren't taken are at their limit or above, or, of
+    /// the packet that its channel dispatches next, while those that weren't taken alone are (our profile).
+    ///
+    /// Where it begins a packet, other than the one that its channel dispatches next, while unreliable packets that wait or are in
+    /// the making bring all to a limit, by their bytes or their number, `take_in` gives them up, on all channels (our profile).
     pub fn foresee(&self, command: &Command<'_>) -> Result<Foreseen, Stop>
         ensures answer { told result ≡ (arrival self.now (view command.now)).answer }
         ensures kept { IfOk result (λ foreseen. foreseen.kept ≡ is_kept self.now (view command.now)) }
@@ -118,32 +131,8 @@ impl Inbox {
         foreseen
     }
 
-    /// Takes a data command in: SEND_RELIABLE, SEND_UNRELIABLE, SEND_FRAGMENT, SEND_UNRELIABLE_FRAGMENT or SEND_UNSEQUENCED.
-    /// What it dispatches waits to be taken from then on. The answer is whether the command may be acknowledged, if it asks
-    /// for it: late and repeated ones may, those just past the window may not (ENet 1.3).
-    ///
-    /// A stop is the first that applies: S6 for a command that is no data; S8 where the channel is not below the channel
-    /// count; S9 where the payload or the packet is above the maximum packet size, or a fragment's fields fit together
-    /// neither with themselves nor with the pieces before (fields and sizes before the window: our profile); S10 where it
-    /// begins a packet while the bytes or the packets that are held reliably or weren't taken are at their limit or above, or, of
-    /// the packet that its channel dispatches next, while those that weren't taken alone are (our profile); S11 where memory is
-    /// refused (our profile). After a stop nothing has changed.
-    ///
-    /// Where it begins a packet, other than the one that its channel dispatches next, while unreliable packets that wait or are in
-    /// the making bring all to a limit, by their bytes or their number, they are given up, on all channels (our profile).
-    pub fn data(&mut self, command: &Command<'_>) -> Result<bool, Stop>
-        ensures { DataArrives result (is_kept self.old (view command.now)) (arrival self.old (view command.now)) self.old self.new }
-    {
-        let _receivers = &self.receivers;
-        let foreseen = self.foresee(command)?;
-        if foreseen.kept {
-            self.take_in(command, foreseen)?;
-        }
-        Ok(foreseen.acknowledged)
-    }
-
-    /// Takes a data command in of which something is kept, as `foresee` told. S11 where memory is refused, with nothing
-    /// changed.
+    /// Takes a data command in of which something is kept, as `foresee` told. What it dispatches waits to be taken from then on. S11
+    /// where memory is refused (our profile), with nothing changed.
     pub fn take_in(&mut self, command: &Command<'_>, what: Foreseen) -> Result<(), Stop>
         requires foreseen { foreseen self.old (view command.now) ≡ Ok what }
         requires kept { what.kept ≡ true }
@@ -158,7 +147,7 @@ impl Inbox {
         }
     }
 
-    /// Passes a data command over, as a peer does that dispatches nothing more: S6, S8 and S9 as in `data`, where only
+    /// Passes a data command over, as a peer does that dispatches nothing more: S6, S8 and S9 as in `foresee`, where only
     /// the length of the payload is tested for S9, and else whether the command may be acknowledged. Nothing changes.
     pub fn pass_over(&self, command: &Command<'_>) -> Result<bool, Stop>
         ensures { result ≡ passed_over self.now (view command.now) }
@@ -187,6 +176,30 @@ impl Inbox {
         ensures { option_copied result ≡ slice_get self.now.untaken 0 }
     {
         self.untaken.front()
+    }
+
+    /// How many packets take a place: those that are held, wait or are in the making on any channel, and those that weren't taken.
+    /// Whatever came, and whether or not the user takes, they are no more than twice as many as there are places, and 255 more; the
+    /// first kind alone no more than there are places, and one more for each channel.
+    pub fn places(&self) -> usize
+        ensures value { result ≡ places_of self.now }
+        ensures bound { places_of self.now ≤ most_places self.now.max_waiting }
+        ensures held { packets_in self.now.receivers ≤ place_limit self.now.max_waiting + length self.now.receivers }
+    {
+        let _receivers = &self.receivers;
+        places_taken(self.packets, self.untaken.len())
+    }
+
+    /// The bytes of those packets, each counted whole from its first piece on. Whatever came, and whether or not the user takes, they
+    /// are no more than twice `max_waiting` and 257 packets of `max_packet`; without the packets that weren't taken no more than
+    /// `max_waiting`, a packet, and one more for each channel.
+    pub fn bytes(&self) -> u128
+        ensures value { result ≡ waiting_of self.now }
+        ensures bound { waiting_of self.now ≤ most_bytes self.now.max_packet self.now.max_waiting }
+        ensures held { waiting_of self.now ≤ self.now.max_waiting + (length self.now.receivers + 1) * self.now.max_packet + untaken_of self.now }
+    {
+        let _receivers = &self.receivers;
+        self.waiting
     }
 
     /// Drops all that is not dispatched yet. What wasn't taken stays, and the numbers go on from where they stand.
@@ -226,8 +239,7 @@ impl Inbox {
         ensures { result ≡ is_full self.now }
     {
         let _receivers = &self.receivers;
-        let places = places_taken(self.packets, self.untaken.len());
-        is_at_limit(self.max_waiting, self.waiting, places)
+        is_at_limit(self.max_waiting, self.waiting, self.places())
     }
 
     /// Whether so much waits that a command begins no packet at the receiver of its channel.
@@ -444,15 +456,6 @@ impl Inbox {
         true
     }
 
-    /// Gives the unreliable packets up that wait or are in the making.
-    fn give_way(&mut self)
-        ensures { self.new ≡ given_way self.old }
-    {
-        self.waiting -= waiting_in(&self.receivers);
-        self.packets -= waiting_packets_in(&self.receivers);
-        give_way(&mut self.receivers);
-    }
-
     /// Whether an unsequenced packet would be dispatched, or why it stops the datagram.
     fn is_new(&self, channel: u8, group: u16, payload: &[u8]) -> Result<bool, Stop>
         ensures { result ≡ unsequenced_verdict self.now channel group payload.now }
@@ -475,22 +478,24 @@ impl Inbox {
     /// Dispatches an unsequenced packet of a group that is new, where memory is not refused; `makes_room` says that the unreliable
     /// packets that wait are given up for it.
     fn append(&mut self, channel: u8, group: u16, payload: &[u8], makes_room: bool) -> bool
-        requires { IsTrue (dispatches self.old.seen group) }
+        requires is_new { IsTrue (dispatches self.old.seen group) }
+        requires room { is_full (met_by makes_room self.old) ≡ false }
+        requires short { length payload.now ≤ self.old.max_packet }
         ensures added { IsTrue result → self.new ≡ unsequenced_taken (met_by makes_room self.old) channel group payload.now }
         ensures unchanged { result ≡ false → self.new ≡ self.old }
     {
-        if !self.append_plainly(channel, group, payload) {
-            return false;
-        }
         if makes_room {
-            self.give_way();
+            self.append_instead(channel, group, payload)
+        } else {
+            self.append_plainly(channel, group, payload)
         }
-        true
     }
 
     /// Dispatches such a packet where nothing gives way to it.
     fn append_plainly(&mut self, channel: u8, group: u16, payload: &[u8]) -> bool
-        requires { IsTrue (dispatches self.old.seen group) }
+        requires is_new { IsTrue (dispatches self.old.seen group) }
+        requires room { is_full self.old ≡ false }
+        requires short { length payload.now ≤ self.old.max_packet }
         ensures added { IsTrue result → self.new ≡ unsequenced_taken self.old channel group payload.now }
         ensures unchanged { result ≡ false → self.new ≡ self.old }
     {
@@ -498,6 +503,26 @@ impl Inbox {
             return false;
         }
         self.waiting += payload.len() as u128;
+        self.groups.mark(group);
+        true
+    }
+
+    /// Dispatches such a packet where the unreliable packets that wait make room for it: they are given up, on all channels.
+    fn append_instead(&mut self, channel: u8, group: u16, payload: &[u8]) -> bool
+        requires is_new { IsTrue (dispatches self.old.seen group) }
+        requires room { is_full (given_way self.old) ≡ false }
+        requires short { length payload.now ≤ self.old.max_packet }
+        ensures added { IsTrue result → self.new ≡ unsequenced_taken (given_way self.old) channel group payload.now }
+        ensures unchanged { result ≡ false → self.new ≡ self.old }
+    {
+        let waiting = waiting_in(&self.receivers);
+        let packets = waiting_packets_in(&self.receivers);
+        if !append(self.alloc, &mut self.untaken, channel, payload) {
+            return false;
+        }
+        give_way(&mut self.receivers);
+        self.waiting = self.waiting - waiting + payload.len() as u128;
+        self.packets -= packets;
         self.groups.mark(group);
         true
     }

@@ -8,6 +8,8 @@ use Rattle.law_network.specs.declared.event.Answer.{Answer}
 use Rattle.law_network.specs.declared.event.Answer.TheVariants.{Peer, Done, Received, Sent, Taken}
 use Rattle.enet_fleet.specs.declared.answer.Answer.{Answer as FleetAnswer}
 use Rattle.enet_fleet.specs.declared.answer.Answer.TheVariants as fleet
+use Rattle.enet_world.specs.declared.calm.Calm.{Calm}
+use Rattle.enet_world.specs.declared.calm.Share.{Share}
 use Rattle.enet_text.specs.Texts.{bytes_text, event_text, peer_text, received_text}
 use Rattle.enet_lab.specs.declared.host.Host.{Host}
 use Rattle.enet_lab.specs.declared.host.Recipient.{Recipient}
@@ -44,3 +46,10 @@ outcome_shown (Err refusal) = Err refusal
 abbrev pub outcome_text : Host → Option Recipient → List ℕ → Result Answer Refusal → List ℕ
 outcome_text host to datagram (Ok answer) = text_of host to datagram answer
 outcome_text host to datagram (Err refusal) = label_of refusal
+
+-- What a side did in rounds without losses, and both.
+unfoldable pub share_text : Share → List ℕ
+share_text s = codes "sent " ++ decimal s.sent ++ codes " refused " ++ decimal s.refused ++ codes " taken " ++ decimal s.taken
+
+abbrev pub calm_text : Calm → List ℕ
+calm_text told = codes "A " ++ share_text told.a ++ codes " B " ++ share_text told.b

@@ -13,7 +13,7 @@ use Rattle.enet_text.specs.Words.{words, number_below, peer_of, ip_of, bytes_of,
 use Rattle.enet_lab.specs.declared.host.Host.{Host}
 use Rattle.enet_lab.specs.declared.host.Host.TheVariants.{OfWorld, OfFleet}
 use Rattle.enet_lab.specs.declared.line.Line.{Line}
-use Rattle.enet_lab.specs.declared.line.Line.TheVariants.{PassedOver, Pair, Open, Fleet, InWorld, InFleet}
+use Rattle.enet_lab.specs.declared.line.Line.TheVariants.{PassedOver, Pair, Open, Fleet, InWorld, InFleet, Calm}
 use Rattle.enet_lab.specs.Hosts.{side_named, node_named, host_named}
 
 -- How a connection is ended, by the first word of the line.
@@ -42,6 +42,13 @@ fleet_of others = of_three (λ clients peers channels. do
   peers ← number_below (2 ^ 16) peers
   channels ← number_below (2 ^ 8) channels
   Some (Fleet clients peers channels)) others
+
+-- `calm <rounds> <ms>`
+abbrev pub calm_of : List (List ℕ) → Option Line
+calm_of others = of_two (λ rounds ms. do
+  rounds ← number_below (2 ^ 16) rounds
+  ms ← number_below (2 ^ 32) ms
+  Some (Calm rounds ms)) others
 
 -- `connect <host> <channels> <data> <id>`: in a fleet a client asks, the server doesn't.
 abbrev pub connect_at : Host → ℕ → ℕ → ℕ → Option Line
@@ -156,7 +163,8 @@ line_of (form ∷ others) =
     if bytes_eq form (codes "pair") then pair_of others
     else (if bytes_eq form (codes "open") then open_of others
     else (if bytes_eq form (codes "fleet") then fleet_of others
-    else event_of form others))
+    else (if bytes_eq form (codes "calm") then calm_of others
+    else event_of form others)))
 
 -- What a line spells. One that begins with `#` is passed over, as one without words is.
 unfoldable pub spells : List ℕ → Option Line

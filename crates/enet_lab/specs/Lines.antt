@@ -14,6 +14,8 @@ use Rattle.law_network.specs.Log.{Logged}
 use Rattle.law_network.specs.World.{World, site_of, side_of}
 use Rattle.law_network.specs.World as world
 use Rattle.enet_world.specs.Worlds.{Begun, begun}
+use Rattle.enet_world.specs.Calm.{Rounds}
+use Rattle.enet_world.specs.declared.calm.Calm.{Calm}
 use Rattle.enet_fleet.specs.declared.answer.Answer.{Answer as FleetAnswer}
 use Rattle.enet_fleet.specs.declared.event.FleetEvent.{FleetEvent}
 use Rattle.law_headline.specs.declared.node.Node.{Node}
@@ -23,7 +25,7 @@ use Rattle.enet_fleet.specs.Reached.{fit}
 use Rattle.enet_lab.specs.declared.host.Host.TheVariants.{OfWorld, OfFleet}
 use Rattle.enet_lab.specs.declared.line.Line.{Line}
 use Rattle.enet_lab.specs.declared.line.Line.TheVariants as spelled
-use Rattle.enet_lab.specs.Answers.{outcome_shown, outcome_text}
+use Rattle.enet_lab.specs.Answers.{outcome_shown, outcome_text, calm_text}
 use Rattle.enet_lab.specs.Hosts.{recipient_at}
 use Rattle.enet_lab.specs.EnetLines.{spells}
 use Rattle.enet_lab.specs.declared.fault.LabFault.{LabFault}
@@ -72,6 +74,13 @@ pub record StepsTo {N : Type 0} (Steps : Result Answer Refusal → N → Type 0)
   pub steps : Steps outcome new
   pub text_is : text ≡ told outcome new
 
+-- So many rounds without losses, of which that is told.
+pub record StaysCalm (old : Begun) (rounds ms : ℕ) (text : List ℕ) (new : Begun) : Type 0 where
+  pub told : Calm
+  pub played : Rounds ms rounds told old.world new.world
+  pub joined : new.joined ≡ old.joined
+  pub text_is : text ≡ calm_text told
+
 -- The network that a first line makes: E8 exactly where a number is out of its range, else memory may be wanting.
 abbrev pub Makes : Bool → Stage → Result Stage Refusal → Type 0
 Makes in_range fresh (Ok made) = (in_range ≡ true) × (made ≡ fresh)
@@ -108,6 +117,9 @@ Does old (spelled.Fleet clients peers channels) text new =
 Does (InWorld old) (spelled.InWorld event) text new =
     (w : Begun) × (bytes : List ℕ) × StepsTo (WorldSteps old event) (world_text event) bytes w × (text ≡ Some bytes) × (new ≡ InWorld w)
 Does old (spelled.InWorld event) text new = ⊥
+Does (InWorld old) (spelled.Calm rounds ms) text new =
+    (w : Begun) × (bytes : List ℕ) × StaysCalm old rounds ms bytes w × (text ≡ Some bytes) × (new ≡ InWorld w)
+Does old (spelled.Calm rounds ms) text new = ⊥
 Does (InFleet old) (spelled.InFleet event) text new =
     (f : Fleet) × (bytes : List ℕ) × StepsTo (FleetSteps old event) (fleet_text event) bytes f × (text ≡ Some bytes) × (new ≡ InFleet f)
 Does old (spelled.InFleet event) text new = ⊥
@@ -122,6 +134,8 @@ abbrev pub can_do : Stage → Line → Bool
 can_do stage spelled.PassedOver = true
 can_do (InWorld w) (spelled.InWorld event) = true
 can_do stage (spelled.InWorld event) = false
+can_do (InWorld w) (spelled.Calm rounds ms) = true
+can_do stage (spelled.Calm rounds ms) = false
 can_do (InFleet f) (spelled.InFleet event) = true
 can_do stage (spelled.InFleet event) = false
 can_do stage line = is_empty stage

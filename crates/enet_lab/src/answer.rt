@@ -4,12 +4,13 @@ ghost use Rattle.std.specs.Prelude.{◌≡◌, ◌++◌, codes, IfOk};
 ghost use Rattle.std.specs.Fmt.{decimal};
 ghost use Rattle.std.specs.String.{string_bytes};
 ghost use Rattle.enet_text.specs.Texts.{bytes_text, peer_text};
-ghost use Rattle.enet_lab.specs.Answers.{to_text, text_of, shown_of, outcome_shown, outcome_text};
+ghost use Rattle.enet_lab.specs.Answers.{to_text, text_of, shown_of, outcome_shown, outcome_text, share_text, calm_text};
 ghost use Rattle.enet_lab.specs.Hosts.{host_text};
 
 use crate::host::{Host, Recipient, host_text, recipient_text};
 use enet_codec::Refusal;
 use enet_text::{bytes_text, event_text, peer_text, received_text, refusal_text};
+use enet_world::{Calm, Share};
 use law_network::Answer;
 use std::alloc::{AllocError, Global};
 
@@ -77,6 +78,26 @@ pub(crate) fn outcome_shown(outcome: Result<enet_fleet::Answer, Refusal>) -> Res
         Ok(answer) => Ok(shown_of(answer)),
         Err(refusal) => Err(refusal),
     }
+}
+
+/// The text of what came of rounds without losses.
+pub fn calm_text(alloc: Global, told: Calm) -> Result<String, AllocError>
+    ensures { IfOk result (λ text. string_bytes text ≡ calm_text told) }
+{
+    let a = share_text(alloc, told.a)?;
+    let b = share_text(alloc, told.b)?;
+    format!(in alloc; "A {a} B {b}")
+}
+
+fn share_text(alloc: Global, share: Share) -> Result<String, AllocError>
+    ensures { IfOk result (λ text. string_bytes text ≡ share_text share) }
+{
+    let Share {
+        sent,
+        refused,
+        taken,
+    } = share;
+    format!(in alloc; "sent {sent} refused {refused} taken {taken}")
 }
 
 fn to_text(alloc: Global, to: Option<Recipient>) -> Result<String, AllocError>

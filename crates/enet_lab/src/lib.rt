@@ -3,7 +3,7 @@
 //!
 //! Proved: `lab` returns for every script and every reader and writer. Where both tell their bytes and it ends with Ok, the whole
 //! script was run (`IsRun`): each line spells what it does, the first that isn't passed over makes the world or the fleet, each further
-//! one is one step of it, and what is written is the text of each answer with a line feed. Where it ends with BadScript, that is so up to
+//! one is one step of it or so many rounds without losses, and what is written is the text of each answer with a line feed. Where it ends with BadScript, that is so up to
 //! the first line that can't be read, whose number is told (`IsStopped`); where it ends with Memory, what is written is the answers of
 //! lines from the script's beginning on (`IsPart`). `read_line` gives what specs/EnetLines says that a line spells, no more and no less;
 //! `answer_text` and `outcome_text` give the text that specs/Answers says, with the names of specs/Hosts.
@@ -22,7 +22,7 @@ mod script;
 mod stage;
 mod step;
 
-pub use answer::{answer_text, outcome_text};
+pub use answer::{answer_text, calm_text, outcome_text};
 pub use fault::LabFault;
 pub use host::{Host, Recipient};
 pub use line::{Line, read_line};

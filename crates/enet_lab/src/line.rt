@@ -2,7 +2,7 @@
 
 ghost use Rattle.std.specs.Prelude.{◌≡◌, ◌∷◌, IfOk};
 ghost use Rattle.enet_text.specs.Words.{words};
-ghost use Rattle.enet_lab.specs.EnetLines.{mode_named, pair_of, open_of, fleet_of, connect_of, submit_of, deliver_of, deliver_side_of, deliver_from_of, stranger_of, turn_of, tick_of, take_of, disconnect_of, event_of, line_of, spells};
+ghost use Rattle.enet_lab.specs.EnetLines.{mode_named, pair_of, open_of, fleet_of, calm_of, connect_of, submit_of, deliver_of, deliver_side_of, deliver_from_of, stranger_of, turn_of, tick_of, take_of, disconnect_of, event_of, line_of, spells};
 
 use crate::host::{host_named, is, node_named, side_named};
 use enet_codec::{Addr, DisconnectMode};
@@ -46,6 +46,13 @@ pub enum Line {
     },
     /// Something happens in a world of two hosts.
     InWorld(WorldEvent),
+    /// So many rounds happen in it in which the network loses nothing.
+    Calm {
+        /// How many rounds.
+        rounds: u16,
+        /// By how many milliseconds both clocks go on in each.
+        ms: u32,
+    },
     /// Something happens in a fleet.
     InFleet(FleetEvent),
 }
@@ -76,6 +83,9 @@ fn read_form(alloc: Global, form: &[u8], rest: &[u8]) -> Result<Option<Line>, Al
     }
     if is(form, b"fleet") {
         return Ok(fleet(rest));
+    }
+    if is(form, b"calm") {
+        return Ok(calm(rest));
     }
     read_event(alloc, form, rest)
 }
@@ -116,6 +126,15 @@ fn fleet(text: &[u8]) -> Option<Line>
         peers,
         channels,
     })
+}
+
+fn calm(text: &[u8]) -> Option<Line>
+    ensures { result ≡ calm_of (words text.now) }
+{
+    let (rounds, ms) = two(text)?;
+    let rounds = u16_of(rounds)?;
+    let ms = u32_of(ms)?;
+    Some(Line::Calm { rounds, ms })
 }
 
 // How a network goes on that a line of this form spells with these words behind it.

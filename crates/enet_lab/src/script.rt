@@ -10,7 +10,7 @@ ghost use Rattle.enet_lab.specs.Lines.{Begins, Does, IsRefused, MakesFleet, Make
 
 use crate::fault::LabFault;
 use crate::stage::Stage;
-use crate::step::{fleet_step, world_step};
+use crate::step::{fleet_step, world_calm, world_step};
 use crate::{Line, read_line};
 use enet_codec::{Config, Refusal};
 use enet_fleet::FleetEvent;
@@ -63,6 +63,7 @@ impl Script {
             Line::PassedOver => Ok(None),
             Line::InWorld(event) => self.step_world(event),
             Line::InFleet(event) => self.step_fleet(event),
+            Line::Calm { rounds, ms } => self.calm(rounds, ms),
             Line::Pair { channels } => self.pair(Config::standard(1, channels)),
             Line::Open {
                 peers_a,
@@ -164,6 +165,18 @@ impl Script {
             return Err(LabFault::BadScript(self.lines));
         };
         Ok(Some(world_step(self.alloc, world, event)?))
+    }
+
+    /// Makes rounds without losses happen in the world.
+    fn calm(&mut self, rounds: u16, ms: u32) -> Result<Option<String>, LabFault>
+        ensures lines { self.new.lines ≡ self.old.lines }
+        ensures does { IfOk result (λ answer. Does self.old.stage (spelled.Calm rounds ms) (option_map string_bytes answer) self.new.stage) }
+        ensures unreadable { IfErr result (IsRefused self.old.lines (can_do self.old.stage (spelled.Calm rounds ms))) }
+    {
+        let Stage::InWorld(world) = &mut self.stage else {
+            return Err(LabFault::BadScript(self.lines));
+        };
+        Ok(Some(world_calm(self.alloc, world, rounds, ms)?))
     }
 
     /// Makes an event happen in the fleet.

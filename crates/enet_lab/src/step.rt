@@ -1,12 +1,12 @@
-//! One event of a network, and the text of its answer.
+//! One event of a network, or rounds without losses, and the text of the answer.
 
 ghost use Rattle.std.specs.Prelude.{◌≡◌, IfOk};
 ghost use Rattle.std.specs.Option.{option_map};
 ghost use Rattle.std.specs.String.{string_bytes};
-ghost use Rattle.enet_lab.specs.Lines.{FleetSteps, StepsTo, WorldSteps, bytes_shown, fleet_text, sent_shown, world_text};
+ghost use Rattle.enet_lab.specs.Lines.{FleetSteps, StaysCalm, StepsTo, WorldSteps, bytes_shown, fleet_text, sent_shown, world_text};
 
 use crate::answer::outcome_shown;
-use crate::{Host, Recipient, outcome_text};
+use crate::{Host, Recipient, calm_text, outcome_text};
 use enet_codec::{Addr, Refusal};
 use enet_fleet::{Fleet, FleetEvent, Node, node_of};
 use enet_world::{World, side_of};
@@ -35,6 +35,19 @@ fn bytes_shown<'a>(world: &'a World, side: Side, outcome: &Result<Answer, Refusa
         Ok(Answer::Sent(Some(k))) => world.datagram(side, *k).unwrap_or(&[]),
         _ => &[],
     }
+}
+
+/// Makes rounds without losses happen in a world, and gives the text of what came of them.
+pub(crate) fn world_calm(
+    alloc: Global,
+    world: &mut World,
+    rounds: u16,
+    ms: u32,
+) -> Result<String, AllocError>
+    ensures { IfOk result (λ text. StaysCalm world.old rounds ms (string_bytes text) world.new) }
+{
+    let told = world.calm(rounds, ms);
+    calm_text(alloc, told)
 }
 
 /// Makes one event happen in a fleet, and gives the text of its answer.

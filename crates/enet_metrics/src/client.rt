@@ -1,9 +1,10 @@
 //! Somebody who asks for a page.
 
+use crate::answering::answer;
 use crate::asking::{Question, asked};
 use crate::figures::Figures;
 use mio::net::TcpStream;
-use std::alloc::{AllocError, Global};
+use std::alloc::Global;
 use std::io;
 use std::io::{ErrorKind, Read, Write};
 use std::net::Shutdown;
@@ -55,8 +56,8 @@ impl Client {
         }
         if self.answer.is_none() {
             match self.read_on() {
-                Ok(Question::NotYet) => return false,
-                Ok(question) => self.answer = answer(rt, alloc, figures, question).ok(),
+                Ok(None) => return false,
+                Ok(Some(question)) => self.answer = answer(alloc, question, &figures.read(rt)).ok(),
                 Err(_) => return true,
             }
         }
@@ -98,24 +99,23 @@ impl Client {
         }
     }
 
-    // Reads what is there.
-    fn read_on(&mut self) -> io::Result<Question> {
+    // Reads what is there; None where the question isn't whole.
+    fn read_on(&mut self) -> io::Result<Option<Question>> {
         for _ in 0..PIECES {
             if self.len >= LONGEST {
-                return Ok(Question::Unreadable);
+                return Ok(Some(Question::Unreadable));
             }
             match self.stream.read(&mut self.head[self.len..]) {
                 Ok(0) => return Err(ErrorKind::UnexpectedEof.into()),
                 Ok(read) => self.len += read,
-                Err(why) if why.kind() == ErrorKind::WouldBlock => return Ok(Question::NotYet),
+                Err(why) if why.kind() == ErrorKind::WouldBlock => return Ok(None),
                 Err(why) => return Err(why),
             }
-            match asked(self.head.get(..self.len).unwrap_or(&[])) {
-                Question::NotYet => {}
-                question => return Ok(question),
+            if let Some(question) = asked(self.head.get(..self.len).unwrap_or(&[])) {
+                return Ok(Some(question));
             }
         }
-        Ok(Question::NotYet)
+        Ok(None)
     }
 
     // Writes what is taken. True once all was; where there is no answer, none was made for want of memory.
@@ -137,27 +137,4 @@ impl Client {
         }
         Ok(false)
     }
-}
-
-fn answer<R: Clock>(
-    rt: &R,
-    alloc: Global,
-    figures: &Figures,
-    question: Question,
-) -> Result<String, AllocError> {
-    match question {
-        Question::Figures => page(alloc, "200 OK", figures.text(rt, alloc)?.as_str()),
-        Question::Health if figures.is_alive(rt) => page(alloc, "200 OK", "ok\n"),
-        Question::Health => page(alloc, "503 Service Unavailable", "the service hangs\n"),
-        Question::Other => page(alloc, "404 Not Found", "here are /metrics and /healthz\n"),
-        Question::OtherMethod => page(alloc, "405 Method Not Allowed", "GET alone\n"),
-        _ => page(alloc, "400 Bad Request", "no request\n"),
-    }
-}
-
-fn page(alloc: Global, status: &str, body: &str) -> Result<String, AllocError> {
-    let len = body.len();
-    format!(in alloc;
-        "HTTP/1.1 {status}\r\nContent-Type: text/plain; version=0.0.4; charset=utf-8\r\nContent-Length: {len}\r\nConnection: close\r\n\r\n{body}"
-    )
 }

@@ -1,73 +1,98 @@
 //! How long round trips take.
 
-use crate::figures::zeros;
-use crate::text::Text;
-use std::alloc::{AllocError, Global};
-use std::sync::atomic::AtomicU64;
-use std::sync::atomic::Ordering::SeqCst;
+ghost use Rattle.std.specs.Prelude.{◌≡◌, ◌≤◌, ◌++◌, length, IfOk, OnOk};
+ghost use Rattle.std.specs.String.{string_bytes};
+ghost use Rattle.enet_metrics.specs.Trips.{bucket_of, bound_text, bucket_line, buckets_from, total_from, capped, trips_text, one_above};
 
-const NAME: &str = "enet_round_trip_seconds";
+use crate::text::{push_head, push_line, push_seconds};
+use std::alloc::AllocError;
 
-/// The bounds in milliseconds, and in seconds as they are told.
-const BOUNDS: [(u32, &str); 12] = [
-    (1, "0.001"),
-    (2, "0.002"),
-    (5, "0.005"),
-    (10, "0.01"),
-    (20, "0.02"),
-    (50, "0.05"),
-    (100, "0.1"),
-    (200, "0.2"),
-    (500, "0.5"),
-    (1_000, "1"),
-    (2_000, "2"),
-    (5_000, "5"),
-];
+/// So many buckets there are: one for each bound, and one for what is above all.
+pub(crate) const BUCKETS: usize = 13;
 
-/// How many round trips were at most so long. The last place has those above all bounds.
-#[derive(Drop)]
-pub(crate) struct Trips {
-    counts: Vec<AtomicU64>,
-    sum: AtomicU64,
+/// How many round trips were taken, by their lengths.
+#[derive(Clone, Copy)]
+pub struct Trips {
+    /// In each bucket (`bucket_of`).
+    pub counts: [u64; 13],
+    /// Their sum, in milliseconds.
+    pub sum: u64,
 }
 
-impl Trips {
-    pub(crate) fn new(alloc: Global) -> Result<Trips, AllocError> {
-        Ok(Trips {
-            counts: zeros(alloc, 13)?,
-            sum: AtomicU64::new(0),
-        })
-    }
+/// The bucket of a round trip of so many milliseconds: how many of the bounds 1, 2, 5, 10, 20, 50, 100, 200, 500, 1,000, 2,000 and 5,000 it
+/// is above.
+pub fn bucket_of(ms: u32) -> usize
+    ensures { result ≡ bucket_of ms }
+{
+    let low = above(ms, 1) + above(ms, 2) + above(ms, 5) + above(ms, 10);
+    let middle = above(ms, 20) + above(ms, 50) + above(ms, 100) + above(ms, 200);
+    let high = above(ms, 500) + above(ms, 1_000) + above(ms, 2_000) + above(ms, 5_000);
+    low + middle + high
+}
 
-    pub(crate) fn count(&self, ms: u32) {
-        let place = BOUNDS.iter().position(|bound| ms <= bound.0).unwrap_or(12);
-        if let Some(count) = self.counts.get(place) {
-            count.fetch_add(1, SeqCst);
-        }
-        self.sum.fetch_add(u64::from(ms), SeqCst);
-    }
+// 1 where it is above the bound, else 0.
+fn above(ms: u32, bound: u32) -> usize
+    ensures value { result ≡ one_above ms bound }
+    ensures small { result ≤ 1 }
+{
+    usize::from(ms > bound)
+}
 
-    pub(crate) fn write(&self, text: &mut Text) -> Result<(), AllocError> {
-        text.head(
-            NAME,
-            "histogram",
-            "Estimates of the round trip of each connected peer, taken once a second.",
-        )?;
-        let mut total = 0u64;
-        for place in 0..12usize {
-            total = total.saturating_add(self.counted(place));
-            text.bucket(NAME, BOUNDS[place].1, total)?;
-        }
-        total = total.saturating_add(self.counted(12));
-        text.bucket(NAME, "+Inf", total)?;
-        text.seconds("enet_round_trip_seconds_sum", self.sum.load(SeqCst))?;
-        text.value("enet_round_trip_seconds_count", total)
+// The greatest length of a bucket, in seconds.
+fn bound_text(bucket: usize) -> &'static str
+    ensures { result.now ≡ bound_text bucket }
+{
+    match bucket {
+        0 => "0.001",
+        1 => "0.002",
+        2 => "0.005",
+        3 => "0.01",
+        4 => "0.02",
+        5 => "0.05",
+        6 => "0.1",
+        7 => "0.2",
+        8 => "0.5",
+        9 => "1",
+        10 => "2",
+        11 => "5",
+        _ => "+Inf",
     }
+}
 
-    fn counted(&self, place: usize) -> u64 {
-        match self.counts.get(place) {
-            Some(count) => count.load(SeqCst),
-            None => 0,
-        }
+fn push_bucket(text: &mut String, bound: &str, count: u64) -> Result<(), AllocError>
+    ensures { OnOk result (string_bytes text.new ≡ string_bytes text.old ++ bucket_line bound.now count) }
+{
+    write!(
+        text,
+        "enet_round_trip_seconds_bucket{{le=\"{bound}\"}} {count}\n"
+    )
+}
+
+// Each bucket's line has those of the buckets before it, too. How many there are in all.
+fn push_buckets(text: &mut String, counts: &[u64]) -> Result<u64, AllocError>
+    ensures text { OnOk result (string_bytes text.new ≡ string_bytes text.old ++ buckets_from 0 0 counts.now) }
+    ensures total { IfOk result (λ total. total ≡ total_from 0 counts.now) }
+{
+    let mut total: u64 = 0;
+    for bucket in 0..counts.len() {
+        total = total.saturating_add(counts[bucket]);
+        push_bucket(text, bound_text(bucket), total)?;
     }
+    Ok(total)
+}
+
+/// The lines of the round trips. An error for want of memory.
+pub(crate) fn push_trips(text: &mut String, trips: &Trips) -> Result<(), AllocError>
+    ensures { OnOk result (string_bytes text.new ≡ string_bytes text.old ++ trips_text trips.now) }
+{
+    push_head(
+        text,
+        "enet_round_trip_seconds",
+        "histogram",
+        "Estimates of the round trip of each connected peer, taken once a second.",
+    )?;
+    let total = push_buckets(text, &trips.counts)?;
+    push_seconds(text, "enet_round_trip_seconds_sum", trips.sum)?;
+    push_line(text, "enet_round_trip_seconds_count", total)?;
+    Ok(())
 }

@@ -8,6 +8,5 @@ pub mod Next
 pub mod Reachable
 pub mod Handling
 pub mod Heading
-pub mod Sleeping
 pub mod Waiting
 pub mod Private

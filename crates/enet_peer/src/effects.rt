@@ -97,7 +97,7 @@ impl Peer {
     ///
     /// A stop is the first that applies: S6 for a CONNECT; S7 where the peer's state does not allow the command; S10 where it asks for
     /// an acknowledgement and 8,192 wait already, unless it is a DISCONNECT that drops these (our profile); for a data command S8 where there is no such channel, S9 where its payload is too long or its fragment is bad, and S10 where it
-    /// begins a packet and finds no room, as `Inbox::data` says (not where the peer is to disconnect later); S11 where memory is refused (our
+    /// begins a packet and finds no room, as `Inbox::foresee` says (not where the peer is to disconnect later); S11 where memory is refused (our
     /// profile). After these nothing has changed. S12 comes last, where the command is to be acknowledged and the datagram tells
     /// no sent time: it took effect (our profile).
     pub fn command(

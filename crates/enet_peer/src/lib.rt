@@ -7,9 +7,8 @@
 //! (`PutsOut`, `gone_on`). `tick` (`ticked`), the three disconnects (`Leaves`, `left`), `submit` (`Submits`: the first of
 //! E3, E4, E5, else E1, with nothing changed and the body handed back), `next_event` (`Takes`), `next_body`, `next_packet`,
 //! `submission_refusal`, the makers `joined`, `connecting`, `answering`, and what the user sets (`bandwidth`,
-//! `throttle_configure`, `throttle_limit`, `ping_interval`, `timeout`, `reserve`). A peer of which `is_asleep` answers true has
-//! nothing to send and nothing to tell (`Sleeps`), and one of which `only_waits` answers true nothing that goes and nothing to tell
-//! (`Waits`).
+//! `throttle_configure`, `throttle_limit`, `ping_interval`, `timeout`, `reserve`). A peer of which `only_waits` answers true has
+//! nothing that goes and nothing to tell (`Waits`).
 //! `bandwidth` and `throttle_configure` ask for room for a command of channel 0xFF, which `reserve` makes; the second also
 //! for a connected peer. What has no answer for want of memory does the same whatever memory is left. S11 comes only where something
 //! of a command is kept or one acknowledgement more waits, and for an ACKNOWLEDGE that asks to be acknowledged.

@@ -3,7 +3,6 @@
 ghost use Rattle.std.specs.Prelude.{◌≡◌, is_some, IsTrue};
 ghost use Rattle.enet_outbox.specs.Outbox.{transit_of};
 ghost use Rattle.enet_peer.specs.Calls.{next_event};
-ghost use Rattle.enet_peer.specs.Sleeping.{Sleeps};
 ghost use Rattle.enet_peer.specs.Waiting.{is_steady, Waits};
 
 use crate::{Peer, PeerState};
@@ -48,14 +47,6 @@ impl Peer {
         ensures { result ≡ is_some (next_event self.now.peer) }
     {
         self.greeting.is_some() || self.inbox.next().is_some() || self.state == PeerState::Ended
-    }
-
-    /// Whether it is connected and has surely nothing to send, nothing unacknowledged and nothing to tell. Until a call, a command or a
-    /// moment brings it something, `emit` and `next_event` then give nothing and change nothing.
-    pub fn is_asleep(&self) -> bool
-        ensures { IsTrue result → Sleeps self.now.peer }
-    {
-        self.is_connected() && !self.has_event() && self.outbox.has_nothing()
     }
 
     /// Whether it is connected, asks for a connection or for its end, or has answered, and has surely nothing to tell and nothing that

@@ -20,3 +20,5 @@ pub mod PassedOn
 pub mod Answered
 pub mod Sequenced
 pub mod Alone
+pub mod Placing
+pub mod Rooming

@@ -5,6 +5,8 @@ pub mod ArrivingData
 pub mod Invariant
 pub mod Codes
 pub mod Laws
+pub mod Places
+pub mod Room
 pub mod Sequenced
 pub mod ReceiverParts
 pub mod Blocks

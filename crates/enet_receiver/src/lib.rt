@@ -10,8 +10,8 @@
 //! `give_way`, `held`, `waiting`, `pop`, `clear`, `open`; and `ArrivingData::of` (which sequenced data command a command is). Laws: as
 //! many turns as packets are held are enough to dispatch all that is due (`turns_suffice`), and what was dispatched before makes
 //! no difference (`earlier_dispatches_do_not_matter`); what comes in sequence never has the flags 2 of an unsequenced packet
-//! (`sequenced_has_other_flags`). Inside, by the invariants of `Held` and `Block`: a number is marked exactly where a packet is
-//! held under it.
+//! (`sequenced_has_other_flags`); a command takes a place and room for its packet at most (`a_command_takes_a_place_at_most`).
+//! Inside, by the invariants of `Held` and `Block`: a number is marked exactly where a packet is held under it.
 //! Only tested, in `check_numbers` and `check_peer`: that calls succeed with ample memory, and the worked scripts of one
 //! channel. Neither: that a block's marks go with the last number that is held of it, what look-ups the marks save, and when
 //! `pass_on` gives a packet. It does so, with ample memory, exactly where one comes alone: the next one in order or an unreliable
@@ -32,5 +32,8 @@ mod took;
 
 pub use arriving_data::ArrivingData;
 pub use incoming::Incoming;
-pub use laws::{earlier_dispatches_do_not_matter, sequenced_has_other_flags, turns_suffice};
+pub use laws::{
+    a_command_takes_a_place_at_most, earlier_dispatches_do_not_matter, sequenced_has_other_flags,
+    turns_suffice,
+};
 pub use took::{Foresight, Took};

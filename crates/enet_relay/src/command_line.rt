@@ -204,7 +204,7 @@ fn queue_capacity<'a>(alloc: Global) -> Result<Arg<'a>, AllocError> {
         .long("queue-capacity")
         .help("How many places each of the two queues between its threads has")
         .value_parser(value_parser!(u32).range(1..=65_536))
-        .default_value("65536")
+        .default_value("4096")
         .alias("room")
 }
 

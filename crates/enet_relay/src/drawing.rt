@@ -1,8 +1,9 @@
 //! What `inspect --timeline` draws.
 
 use crate::failure::Failure;
+use enet_captured::read_timeline;
 use enet_text::InspectFault;
-use enet_timeline::{draw, read_timeline, summarize};
+use enet_timeline::{draw, summarize};
 use std::io::{ErrorKind, Read, Write};
 use std::rt::Files;
 use std::{fs, io};

@@ -1,10 +1,10 @@
 //! Why the program ends with a status other than 0.
 
+use enet_captured::TimelineFault;
 use enet_codec::Refusal;
 use enet_lab::LabFault;
 use enet_serve::Unopened;
 use enet_text::InspectFault;
-use enet_timeline::TimelineFault;
 use std::alloc::AllocError;
 use std::io;
 use thiserror::Error;

@@ -1,5 +1,6 @@
 //! What a monitor is told of the server.
 
+use enet_host::SlotCounts;
 use enet_metrics::{Figures, Standing};
 use enet_serve::{Register, WatchedHost};
 use std::alloc::Global;
@@ -7,8 +8,8 @@ use std::rt::Clock;
 use std::sync::Arc;
 use std::time::{Duration, Instant};
 
-/// Round trips are taken once in so many seconds.
-const BETWEEN_TRIPS: u64 = 1;
+/// What goes over all slots or peers is taken once in so many seconds.
+const BETWEEN_ROUNDS: u64 = 1;
 
 /// The greatest numbers of a stop and of a host's refusal.
 const STOPS: u8 = 13;
@@ -31,7 +32,10 @@ pub struct Counted {
 pub struct Monitor {
     figures: Arc<Figures, Global>,
     register: Arc<Register, Global>,
-    trips_at: Option<Instant>,
+    // The last round.
+    round_at: Option<Instant>,
+    slots: SlotCounts,
+    in_transit: u64,
 }
 
 impl Monitor {
@@ -39,7 +43,16 @@ impl Monitor {
         Monitor {
             figures,
             register,
-            trips_at: None,
+            round_at: None,
+            slots: SlotCounts {
+                free: 0,
+                spent: 0,
+                connecting: 0,
+                answering: 0,
+                connected: 0,
+                leaving: 0,
+            },
+            in_transit: 0,
         }
     }
 
@@ -52,12 +65,23 @@ impl Monitor {
             self.figures.refused(number, host.refusals(number));
         }
         if self.is_time(rt) {
-            self.take_trips(host);
+            self.slots = host.host().slot_counts();
+            self.take_round(host);
         }
+        self.figures.look(rt, &self.standing(host, counted));
+    }
+
+    fn standing(&self, host: &WatchedHost, counted: Counted) -> Standing {
         let totals = host.host().totals();
-        let standing = Standing {
-            slots: u64::try_from(host.met().len()).unwrap_or(0),
+        Standing {
             peers: counted.peers,
+            slots: u64::try_from(host.met().len()).unwrap_or(0),
+            free: u64::from(self.slots.free),
+            spent: u64::from(self.slots.spent),
+            connecting: u64::from(self.slots.connecting),
+            answering: u64::from(self.slots.answering),
+            connected: u64::from(self.slots.connected),
+            leaving: u64::from(self.slots.leaving),
             datagrams_in: totals.datagrams_in,
             bytes_in: totals.bytes_in,
             datagrams_out: totals.datagrams_out,
@@ -66,8 +90,8 @@ impl Monitor {
             passed_over: self.register.passed_over(),
             orders: counted.orders,
             events: counted.events,
-        };
-        self.figures.look(rt, &standing);
+            in_transit: self.in_transit,
+        }
     }
 
     // Whether a second has passed since it was time. Never where the clock can't be read.
@@ -75,21 +99,25 @@ impl Monitor {
         let Ok(now) = Instant::now(rt) else {
             return false;
         };
-        if let Some(trips_at) = self.trips_at {
-            if now.saturating_duration_since(trips_at) < Duration::from_secs(BETWEEN_TRIPS) {
+        if let Some(round_at) = self.round_at {
+            if now.saturating_duration_since(round_at) < Duration::from_secs(BETWEEN_ROUNDS) {
                 return false;
             }
         }
-        self.trips_at = Some(now);
+        self.round_at = Some(now);
         true
     }
 
-    fn take_trips(&self, host: &WatchedHost) {
+    // Goes over the connected peers: how long their round trips take, and what they have in transit.
+    fn take_round(&mut self, host: &WatchedHost) {
+        self.in_transit = 0;
         for met in host.met() {
             if let Some(met) = met {
                 if let Some(trip) = host.host().round_trip(met.peer) {
                     self.figures.trip(trip.mean);
                 }
+                let in_transit = host.host().in_transit(met.peer).unwrap_or(0);
+                self.in_transit = self.in_transit.saturating_add(u64::from(in_transit));
             }
         }
     }

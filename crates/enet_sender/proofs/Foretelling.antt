@@ -1,5 +1,5 @@
 -- Moments at which commands are late, as commands and moments change.
-use Rattle.std.proofs.Common.{inl, inr, zero, suc, [], ◌∷◌, ◌≡◌, ◌≢◌, ℕ, ◌+◌, ◌-◌, ◌%◌, ◌^◌, ◌<◌, ◌≤◌, ◌&&◌, not, leb, Bool, true, false, cond, List, ◌++◌, length, replicate, get_or, set, Option, None, Some, Result, Ok, Err, OnOk, OnErr, refl, sym, ap, subst, ◌∙◌, arith}
+use Rattle.std.proofs.Common.{inl, inr, zero, suc, [], ◌∷◌, ◌≡◌, ◌≢◌, ℕ, ◌+◌, ◌-◌, ◌%◌, ◌^◌, ◌<◌, ◌≤◌, ◌&&◌, not, leb, Bool, true, false, cond, List, ◌++◌, length, replicate, get_or, set, Option, None, Some, refl, sym, ap, subst, ◌∙◌, arith}
 use Rattle.std.proofs.lemmas.Bool.{cases_eq, cases_lt, lt-leb, le-leb}
 use Rattle.std.proofs.lemmas.List.{length-set, length-append, get_or-set_same, get_or-set_other, get_or_append_left, get_or_past}
 use Rattle.std.proofs.lemmas.Option.{same_Some}
@@ -364,31 +364,17 @@ keeps-cleared s t moments new clock key h inside others none made =
       foretold = subst (λ (ms : List (Option ℕ)). AreForetold clock (get t) ms) (sym made) (foretold-clear clock key (get s) (get t) moments h.foretold inside others none);
     }
 
--- the places grow, or stay where memory is refused
-pub keeps-grown : {U E : Type 0} (r : Result U E) (s t : Slab Sent) (moments new : List (Option ℕ)) (clock n : ℕ) → KeepsTime s moments clock → t.slots ≡ s.slots → OnOk r (new ≡ moments ++ replicate {A = Option ℕ} n None) → OnErr r (new ≡ moments)
-    → length moments + n ≤ vacant → KeepsTime t new clock
-keeps-grown (Ok u) s t moments new clock n h same grown refused few =
-    let long : length new ≡ length moments + n = ap (λ (ms : List (Option ℕ)). length ms) grown ∙ length-append moments (replicate {A = Option ℕ} n None) ∙ ap (λ k. length moments + k) (length-replicate n) in
+-- there are more places, or as many
+pub keeps-grown : (s t : Slab Sent) (moments new : List (Option ℕ)) (clock : ℕ) → KeepsTime s moments clock → t.slots ≡ s.slots → ((more : ℕ) × (new ≡ moments ++ replicate {A = Option ℕ} more None)) → length new ≤ vacant → KeepsTime t new clock
+keeps-grown s t moments new clock h same grown few =
+    let more = grown.0 in
+    let long : length new ≡ length moments + length (replicate {A = Option ℕ} more None) = ap (λ (ms : List (Option ℕ)). length ms) grown.1 ∙ length-append moments (replicate {A = Option ℕ} more None) in
     let at_same : (k : ℕ) → get t k ≡ get s k = λ k. ap (λ (slots : List (Option Sent)). get_or slots k None) same in
     record {
       begun = h.begun;
       small = h.small;
-      few = omega arith;
+      few = few;
       inside = λ k x stands. let low = h.inside k x (sym (at_same k) ∙ stands) in omega arith;
       foretold = foretold-same clock (get s) (get t) new at_same
-          (subst (λ (ms : List (Option ℕ)). AreForetold clock (get s) ms) (sym grown) (foretold-grown clock n (get s) moments h.foretold));
-    }
-  where
-    length-replicate : (n : ℕ) → length (replicate {A = Option ℕ} n None) ≡ n
-    length-replicate zero = refl
-    length-replicate (suc n) = ap (λ k. suc k) (length-replicate n)
-keeps-grown (Err e) s t moments new clock n h same grown refused few =
-    let at_same : (k : ℕ) → get t k ≡ get s k = λ k. ap (λ (slots : List (Option Sent)). get_or slots k None) same in
-    let long = ap (λ (ms : List (Option ℕ)). length ms) refused in
-    record {
-      begun = h.begun;
-      small = h.small;
-      few = let few = h.few in omega arith;
-      inside = λ k x stands. let low = h.inside k x (sym (at_same k) ∙ stands) in omega arith;
-      foretold = foretold-same clock (get s) (get t) new at_same (subst (λ (ms : List (Option ℕ)). AreForetold clock (get s) ms) (sym refused) h.foretold);
+          (subst (λ (ms : List (Option ℕ)). AreForetold clock (get s) ms) (sym grown.1) (foretold-grown clock more (get s) moments h.foretold));
     }

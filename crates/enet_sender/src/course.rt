@@ -143,29 +143,6 @@ impl Course {
         }
     }
 
-    /// How many of its commands are reliable.
-    pub fn reliable_commands(self) -> usize
-        ensures { result ≡ (if self.reliable then self.pieces else 0) }
-    {
-        if self.reliable {
-            self.pieces as usize
-        } else {
-            0
-        }
-    }
-
-    /// The last reliable number given, once the packet has its own.
-    pub fn last_number(self) -> u16
-        requires { IsCourse self }
-        ensures { result ≡ (if self.reliable then after self.number self.pieces else self.number) }
-    {
-        if self.reliable {
-            after(self.number, self.pieces as u16)
-        } else {
-            self.number
-        }
-    }
-
     /// Where piece `i` stands in the packet, if that goes in fragments.
     fn fragment_at(self, i: u32) -> Option<Fragment>
         requires course { IsCourse self }

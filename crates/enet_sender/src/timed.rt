@@ -1,6 +1,6 @@
 //! The commands of a peer under their keys, and when each that waits for its acknowledgement is late.
 
-ghost use Rattle.std.specs.Prelude.{◌≡◌, ℕ, ◌+◌, ◌<◌, ◌≤◌, ◌^◌, Some, None, [], false, IsTrue, IfNone, IfSome, option_copied};
+ghost use Rattle.std.specs.Prelude.{◌≡◌, ℕ, ◌+◌, ◌<◌, ◌≤◌, ◌^◌, ◌++◌, Some, None, [], false, length, replicate, IsTrue, IfNone, IfSome, option_copied};
 ghost use Rattle.slab.specs.Slab.{Slab, get, slab_len, Updates, HasRoomFor};
 ghost use Rattle.std.specs.Option.{option_map};
 ghost use Rattle.enet_sender.specs.declared.sent.Sent.{Sent};
@@ -19,6 +19,9 @@ use enet_rtt::{Patience, Transmission};
 use slab::Slab;
 use std::alloc::Global;
 use std::marker::Model;
+
+/// For so many commands room is made at least.
+const FEWEST: usize = 4;
 
 /// The commands of a peer, each under a key, and of each that is sent and not due to go again the moment at which it is late. Contracts
 /// see the commands alone, with room for as many as have a place for their moment.
@@ -44,6 +47,37 @@ impl Model for TimedSlab {
     ghost invariant = { λ t. KeepsTime t.slab t.deadlines t.clock };
 }
 
+/// For how many commands room is made where so many need it, there is room for `room`, and `places` have places for their moments: for
+/// twice as many as before at least, but for no more than have places where all that need it do.
+fn room_for(needed: usize, room: usize, places: usize) -> usize
+    ensures enough { needed ≤ result }
+    ensures placed { needed ≤ places → result ≤ places }
+{
+    let wished = needed.max(room.saturating_mul(2)).max(FEWEST);
+    if needed <= places {
+        wished.min(places)
+    } else {
+        wished
+    }
+}
+
+/// Makes places for so many moments, where there are fewer; whether there are. Where memory is refused all stays as it was.
+fn make_places(alloc: Global, deadlines: &mut Deadlines, count: usize) -> bool
+    requires { length deadlines.old ≤ vacant }
+    ensures enough { IsTrue result → count ≤ length deadlines.new }
+    ensures few { length deadlines.new ≤ vacant }
+    ensures same { count ≤ length deadlines.old → deadlines.new ≡ deadlines.old }
+    ensures grown { (more : ℕ) × (deadlines.new ≡ deadlines.old ++ replicate more None) }
+{
+    if count <= deadlines.len() {
+        return true;
+    }
+    let Ok(places) = u32::try_from(count) else {
+        return false;
+    };
+    deadlines.grow(alloc, places).is_ok()
+}
+
 impl TimedSlab {
     /// No commands. It takes no memory.
     pub(crate) fn new(alloc: Global) -> TimedSlab
@@ -64,17 +98,29 @@ impl TimedSlab {
         ensures room { IsTrue result → HasRoomFor self.new more }
         ensures keys { IsTrue result → self.new.capacity ≤ vacant }
     {
-        if self.slab.reserve(more).is_err() {
-            return false;
-        }
         let room = self.slab.capacity();
-        if room <= self.deadlines.len() {
+        if more <= room - self.slab.len() && room <= self.deadlines.len() {
             return true;
         }
-        let Ok(places) = u32::try_from(room) else {
+        self.grow(more)
+    }
+
+    /// The same where there is too little. Places come first, so that there is never more room than places: each of the two takes memory
+    /// only where its own doesn't suffice, also once the other was refused.
+    fn grow(&mut self, more: usize) -> bool
+        ensures same { self.new.slots ≡ self.old.slots }
+        ensures room { IsTrue result → HasRoomFor self.new more }
+        ensures keys { IsTrue result → self.new.capacity ≤ vacant }
+    {
+        let count = self.slab.len();
+        let needed = count.saturating_add(more);
+        let room = room_for(needed, self.slab.capacity(), self.deadlines.len());
+        if !make_places(self.alloc, &mut self.deadlines, room)
+            || self.slab.reserve_exact(room - count).is_err()
+        {
             return false;
-        };
-        self.deadlines.grow(self.alloc, places).is_ok()
+        }
+        make_places(self.alloc, &mut self.deadlines, self.slab.capacity())
     }
 
     /// Keeps a command that is queued under a key of its own.

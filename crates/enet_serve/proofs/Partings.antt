@@ -1,12 +1,13 @@
 -- Taking leave, step by step.
-use Rattle.std.proofs.Common.{◌≡◌, List, [], ◌∷◌, ◌++◌, Option, Some, None, refl, sym, ◌∙◌, ap, subst, append-nil}
+use Rattle.std.proofs.Common.{◌≡◌, ◌≤◌, List, [], ◌∷◌, ◌++◌, length, Option, Some, None, refl, sym, ◌∙◌, ap, subst, append-nil, arith}
 use Rattle.std.proofs.lemmas.Grind.{flat_map-append}
+use Rattle.std.proofs.lemmas.List.{length-append}
 use Rattle.enet_codec.specs.declared.event.Event.{Event}
 use Rattle.enet_codec.specs.declared.event.DisconnectMode.{DisconnectMode}
 use Rattle.enet_codec.specs.declared.event.DisconnectMode.TheVariants.{Later, Now}
 use Rattle.enet_codec.specs.declared.event.PeerRef.{PeerRef}
 use Rattle.enet_submit.specs.declared.order.Submission.{Submission}
-use Rattle.enet_host.specs.Host.{Host}
+use Rattle.enet_host.specs.Host.{Host, all_names}
 use Rattle.enet_bridge.specs.Memory.{FirstIs}
 use Rattle.enet_service.specs.declared.service.Service.{Service}
 use Rattle.enet_service.specs.Hosting.{host_calls}
@@ -15,12 +16,12 @@ use Rattle.enet_service.specs.Phases.{Chain}
 use Rattle.enet_service.specs.Queues.{given}
 use Rattle.enet_service.specs.Run.{all_gave}
 use Rattle.enet_service.specs.ServiceRuns.{TakesTurns, PartsFrom}
-use Rattle.enet_service.specs.Spans.{Span, Parts, IsSpan, rounds_in}
+use Rattle.enet_service.specs.Spans.{Span, Parts, IsSpan, Spans, rounds_in}
 use Rattle.enet_service.specs.Turn.{Round}
-use Rattle.enet_service.proofs.PhaseSteps.{chain_more}
+use Rattle.enet_service.proofs.PhaseSteps.{chain_step}
 use Rattle.enet_service.proofs.Spells.{given_both}
-use Rattle.enet_serve.specs.Leaving.{AreGentle, Leaves}
-use Rattle.enet_serve.specs.Private.SeeingOff.{Idles, AreLater, SeesOff}
+use Rattle.enet_serve.specs.Leaving.{PartsFromAll, AreGentle, Leaves, TakesLeave}
+use Rattle.enet_serve.specs.Private.SeeingOff.{Idles, AreLater, SeesOff, HasSeenOff}
 
 -- ---- a turn
 gives-none : (gave : List (Option Submission)) (after : List Submission) → Chain FirstIs [] gave after → given gave ≡ []
@@ -35,31 +36,31 @@ idles a b rounds before after none turns gives = record {
   no_orders = gives-none (all_gave rounds) after (subst (λ (l : List Submission). Chain FirstIs l (all_gave rounds) after) none gives);
 }
 
--- ---- spans
-abbrev turned : List Round → DisconnectMode → Span
-turned rounds how = record { kind = beside; rounds = rounds; how = how; parted = [] }
+no-turn : (a : Service Host) → Idles a a
+no-turn a = record { rounds = []; turns = refl; no_orders = refl }
 
-abbrev asked : DisconnectMode → List PeerRef → Span
-asked how peers = record { kind = beside; rounds = []; how = how; parted = peers }
+-- ---- turns, and a parting from everybody
+abbrev span : List Round → DisconnectMode → List PeerRef → Span
+span rounds how peers = record { kind = beside; rounds = rounds; how = how; parted = peers }
 
 parts-of : (how : DisconnectMode) (w : Option Event) (old : Host) (peers : List PeerRef) (new : Host) → PartsFrom how old peers new
     → Parts host_calls how (record { host = old; waiting = w }) peers (record { host = new; waiting = w })
 parts-of how w old [] new same = ap (λ (h : Host). record { host = h; waiting = w }) same
 parts-of how w old (p ∷ peers) new r = (record { host = r.0; waiting = w }, (r.1.0, r.1.1, refl), parts-of how w r.0 peers new r.2)
 
-is-asked : (how : DisconnectMode) (a b : Service Host) (peers : List PeerRef) → PartsFrom how a.host peers b.host → b.waiting ≡ a.waiting → IsSpan host_calls a (asked how peers) b
-is-asked how a b peers h same =
-    (a, refl, subst (λ (w : Option Event). Parts host_calls how a peers (record { host = b.host; waiting = w })) (sym same) (parts-of how a.waiting a.host peers b.host h))
-
-is-turned : (how : DisconnectMode) (a b : Service Host) (i : Idles a b) → IsSpan host_calls a (turned i.rounds how) b
-is-turned how a b i = (b, i.turns, refl)
-
-none-in : (how : DisconnectMode) (a b : Service Host) (i : Idles a b) → given (all_gave (rounds_in (turned i.rounds how ∷ []))) ≡ []
-none-in how a b i = ap (λ (rs : List Round). given (all_gave rs)) (append-nil i.rounds) ∙ i.no_orders
+parts-from-all : (how : DisconnectMode) (b a : Service Host) (i : Idles b a) (h : Host) → PartsFrom how a.host (all_names a.host.slots) h
+    → PartsFromAll b (span i.rounds how (all_names a.host.slots)) (record { host = h; waiting = a.waiting })
+parts-from-all how b a i h parts = (a, i.turns, parts-of how a.waiting a.host (all_names a.host.slots) h parts, refl)
 
 no-more : (xs ys : List Span) → given (all_gave (rounds_in xs)) ≡ [] → given (all_gave (rounds_in ys)) ≡ [] → given (all_gave (rounds_in (xs ++ ys))) ≡ []
 no-more xs ys p q = ap (λ (rs : List Round). given (all_gave rs)) (flat_map-append (λ (s : Span). s.rounds) xs ys)
     ∙ (given_both (rounds_in xs) (rounds_in ys) ∙ (λ i. p i ++ q i))
+
+none-in : (s : Span) → given (all_gave s.rounds) ≡ [] → given (all_gave (rounds_in (s ∷ []))) ≡ []
+none-in s none = ap (λ (rs : List Round). given (all_gave rs)) (append-nil s.rounds) ∙ none
+
+one-more : (xs : List Span) (x : Span) → 1 ≤ length (xs ++ x ∷ [])
+one-more xs x = omega (arith, length-append xs (x ∷ []))
 
 -- ---- behind all that was sent
 later-more : (xs ys : List Span) → AreLater xs → AreLater ys → AreLater (xs ++ ys)
@@ -67,77 +68,87 @@ later-more [] ys p q = q
 later-more (x ∷ xs) ys p q = (p.0, later-more xs ys p.1 q)
 
 pub nothing-yet : (a b : Service Host) → b ≡ a → SeesOff a b
-nothing-yet a b same = record { spans = []; acts = same; no_orders = refl; later = tt }
+nothing-yet a b same = subst (λ (t : Service Host). SeesOff a t) (sym same) (record { spans = []; between = a; acts = refl; no_orders = refl; later = tt; last = no-turn a })
 
-pub off-then : (a b c : Service Host) → SeesOff a b → SeesOff b c → SeesOff a c
-off-then a b c p q = record {
-  spans = p.spans ++ q.spans;
-  acts = chain_more (IsSpan host_calls) a p.spans b q.spans c p.acts q.acts;
-  no_orders = no-more p.spans q.spans p.no_orders q.no_orders;
-  later = later-more p.spans q.spans p.later q.later;
+-- everybody is parted from, and a turn
+pub off-more : (o a : Service Host) (h : Host) (d : Service Host) → SeesOff o a → PartsFrom Later a.host (all_names a.host.slots) h → Idles (record { host = h; waiting = a.waiting }) d → SeesOff o d
+off-more o a h d p parts i = record {
+  spans = p.spans ++ s ∷ [];
+  between = record { host = h; waiting = a.waiting };
+  acts = chain_step PartsFromAll o p.spans p.between s (record { host = h; waiting = a.waiting }) p.acts (parts-from-all Later p.between a p.last h parts);
+  no_orders = no-more p.spans (s ∷ []) p.no_orders (none-in s p.last.no_orders);
+  later = later-more p.spans (s ∷ []) p.later (refl, tt);
+  last = i;
 }
+  where
+    s : Span
+    s = span p.last.rounds Later (all_names a.host.slots)
 
-pub off-asked : (a b : Service Host) (peers : List PeerRef) → PartsFrom Later a.host peers b.host → b.waiting ≡ a.waiting → SeesOff a b
-off-asked a b peers h same = record {
-  spans = asked Later peers ∷ [];
-  acts = (b, is-asked Later a b peers h same, refl);
-  no_orders = refl;
-  later = (refl, tt);
-}
-
-pub off-turned : (a b : Service Host) → Idles a b → SeesOff a b
-off-turned a b i = record {
-  spans = turned i.rounds Later ∷ [];
-  acts = (b, is-turned Later a b i, refl);
-  no_orders = none-in Later a b i;
-  later = (refl, tt);
-}
-
--- the peers that are parted from, and a turn
-pub off-more : (o a : Service Host) (peers : List PeerRef) (h : Host) (d : Service Host) → SeesOff o a → PartsFrom Later a.host peers h → Idles (record { host = h; waiting = a.waiting }) d → SeesOff o d
-off-more o a peers h d p q i = off-then o a d p (off-then a (record { host = h; waiting = a.waiting }) d (off-asked a (record { host = h; waiting = a.waiting }) peers q refl) (off-turned (record { host = h; waiting = a.waiting }) d i))
+pub has-seen-off : (o a : Service Host) (h : Host) (d : Service Host) → SeesOff o a → PartsFrom Later a.host (all_names a.host.slots) h → Idles (record { host = h; waiting = a.waiting }) d
+    → HasSeenOff o d
+unfolding off-more
+has-seen-off o a h d p parts i = record { off = off-more o a h d p parts i; asked = one-more p.spans (span p.last.rounds Later (all_names a.host.slots)) }
 
 -- ---- all of it
 gentle-one : (x : Span) (rest : List Span) → x.how ≡ Later → AreGentle rest → AreGentle (x ∷ rest)
 gentle-one x [] e g = tt
-gentle-one x (y ∷ []) e g = tt
-gentle-one x (y ∷ z ∷ rest) e g = (e, g)
+gentle-one x (y ∷ rest) e g = (e, g)
 
 gentle-more : (xs ys : List Span) → AreLater xs → AreGentle ys → AreGentle (xs ++ ys)
 gentle-more [] ys p g = g
 gentle-more (x ∷ xs) ys p g = gentle-one x (xs ++ ys) p.0 (gentle-more xs ys p.1 g)
 
-pub left-so : (a b : Service Host) → SeesOff a b → Leaves a b
-left-so a b p = record {
-  spans = p.spans ++ [];
-  acts = chain_more (IsSpan host_calls) a p.spans b [] b p.acts refl;
-  no_orders = no-more p.spans [] p.no_orders refl;
-  gentle = gentle-more p.spans [] p.later (tt);
+gentle-all : (xs : List Span) → AreLater xs → AreGentle xs
+gentle-all [] p = tt
+gentle-all (x ∷ xs) p = gentle-one x xs p.0 (gentle-all xs p.1)
+
+pub left-so : (a b : Service Host) → HasSeenOff a b → TakesLeave a b
+left-so a b h = let p = h.off in record {
+  leaves = record {
+    spans = p.spans;
+    between = p.between;
+    acts = p.acts;
+    last = span p.last.rounds Later [];
+    ends = (b, p.last.turns, refl);
+    nobody = refl;
+    no_orders = no-more p.spans (span p.last.rounds Later [] ∷ []) p.no_orders (none-in (span p.last.rounds Later []) p.last.no_orders);
+    gentle = gentle-all p.spans p.later;
+  };
+  asked = h.asked;
 }
 
--- those that are left are cut off
-pub left-cut : (o a : Service Host) (peers : List PeerRef) (h : Host) → SeesOff o a → PartsFrom Now a.host peers h → Leaves o (record { host = h; waiting = a.waiting })
-left-cut o a peers h p q = record {
-  spans = p.spans ++ asked Now peers ∷ [];
-  acts = chain_more (IsSpan host_calls) o p.spans a (asked Now peers ∷ []) c p.acts (c, is-asked Now a c peers q refl, refl);
-  no_orders = no-more p.spans (asked Now peers ∷ []) p.no_orders refl;
-  gentle = gentle-more p.spans (asked Now peers ∷ []) p.later tt;
+-- those that are left are cut off, and turns tell them so
+left-then : (o a : Service Host) (h : Host) (d : Service Host) → SeesOff o a → PartsFrom Now a.host (all_names a.host.slots) h → Idles (record { host = h; waiting = a.waiting }) d → TakesLeave o d
+left-then o a h d p parts i = record {
+  leaves = record {
+    spans = p.spans ++ s ∷ [];
+    between = record { host = h; waiting = a.waiting };
+    acts = chain_step PartsFromAll o p.spans p.between s (record { host = h; waiting = a.waiting }) p.acts (parts-from-all Now p.between a p.last h parts);
+    last = span i.rounds Now [];
+    ends = (d, i.turns, refl);
+    nobody = refl;
+    no_orders = no-more (p.spans ++ s ∷ []) (span i.rounds Now [] ∷ []) (no-more p.spans (s ∷ []) p.no_orders (none-in s p.last.no_orders)) (none-in (span i.rounds Now []) i.no_orders);
+    gentle = gentle-more p.spans (s ∷ []) p.later tt;
+  };
+  asked = one-more p.spans s;
 }
   where
-    c : Service Host
-    c = record { host = h; waiting = a.waiting }
+    s : Span
+    s = span p.last.rounds Now (all_names a.host.slots)
 
--- and a turn tells them so
-pub left-told : (o a : Service Host) (peers : List PeerRef) (h : Host) (d : Service Host) → SeesOff o a → PartsFrom Now a.host peers h → Idles (record { host = h; waiting = a.waiting }) d → Leaves o d
-left-told o a peers h d p q i = record {
-  spans = p.spans ++ last;
-  acts = chain_more (IsSpan host_calls) o p.spans a last d p.acts (c, is-asked Now a c peers q refl, (d, is-turned Now c d i, refl));
-  no_orders = no-more p.spans last p.no_orders (none-in Now c d i);
-  gentle = gentle-more p.spans last p.later tt;
-}
-  where
-    c : Service Host
-    c = record { host = h; waiting = a.waiting }
+pub left-told : (o a : Service Host) (h : Host) (d : Service Host) → HasSeenOff o a → PartsFrom Now a.host (all_names a.host.slots) h → Idles (record { host = h; waiting = a.waiting }) d → TakesLeave o d
+left-told o a h d s parts i = left-then o a h d s.off parts i
 
-    last : List Span
-    last = asked Now peers ∷ turned i.rounds Now ∷ []
+pub left-cut : (o a : Service Host) (h : Host) → HasSeenOff o a → PartsFrom Now a.host (all_names a.host.slots) h → TakesLeave o (record { host = h; waiting = a.waiting })
+left-cut o a h s parts = left-then o a h (record { host = h; waiting = a.waiting }) s.off parts (no-turn (record { host = h; waiting = a.waiting }))
+
+-- ---- as spans alone
+is-span : (a : Service Host) (s : Span) (b : Service Host) → PartsFromAll a s b → IsSpan host_calls a s b
+is-span a s b h = (h.0, h.1, h.2)
+
+all-spans : (a : Service Host) (spans : List Span) (b : Service Host) → Chain PartsFromAll a spans b → Spans host_calls a spans b
+all-spans a [] b h = h
+all-spans a (s ∷ spans) b h = (h.0, is-span a s h.0 h.1, all-spans h.0 spans b h.2)
+
+pub spans-of-leave : (a b : Service Host) (l : Leaves a b) → Spans host_calls a (l.spans ++ l.last ∷ []) b
+spans-of-leave a b l = chain_step (IsSpan host_calls) a l.spans l.between l.last b (all-spans a l.spans l.between l.acts) l.ends

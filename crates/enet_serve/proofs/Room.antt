@@ -1,6 +1,6 @@
 -- What the two threads of a run did. Events are left only where the relay found its queue full: then it submitted as many orders as the queue
 -- has places.
-use Rattle.std.proofs.Common.{◌≡◌, ℕ, ◌+◌, ◌<◌, ◌≤◌, ◌⊎◌, inl, inr, List, [], ◌++◌, length, Result, Ok, IfOk, refl, sym, ◌∙◌, ap, subst, arith}
+use Rattle.std.proofs.Common.{◌≡◌, ℕ, suc, ◌+◌, ◌<◌, ◌≤◌, ◌⊎◌, inl, inr, List, [], ◌∷◌, ◌++◌, length, Result, Ok, IfOk, refl, sym, ◌∙◌, ap, subst, arith}
 use Rattle.std.proofs.lemmas.List.{length-append, length-map}
 use Rattle.std.proofs.lemmas.Result.{IfOk-at_ok}
 use Rattle.enet_codec.specs.declared.refusal.Refusal.{Refusal}
@@ -8,7 +8,10 @@ use Rattle.enet_codec.specs.declared.event.Event.{Event}
 use Rattle.enet_submit.specs.declared.order.Order.{Order}
 use Rattle.enet_submit.specs.declared.order.Submission.{Submission}
 use Rattle.enet_submit.specs.declared.token.Drain.{Drain}
+use Rattle.enet_submit.specs.declared.order.Parcel.{Parcel}
 use Rattle.enet_submit.specs.History.{of}
+use Rattle.enet_submit.specs.Parcels.{numbered, spelled, contents}
+use Rattle.enet_submit.specs.Requests.{orders_of}
 use Rattle.enet_submit.specs.Words.{seats_of, capacity_of, all_sent, taken, SeatSees}
 use Rattle.enet_events.specs.Words.{PosterState}
 use Rattle.enet_bridge.specs.declared.order_sender.OrderSender.{OrderSender}
@@ -35,10 +38,19 @@ use Rattle.enet_serve.specs.declared.server.ChatServer.{ChatServer}
 use Rattle.enet_serve.specs.Serving.{Serves}
 use Rattle.enet_serve.specs.Private.Threads.{IsBegun, IsLeft}
 
+numbered_length : (seat number : ℕ) (os : List Order) → length (numbered seat number os) ≡ length os
+numbered_length seat number [] = refl
+numbered_length seat number (o ∷ os) = ap suc (numbered_length seat (number + 1) os)
+
+-- each place of the queue holds at least one order
+places_hold : (ps : List Parcel) → length ps ≤ length (contents ps)
+places_hold [] = omega arith
+places_hold (p ∷ ps) = omega (arith, places_hold ps, p.some, numbered_length p.seat p.number (orders_of p.request), length-append (spelled p) (contents ps))
+
 submitted_places : (s : OrderSender) → seats_of (sender_queue s) ≡ 1 → FoundFull s → capacity_of (sender_queue s) ≤ length (submitted_at s)
 submitted_places s one full =
-    let held : List Submission = full.0 in
-    let many : length held ≡ capacity_of (sender_queue s) = full.1 in
+    let held : List Submission = contents full.0 in
+    let many : capacity_of (sender_queue s) ≤ length held = omega (arith, full.1, places_hold full.0) in
     let sees : SeatSees (sender_queue s) s.seat held = full.2 in
     let all : List Submission = sees.0 ++ held in
     let fits = s.fits in

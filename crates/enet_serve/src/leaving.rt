@@ -1,6 +1,6 @@
 //! How the clients of a server are told that it ends.
-ghost use Rattle.enet_serve.specs.Leaving.{Leaves};
-ghost use Rattle.enet_serve.specs.Private.SeeingOff.{Idles, SeesOff};
+ghost use Rattle.enet_serve.specs.Leaving.{TakesLeave};
+ghost use Rattle.enet_serve.specs.Private.SeeingOff.{HasSeenOff, Idles};
 
 use enet_codec::{DisconnectMode, Event};
 use enet_service::{BoundService, Fault, MemorySource, Sink, Wire, run};
@@ -21,7 +21,7 @@ pub(crate) fn take_leave<R: Wait + Clock, N: Wire + Drop>(
     alloc: Global,
     bound: &mut BoundService<N>,
 )
-    ensures leaves { Leaves bound.old.service bound.new.service }
+    ensures leaves { TakesLeave bound.old.service bound.new.service }
 {
     if see_off(rt, alloc, bound).is_err() {
         return;
@@ -37,7 +37,7 @@ fn see_off<R: Wait + Clock, N: Wire + Drop>(
     alloc: Global,
     bound: &mut BoundService<N>,
 ) -> Result<(), Fault>
-    ensures { SeesOff bound.old.service bound.new.service }
+    ensures { HasSeenOff bound.old.service bound.new.service }
 {
     let start = Instant::now(rt);
     for _ in rt.forever() {

@@ -10,8 +10,9 @@
 //! the wire failed, and only E14 does; no run begins where the queues' places are out of range. A server opens with the standard host of
 //! its settings, behind a guard with their rules, with nothing waiting ([`ChatServer::open`]); who is banned is changed by
 //! [`ChatServer::ban`] and [`ChatServer::unban`], which change nothing else. After a call that was refused nothing else is said of the
-//! server. Where it takes leave (`Leaves`), its turns are given no order, and between them it parts from clients behind all that was
-//! sent to them, but for a last time; what the relay keeps is as before. Of each client of the demonstration (`Visits`): its service took so
+//! server. Where it takes leave (`TakesLeave`), its turns are given no order, and between them, once at least, it parts from every peer that
+//! its host has then, behind all that was sent, but for a last time; what the relay keeps is as before. Of each client of the demonstration
+//! (`Visits`): its service took so
 //! many turns, in none of which the wire failed; the turns were given the first part of what the client asks for, which is its connection
 //! and, over the first that it is told of, three packets of chat; and what is told of the client is whether the turns told its connection,
 //! and how many packets they told. So its game thread missed no event and counted none twice. A number of clients that is out of its range

@@ -74,7 +74,7 @@ impl ChatServer {
     ghost use Rattle.enet_service.specs.ServiceRuns.{AreNew, IsCapacity};
     ghost use Rattle.enet_service.specs.LoneTurn.{beside, lone};
     ghost use Rattle.enet_serve.specs.Serving.{Serves, EndsRun, IsNotServed, IsOpened, is_in_range, host_of, faults_of, guard_of, waiting_of, service_of, peers_of, backlog_of, orders_of, queue_capacity_of};
-    ghost use Rattle.enet_serve.specs.Leaving.{Leaves};
+    ghost use Rattle.enet_serve.specs.Leaving.{TakesLeave};
 
     /// A server at this address, with no peer.
     ///
@@ -311,7 +311,7 @@ impl ChatServer {
     /// is cut off. No order is given in these turns. Where the wire fails nobody is told. The relay isn't told of these ends, and keeps its
     /// peers, its events and its orders: nothing is served after it.
     pub fn take_leave<R: Wait + Clock>(&mut self, rt: &R)
-        ensures leaves { Leaves (service_of self.old) (service_of self.new) }
+        ensures leaves { TakesLeave (service_of self.old) (service_of self.new) }
         ensures peers { peers_of self.new ≡ peers_of self.old }
         ensures kept { (backlog_of self.new ≡ backlog_of self.old) × (orders_of self.new ≡ orders_of self.old) }
         ensures queues { queue_capacity_of self.new ≡ queue_capacity_of self.old }

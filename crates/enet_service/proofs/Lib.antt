@@ -8,3 +8,4 @@ pub mod Reporting
 pub mod Runs
 pub mod Tellings
 pub mod Untold
+pub mod Parting

@@ -15,16 +15,17 @@
 //! 2,147,483,648 orders were taken or events told (`Lasts`). In none of them did the wire fail, and the report has their sums; what the
 //! turns were given is what the drain took and the wire told, each after a wait, and what they put is what the poster posted; E14 comes
 //! exactly where the wire failed. Once settled, the only taker took all that was posted, and the orders that the drain didn't take are told
-//! in order. A host that notes who came and went ([`WatchedHost`]) is the host that it holds, in each of its calls. The parts of a turn
+//! in order. A host that notes who came and went ([`WatchedHost`]) is the host that it holds, in each of its calls, and
+//! [`WatchedHost::part_from_all`] asks each peer that this has to go (`all_names`), slot by slot. The parts of a turn
 //! between which orders are made are those of its phases that they name, each on what the wire told and the source gave.
 //! Only tested, by `check_service`: turns and runs of a real host over memory, with each call of the wire failing and each send blocking in
 //! its turn; that a game thread submits and takes while the service is inside its wire; a connection's opening through a socket of
 //! 127.0.0.1. By scripts/check-rows.sh and scripts/check-clients.sh: that the queues settle (no E16), what is noted and shown to a
 //! [`Watch`], and that turns for a time end once the other thread has left. Neither: that a wait or a call of a queue returns, when the
 //! source is told to expect orders, that two threads ran, what a network gives, and when; that a run for a time lasts that time; when
-//! [`settle`] answers E16; what the host and the queues are after a [`beside_turns`] that ended with E14; which peers
-//! [`WatchedHost::part_from_all`] asks to go (how many, it says). That turns go by what their wire gave, and by the milliseconds of its waits, is said of each
-//! wire that tells its calls: a socket tells nothing, and is used by the same functions.
+//! [`settle`] answers E16; what the host and the queues are after a [`beside_turns`] that ended with E14. That turns go by what their wire
+//! gave, and by the milliseconds of its waits, is said of each wire that tells its calls: a socket tells nothing, and is used by the same
+//! functions.
 #![tactic(auto)]
 
 mod between;

@@ -67,7 +67,7 @@ impl Model for WatchedHost {
 impl WatchedHost {
     ghost use Rattle.std.specs.Prelude.{◌≡◌, true, false, List, length, IfOk, IfErr, Err};
     ghost use Rattle.enet_codec.specs.Config.{is_in_range};
-    ghost use Rattle.enet_codec.specs.declared.event.PeerRef.{PeerRef};
+    ghost use Rattle.enet_host.specs.Host.{all_names};
     ghost use Rattle.enet_host.specs.Opening.{opened};
     ghost use Rattle.enet_service.specs.ServiceRuns.{PartsFrom};
 
@@ -143,14 +143,15 @@ impl WatchedHost {
         self.refused = 0;
     }
 
-    /// Ends each connection that was told, in this way, and answers how many there are. A peer that is going already isn't asked again.
+    /// Ends the connection of each peer that the host has, in this way, and answers how many there are: those that begin or end are some,
+    /// too, of which the latter aren't asked again.
     pub fn part_from_all(&mut self, how: DisconnectMode) -> usize
-        ensures parts { (peers : List PeerRef) × (result ≡ length peers) × PartsFrom how self.old peers self.new }
+        ensures parts { PartsFrom how self.old (all_names self.old.slots) self.new }
+        ensures count { result ≡ length (all_names self.old.slots) }
     {
         let mut parted = 0;
-        for slot in 0..self.met.len() {
-            if let Some(Some(met)) = self.met.get(slot) {
-                let peer = met.peer;
+        for slot in 0..self.host.slot_count() {
+            if let Some(peer) = self.host.name_in(slot) {
                 let _ = self
                     .host
                     .apply_order(Order::Disconnect { peer, how, info: 0 });

@@ -1,8 +1,9 @@
 -- Where an offer is to go.
-use Rattle.std.proofs.Common.{◌≡◌, ℕ, ◌+◌, ◌<◌, ◌≤◌, ◌⊎◌, inl, inr, Bool, true, false, ◌&&◌, nat_lt, Option, Some, List, length, get_or, sym, ap, subst, ◌∙◌, arith}
-use Rattle.std.specs.List.{list_any, position}
-use Rattle.std.proofs.lemmas.Bool.{cases_lt}
+use Rattle.std.proofs.Common.{◌≡◌, ℕ, ◌+◌, ◌<◌, ◌≤◌, ◌⊎◌, inl, inr, Bool, true, false, ◌&&◌, nat_lt, cond, ltb, Option, Some, None, List, length, get_or, sym, ap, subst, ◌∙◌, arith}
+use Rattle.std.specs.List.{list_any, position, position_or_len}
+use Rattle.std.proofs.lemmas.Bool.{lt-ltb, le-ltb, cases_lt}
 use Rattle.std.proofs.lemmas.List.{get_or-map, get_or_default}
+use Rattle.std.proofs.lemmas.List.Sums.{position_or_len_is}
 use Rattle.std.proofs.lemmas.List.Folds.{list_any_none}
 use Rattle.std.proofs.lemmas.Option.{slice_get-get_or}
 use Rattle.enet_codec.specs.declared.address.Addr.{Addr}
@@ -13,13 +14,28 @@ use Rattle.enet_slot.specs.Slot.{SlotState}
 use Rattle.enet_slot.specs.Giving.{unused_slot, is_vacant, is_available}
 use Rattle.enet_slot.specs.Hearing.{is_connection, is_connection_in}
 use Rattle.enet_slot.specs.Slotted.{shown, all_shown}
-use Rattle.enet_slot.proofs.Seating.{first-at}
 use Rattle.enet_sleepers.specs.declared.marks.Mark.{Mark}
 use Rattle.enet_sleepers.specs.Marks.{mark_of, Names}
 use Rattle.enet_sleepers.specs.Sleeping.{Noted, KeepsSleepers}
 use Rattle.enet_sleepers.specs.Private.Sleepers.{NoneOf, KnownNowhere}
 use Rattle.enet_sleepers.proofs.Dueness.{in-or-out}
 use Rattle.enet_sleepers.proofs.Marking.{unmarked-unknown}
+
+-- the first of all slots that can be given out
+first-at : (generations : ℕ) (slots : List SlotState) (i : ℕ) → i < length slots → is_available generations (get_or slots i unused_slot) ≡ true
+    → ((k : ℕ) → k < i → is_available generations (get_or slots k unused_slot) ≡ false) → position (is_available generations) slots ≡ Some i
+first-at generations slots i inside here before =
+    let p = is_available generations in
+    let is : position_or_len p slots ≡ i = position_or_len_is p slots i unused_slot (omega (arith, inside)) before (λ within. here) in
+    ap (λ n. cond (ltb n (length slots)) (Some n) None) is ∙ ap (λ b. cond b (Some i) None) (lt-ltb i (length slots) inside)
+
+pub first-none : (generations : ℕ) (slots : List SlotState) (place : ℕ) → length slots ≤ place → ((k : ℕ) → k < place → is_available generations (get_or slots k unused_slot) ≡ false)
+    → position (is_available generations) slots ≡ None
+first-none generations slots place past before =
+    let p = is_available generations in
+    let n = length slots in
+    let is : position_or_len p slots ≡ n = position_or_len_is p slots n unused_slot (omega arith) (λ k low. before k (omega (arith, low, past))) (λ within. absurd (omega (arith, within))) in
+    ap (λ m. cond (ltb m n) (Some m) None) is ∙ ap (λ b. cond b (Some n) None) (le-ltb n n (omega arith))
 
 -- what a slot shows
 pub shown-at : (xs : List Slot) (i : ℕ) (x : Slot) → i < length xs → x ≡ get_or xs i x → get_or (all_shown xs) i unused_slot ≡ shown x

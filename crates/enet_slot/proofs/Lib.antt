@@ -2,4 +2,4 @@ pub mod Changes
 pub mod Shown
 pub mod OverAll
 pub mod Waiting
-pub mod Seating
+pub mod OneByOne

@@ -1,7 +1,7 @@
 -- Slots of the code and as they are shown.
-use Rattle.std.proofs.Common.{◌≡◌, ℕ, ◌<◌, Bool, if◌then◌else◌, Option, Some, None, List, length, slice_get, slice_set, get_or, refl, sym, ap, ap₂, ◌∙◌, ◌+◌, ◌||◌, not, nat_lt, [], ◌∷◌}
+use Rattle.std.proofs.Common.{◌≡◌, ℕ, ◌<◌, Bool, Option, Some, List, length, slice_get, slice_set, get_or, refl, ap, ◌∙◌, ◌||◌, [], ◌∷◌}
 use Rattle.std.proofs.lemmas.List.{map-set, length-map}
-use Rattle.std.specs.List.{position, prefix_len, list_any}
+use Rattle.std.specs.List.{list_any}
 use Rattle.std.proofs.Math.Seq.{map-set_same}
 use Rattle.std.specs.Option.{option_map}
 use Rattle.std.proofs.lemmas.Option.{slice_get-map, slice_get_read}
@@ -24,15 +24,7 @@ same-shown xs i x y read same = map-set_same shown xs i y x (same ∙ ap shown r
 pub length-shown : (xs : List Slot) → length (all_shown xs) ≡ length xs
 length-shown xs = length-map xs shown
 
--- tests of slots
-prefix-shown : (p : SlotState → Bool) (xs : List Slot) → prefix_len p (all_shown xs) ≡ prefix_len (λ (x : Slot). p (shown x)) xs
-prefix-shown p [] = refl
-prefix-shown p (x ∷ xs) = ap (λ (n : ℕ). if p (shown x) then 1 + n else 0) (prefix-shown p xs)
-
-pub position-shown : (p : SlotState → Bool) (xs : List Slot) → position (λ (x : Slot). p (shown x)) xs ≡ position p (all_shown xs)
-position-shown p xs =
-    ap₂ (λ (n m : ℕ). if nat_lt n m then Some n else None) (sym (prefix-shown (λ (s : SlotState). not (p s)) xs)) (sym (length-shown xs))
-
+-- a test of slots
 pub any-shown : (p : SlotState → Bool) (xs : List Slot) → list_any (λ (x : Slot). p (shown x)) xs ≡ list_any p (all_shown xs)
 any-shown p [] = refl
 any-shown p (x ∷ xs) = ap (λ (b : Bool). p (shown x) || b) (any-shown p xs)

@@ -5,7 +5,7 @@ pub mod Seating
 pub mod Serving
 pub mod Sharing
 pub mod Calls
+pub mod Counting
 pub mod Slotted
-pub mod Sleeping
 pub mod Waiting
 pub mod Private

@@ -1,16 +1,12 @@
-//! The slots of a host: which can be given out, whether one holds a connection, what a moment brings to all of them, and what the
-//! host's bandwidths do to them.
+//! The slots of a host: how they begin, whether one holds a connection, and what the host's bandwidths do to them.
 
-ghost use Rattle.std.specs.Prelude.{◌≡◌, ℕ, ◌+◌, ◌<◌, ◌≤◌, true, List, map, replicate, length, get_or, All, OnOk, OnErr, IfOk, IfErr, IfSome};
-ghost use Rattle.std.specs.List.{count_by, list_any, position};
+ghost use Rattle.std.specs.Prelude.{◌≡◌, ◌≤◌, true, map, replicate, length, All, OnOk, OnErr, IfOk, IfErr};
+ghost use Rattle.std.specs.List.{count_by, list_any};
 ghost use Rattle.enet_codec.specs.Config.{is_in_range};
-ghost use Rattle.enet_rtt.specs.Clock.{HappensIn};
 ghost use Rattle.enet_peer.specs.Peering.{Peering};
 ghost use Rattle.enet_peer.specs.Calls as peers;
-ghost use Rattle.enet_slot.specs.Slot.{SlotState, changed, is_due};
-ghost use Rattle.enet_slot.specs.Seating.{IsSeat};
-ghost use Rattle.enet_slot.specs.Private.Seating.{IsFirstOf};
-ghost use Rattle.enet_slot.specs.Giving.{unused_slot, joined_slots, is_available};
+ghost use Rattle.enet_slot.specs.Slot.{changed};
+ghost use Rattle.enet_slot.specs.Giving.{unused_slot, joined_slots};
 ghost use Rattle.enet_slot.specs.Hearing.{is_connection};
 ghost use Rattle.enet_slot.specs.Sharing.{is_standing, wants_room, shared};
 ghost use Rattle.enet_slot.specs.Slotted.{shown, all_shown};
@@ -46,21 +42,6 @@ pub fn joined_slots(alloc: Global, config: &Config, address: Addr) -> Result<Vec
     Ok(slots)
 }
 
-fn first_of(slots: &[Slot], generations: u32) -> Option<usize>
-    ensures first { result ≡ position (λ (s : Slot). is_available generations (shown s)) slots.now }
-    ensures within { IfSome result (λ i. i < length slots.now) }
-{
-    slots.iter().position(|slot| slot.is_available(generations))
-}
-
-/// The first slot of the list that is free and has a generation left of so many.
-pub fn first_available(slots: &[Slot], generations: u32) -> Option<usize>
-    ensures first { result ≡ position (is_available generations) (all_shown slots.now) }
-    ensures within { IfSome result (λ i. i < length slots.now) }
-{
-    first_of(slots, generations)
-}
-
 fn any_of(slots: &[Slot], from: Addr, connect_id: u32) -> bool
     ensures { result ≡ list_any (λ (s : Slot). is_connection from connect_id (shown s)) slots.now }
 {
@@ -85,58 +66,6 @@ pub enum Seat {
     At(usize),
     /// Else there is none.
     Full,
-}
-
-/// The first of the slots up to this one that is free and has a generation left of so many, where `first` is that of those before it.
-fn first_with(first: Option<usize>, slot: &Slot, place: usize, generations: u32) -> Option<usize>
-    ensures { (slots : List SlotState) → get_or slots place unused_slot ≡ slot.now.slot → place < length slots → IsFirstOf generations slots place first
-        → IsFirstOf generations slots (place + 1) result }
-{
-    if first.is_none() && slot.is_available(generations) {
-        return Some(place);
-    }
-    first
-}
-
-/// Where an offer from this address with this connect id is to go, if so many generations are allowed. Each slot is looked at once.
-pub fn seat_for(slots: &[Slot], from: Addr, connect_id: u32, generations: u32) -> Seat
-    ensures { IsSeat from connect_id generations (all_shown slots.now) result }
-{
-    let mut first = None;
-    for place in 0..slots.len() {
-        let slot = &slots[place];
-        if slot.is_connection(from, connect_id) {
-            return Seat::Known;
-        }
-        first = first_with(first, slot, place, generations);
-    }
-    match first {
-        Some(place) => Seat::At(place),
-        None => Seat::Full,
-    }
-}
-
-/// Time has come to `now`, in milliseconds, at each slot.
-pub fn tick_all(slots: &mut Vec<Slot>, now: u32)
-    ensures slots { all_shown slots.new.items ≡ map (changed (λ (p : Peering). peers.ticked p now)) (all_shown slots.old.items) }
-    ensures count { length slots.new.items ≡ length slots.old.items }
-{
-    for place in 0..slots.len() {
-        slots[place].tick(now);
-    }
-}
-
-/// In how many milliseconds after the moment `now` time brings a peer of the slots anything first; 4,294,967,295 where it brings
-/// none anything.
-pub fn next_due(slots: &[Slot], now: u32) -> u32
-    ensures { HappensIn (λ (later : ℕ). list_any (is_due later) (all_shown slots.now)) now result }
-{
-    let mut wait = u32::MAX;
-    for place in 0..slots.len() {
-        let slot = &slots[place];
-        wait = wait.min(slot.due_in(now));
-    }
-    wait
 }
 
 /// How many connections stand.

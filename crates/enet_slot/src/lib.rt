@@ -4,19 +4,18 @@
 //! (`on_peer`), with E2 where the slot is free; `hear` and `serve` are its peer's (`Hears`, `Gives`, `Passes`), and so is `take`
 //! (`GivesEvent`). After each of them a slot whose peer is free gives it up: it keeps the sessions of the connection that it had,
 //! and has the next generation (`vacated`). `ask` and `answer` give it to a peer (`asking`, `answering`). The tests of `refused_by`, in
-//! their order, say which datagrams it takes in, and `is_available` says whether it can be given out. A slot of which `is_asleep`
-//! answers true has nothing to put out and nothing to tell (`Sleeps`), and one of which `only_waits` answers true nothing that goes and
-//! nothing to tell (`Waits`). `tick` is its peer's (`changed`), and `due_in` says in how many
+//! their order, say which datagrams it takes in, and `is_available` says whether it can be given out. A slot of which `only_waits`
+//! answers true has nothing that goes and nothing to tell (`Waits`). `tick` is its peer's (`changed`), and `due_in` says in how many
 //! milliseconds that brings something. Want of memory changes nothing.
-//! Over all slots of a host: `unused_slots` and `joined_slots` make them, `first_available` and `any_is_connection` look for one,
-//! `seat_for` for both at once (`IsSeat`),
-//! `tick_all`, `set_bandwidth` (`changed`) and `share_out` (`shared`) are one change on each, and `next_due` says in how many
-//! milliseconds time brings any of their peers something.
+//! Over all slots of a host: `unused_slots` and `joined_slots` make them, `any_is_connection` looks for a connection,
+//! `set_bandwidth` (`changed`) and `share_out` (`shared`) are one change on each, and `count_slots` says how many are free and how far the
+//! others have come (`Counts`). Where an offer is to go is said (`IsSeat`), and found by `enet_sleepers`.
 //! Only tested, with the host's calls by `check_hosts`: that calls succeed with ample memory.
 #![tactic(auto)]
 
 mod all;
 mod calls;
+mod counting;
 mod events;
 mod giving;
 mod hearing;
@@ -24,10 +23,8 @@ mod serving;
 mod sharing;
 mod slot;
 
-pub use all::{
-    Seat, any_is_connection, first_available, joined_slots, next_due, seat_for, set_bandwidth,
-    share_out, tick_all, unused_slots,
-};
+pub use all::{Seat, any_is_connection, joined_slots, set_bandwidth, share_out, unused_slots};
 pub use calls::Setting;
+pub use counting::{SlotCounts, Standing, count_slots};
 pub use giving::{Question, Start};
 pub use slot::Slot;

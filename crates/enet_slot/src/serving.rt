@@ -2,7 +2,6 @@
 
 ghost use Rattle.std.specs.Prelude.{◌≤◌, IfSome, IfNone, IsTrue};
 ghost use Rattle.enet_slot.specs.Serving.{Gives, Passes};
-ghost use Rattle.enet_slot.specs.Sleeping.{Sleeps};
 ghost use Rattle.enet_slot.specs.Waiting.{Waits};
 
 use crate::Slot;
@@ -25,17 +24,6 @@ impl Slot {
         self.emitted = self.emitted.saturating_add(len as u32);
         self.let_go();
         Some(len)
-    }
-
-    /// Whether it is free, or its peer is connected and has surely nothing to send, nothing unacknowledged and nothing to tell. Until a
-    /// call, a datagram or a moment brings it something, `serve` and `take` then give nothing and change nothing.
-    pub fn is_asleep(&self) -> bool
-        ensures { IsTrue result → Sleeps self.now.slot }
-    {
-        match &self.peer {
-            Some(peer) => peer.is_asleep(),
-            None => true,
-        }
     }
 
     /// Whether it is free, or its peer is connected, asks for a connection or for its end, or has answered, and has surely nothing to

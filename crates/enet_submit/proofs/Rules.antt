@@ -1,20 +1,26 @@
 -- Each step keeps the rule.
 use Rattle.std.proofs.Common.{◌≡◌, ◌≢◌, ℕ, zero, suc, ◌+◌, ◌<◌, ◌≤◌, ◌==◌, ◌⊎◌, inl, inr, ⊎_elim, cond, List, [], ◌∷◌, ◌++◌, length, set, sym, refl, ap, ◌∙◌, subst, append_assoc, append-nil, lt_of_not-le, length-append, arith, eq-eqb, ne_eqb}
 use Rattle.std.proofs.lemmas.List.Elements.{filter-append}
+use Rattle.std.proofs.lemmas.List.Concat.{flat_map-append}
 use native.Mathlib.Decide.{ℕ_discrete}
 use mathlib.Core.Option.{some, some-injective, some-ne-none}
 use lib.ListN.{get_elem?}
 use Rattle.crossbeam_queue.specs.Fifo.{Pushes, Pops, Forks, Merges, Learns, Held}
 use Rattle.crossbeam_queue.proofs.Lists.{at_set}
 use Rattle.enet_submit.specs.declared.order.Submission.{Submission}
+use Rattle.enet_submit.specs.declared.order.Order.{Order}
+use Rattle.enet_submit.specs.declared.order.Parcel.{Parcel}
 use Rattle.enet_submit.specs.declared.rule.SeatLog.{SeatLog}
 use Rattle.enet_submit.specs.declared.rule.View.{View}
 use Rattle.enet_submit.specs.declared.rule.View.TheVariants.{Draining, Sending, Spent}
 use Rattle.enet_submit.specs.History.{of, CountsFrom, IsHistory}
-use Rattle.enet_submit.specs.Rule.{with_sent, log, Among, Knows, Agrees, Invariant, Submitted, Took, Shows, TakenIs, TakenComesFirst, seats_in, sent_in, taken_in, widened, made_one, new_seat, informed}
+use Rattle.enet_submit.specs.Parcels.{numbered, spelled, contents}
+use Rattle.enet_submit.specs.Requests.{orders_of}
+use Rattle.enet_submit.specs.Words.{submission}
+use Rattle.enet_submit.specs.Rule.{with_sent, with_taken, log, Among, Knows, Agrees, Invariant, Holds, ShowsIn, Submitted, Took, Shows, TakenIs, TakenComesFirst, seats_in, sent_in, taken_in, widened, made_one, new_seat, informed}
 
 -- ---- lists
-of_append : (s : ℕ) (a b : List Submission) → of s (a ++ b) ≡ of s a ++ of s b
+pub of_append : (s : ℕ) (a b : List Submission) → of s (a ++ b) ≡ of s a ++ of s b
 of_append s a b = filter-append (λ x. x.seat == s) a b
 
 of_one_same : (s : ℕ) (x : Submission) → x.seat ≡ s → of s (x ∷ []) ≡ x ∷ []
@@ -23,10 +29,10 @@ of_one_same s x e = ap (λ b. cond b (x ∷ []) []) (eq-eqb x.seat s e)
 of_one_other : (s : ℕ) (x : Submission) → x.seat ≢ s → of s (x ∷ []) ≡ []
 of_one_other s x n = ap (λ b. cond b (x ∷ []) []) (ne_eqb x.seat s n)
 
-of_more_same : (s : ℕ) (h : List Submission) (x : Submission) → x.seat ≡ s → of s (h ++ x ∷ []) ≡ of s h ++ x ∷ []
+pub of_more_same : (s : ℕ) (h : List Submission) (x : Submission) → x.seat ≡ s → of s (h ++ x ∷ []) ≡ of s h ++ x ∷ []
 of_more_same s h x e = of_append s h (x ∷ []) ∙ ap (λ l. of s h ++ l) (of_one_same s x e)
 
-of_more_other : (s : ℕ) (h : List Submission) (x : Submission) → x.seat ≢ s → of s (h ++ x ∷ []) ≡ of s h
+pub of_more_other : (s : ℕ) (h : List Submission) (x : Submission) → x.seat ≢ s → of s (h ++ x ∷ []) ≡ of s h
 of_more_other s h x n = of_append s h (x ∷ []) ∙ (ap (λ l. of s h ++ l) (of_one_other s x n) ∙ append-nil (of s h))
 
 Counts_more : (k : ℕ) (xs : List Submission) (x : Submission) → CountsFrom k xs → x.number ≡ k + length xs → CountsFrom k (xs ++ x ∷ [])
@@ -90,9 +96,9 @@ set_there (x ∷ xs) zero a b e = refl
 set_there (x ∷ xs) (suc i) a b e = set_there xs i a b e
 
 -- ---- a push
-pub pushes : (n port s t : ℕ) (l : List Submission) (x : Submission) → s < t → x.seat ≡ s → x.number ≡ length l → length l < 4294967295
-    → Pushes Invariant n port (Sending s t l) x (Submitted (Sending s t l) x)
-pushes n port s t l x lt is num room items views free b at =
+push_one : (port s t : ℕ) (l : List Submission) (x : Submission) → s < t → x.seat ≡ s → x.number ≡ length l → length l < 4294967295
+    → (items : List Submission) (views : List View) → Invariant items views → get_elem? views port ≡ some (Sending s t l) → Invariant (items ++ x ∷ []) (set views port (Sending s t (l ++ x ∷ [])))
+push_one port s t l x lt is num room items views b at =
     let mine = b.known port (Sending s t l) at s l (refl, refl) in
     let total : t ≡ b.seats = b.agrees port (Sending s t l) at in
     let h : List Submission = b.taken ++ items in
@@ -100,7 +106,7 @@ pushes n port s t l x lt is num room items views free b at =
     let size : length (of x.seat h) ≡ length l = ap length here in
     let more : (b.taken ++ items) ++ x ∷ [] ≡ b.taken ++ (items ++ x ∷ []) = append_assoc b.taken items (x ∷ []) in
     let w : View = Sending s t (l ++ x ∷ []) in
-    let after : Invariant (items ++ x ∷ []) (set views port w) = record {
+    record {
       drain = b.drain;
       seats = b.seats;
       taken = b.taken;
@@ -119,8 +125,52 @@ pushes n port s t l x lt is num room items views free b at =
             subst (λ (y : List Submission). of k y ≡ m) more (of_more_other k h x (λ same. q.0 (sym old.0 ∙ (ap b.owner (sym same ∙ is) ∙ mine.0))) ∙ old.1),
           ))
           (at_set views port j w u e);
-    } in
-    (w, after, (refl, (items, learns port w (λ z. cc) (items ++ x ∷ []) (set views port w) after (set_there views port (Sending s t l) w at))))
+    }
+
+set_set : (l : List View) (i : ℕ) (a b : View) → set (set l i a) i b ≡ set l i b
+set_set [] i a b = refl
+set_set (x ∷ xs) zero a b = refl
+set_set (x ∷ xs) (suc i) a b = ap (λ l. x ∷ l) (set_set xs i a b)
+
+set_same : (l : List View) (i : ℕ) (a : View) → get_elem? l i ≡ some a → set l i a ≡ l
+set_same [] i a e = refl
+set_same (x ∷ xs) zero a e = ap (λ y. y ∷ xs) (sym (some-injective x a e))
+set_same (x ∷ xs) (suc i) a e = ap (λ l. x ∷ l) (set_same xs i a e)
+
+-- several orders, one after another
+push_all : (port s t : ℕ) (os : List Order) (l items : List Submission) (views : List View) → s < t → length l + length os ≤ 4294967295
+    → Invariant items views → get_elem? views port ≡ some (Sending s t l) → Invariant (items ++ numbered s (length l) os) (set views port (Sending s t (l ++ numbered s (length l) os)))
+push_all port s t [] l items views lt room b at =
+    subst (λ (zs : List Submission). Invariant zs (set views port (Sending s t (l ++ [])))) (sym (append-nil items))
+    (subst (λ (zs : List Submission). Invariant items (set views port (Sending s t zs))) (sym (append-nil l))
+    (subst (λ (vs : List View). Invariant items vs) (sym (set_same views port (Sending s t l) at)) b))
+push_all port s t (o ∷ os) l items views lt room b at =
+    let x : Submission = submission s (length l) o in
+    let w : View = Sending s t (l ++ x ∷ []) in
+    let ys : List Submission = numbered s (length l + 1) os in
+    let one : Invariant (items ++ x ∷ []) (set views port w) = push_one port s t l x lt refl refl (omega arith) items views b at in
+    let long : length (l ++ x ∷ []) ≡ length l + 1 = length-append l (x ∷ []) in
+    let rest : Invariant ((items ++ x ∷ []) ++ numbered s (length (l ++ x ∷ [])) os) (set (set views port w) port (Sending s t ((l ++ x ∷ []) ++ numbered s (length (l ++ x ∷ [])) os))) =
+    push_all port s t os (l ++ x ∷ []) (items ++ x ∷ []) (set views port w) lt (omega (arith, long)) one (set_there views port (Sending s t l) w at) in
+    let named : Invariant ((items ++ x ∷ []) ++ ys) (set (set views port w) port (Sending s t ((l ++ x ∷ []) ++ ys))) =
+    subst (λ (n : ℕ). Invariant ((items ++ x ∷ []) ++ numbered s n os) (set (set views port w) port (Sending s t ((l ++ x ∷ []) ++ numbered s n os)))) long rest in
+    subst (λ (vs : List View). Invariant (items ++ x ∷ ys) vs) (set_set views port w (Sending s t (l ++ x ∷ ys)))
+    (subst (λ (zs : List Submission). Invariant (items ++ x ∷ ys) (set (set views port w) port (Sending s t zs))) (append_assoc l (x ∷ []) ys)
+    (subst (λ (zs : List Submission). Invariant zs (set (set views port w) port (Sending s t ((l ++ x ∷ []) ++ ys)))) (append_assoc items (x ∷ []) ys) named))
+
+contents-more : (items : List Parcel) (x : Parcel) → contents (items ++ x ∷ []) ≡ contents items ++ spelled x
+contents-more items x = flat_map-append spelled items (x ∷ []) ∙ ap (λ (zs : List Submission). contents items ++ zs) (append-nil (spelled x))
+
+pub pushes : (n port s t : ℕ) (l : List Submission) (x : Parcel) → s < t → x.seat ≡ s → x.number ≡ length l → length l + length (orders_of x.request) ≤ 4294967295
+    → Pushes Holds n port (Sending s t l) x (Submitted (Sending s t l) x)
+pushes n port s t l x lt is num room items views free b at =
+    let os : List Order = orders_of x.request in
+    let e : numbered s (length l) os ≡ spelled x = sym (ap (λ (k : ℕ). numbered k x.number os) is ∙ ap (λ (k : ℕ). numbered s k os) num) in
+    let w : View = Sending s t (l ++ spelled x) in
+    let all : Invariant (contents items ++ spelled x) (set views port w) =
+    subst (λ (zs : List Submission). Invariant (contents items ++ zs) (set views port (Sending s t (l ++ zs)))) e (push_all port s t os l (contents items) views lt room b at) in
+    let after : Holds (items ++ x ∷ []) (set views port w) = subst (λ (zs : List Submission). Invariant zs (set views port w)) (sym (contents-more items x)) all in
+    (w, after, (refl, (contents items, learns port w (λ z. cc) (contents items ++ spelled x) (set views port w) all (set_there views port (Sending s t l) w at))))
 
 -- ---- a pop
 agrees_other : (drain total : ℕ) (a b : List Submission) (j : ℕ) (u : View) → j ≢ drain → Agrees drain total a j u → Agrees drain total b j u
@@ -134,29 +184,27 @@ of_head x xs = ap (λ b. cond b (x ∷ of x.seat xs) (of x.seat xs)) (eq-eqb x.s
 of_seam : (a : List Submission) (x : Submission) (xs : List Submission) → of x.seat (a ++ x ∷ xs) ≡ of x.seat a ++ x ∷ of x.seat xs
 of_seam a x xs = of_append x.seat a (x ∷ xs) ∙ ap (λ l. of x.seat a ++ l) (of_head x xs)
 
-seam_within : (t : ℕ) (a : List Submission) (x : Submission) (xs : List Submission) → IsHistory t (a ++ x ∷ xs) → x.seat < t
+pub seam_within : (t : ℕ) (a : List Submission) (x : Submission) (xs : List Submission) → IsHistory t (a ++ x ∷ xs) → x.seat < t
 seam_within t a x xs s = lt_of_not-le (λ le.
     let e : length (of x.seat a ++ x ∷ of x.seat xs) ≡ length (of x.seat (a ++ x ∷ xs)) = ap length (sym (of_seam a x xs)) in
     let z : length (of x.seat (a ++ x ∷ xs)) ≡ 0 = ap length (s.of_these_seats x.seat le) in
     absurd (omega (arith, length-append (of x.seat a) (x ∷ of x.seat xs))))
 
-seam_number : (t : ℕ) (a : List Submission) (x : Submission) (xs : List Submission) → IsHistory t (a ++ x ∷ xs) → (x.number ≡ length (of x.seat a)) × (x.number < 4294967295)
+pub seam_number : (t : ℕ) (a : List Submission) (x : Submission) (xs : List Submission) → IsHistory t (a ++ x ∷ xs) → (x.number ≡ length (of x.seat a)) × (x.number < 4294967295)
 seam_number t a x xs s =
     let n = Counts_at 0 (of x.seat a) x (of x.seat xs) (subst (CountsFrom 0) (of_seam a x xs) (s.numbered x.seat)) in
     let e : length (of x.seat a ++ x ∷ of x.seat xs) ≡ length (of x.seat (a ++ x ∷ xs)) = ap length (sym (of_seam a x xs)) in
     let z : length (of x.seat (a ++ x ∷ xs)) ≤ 4294967295 = s.countable x.seat in
     (omega arith, omega (arith, length-append (of x.seat a) (x ∷ of x.seat xs)))
 
-pub pops : (port t m : ℕ) (got : List Submission) (known : List SeatLog) → Pops Invariant port (Draining t m got known) (Took (Draining t m got known))
-pops port t m got known x items views b at =
+pop_one : (port t m : ℕ) (got : List Submission) (known : List SeatLog) (x : Submission) (items : List Submission) (views : List View) → Invariant (x ∷ items) views → get_elem? views port ≡ some (Draining t m got known)
+    → Invariant items (set views port (Draining t m (got ++ x ∷ []) known))
+pop_one port t m got known x items views b at =
     let mine = b.agrees port (Draining t m got known) at in
     let w : View = Draining t m (got ++ x ∷ []) known in
     let again : b.taken ++ x ∷ items ≡ (b.taken ++ x ∷ []) ++ items = sym (append_assoc b.taken (x ∷ []) items) in
-    let number = seam_number b.seats b.taken x items b.history in
-    let seat = seam_within b.seats b.taken x items b.history in
-    let size : length (of x.seat got) ≡ length (of x.seat b.taken) = ap (λ l. length (of x.seat l)) mine.2 in
     let total : t ≡ b.seats = mine.1 in
-    let after : Invariant items (set views port w) = record {
+    record {
       drain = b.drain;
       seats = b.seats;
       taken = b.taken ++ x ∷ [];
@@ -172,8 +220,26 @@ pops port t m got known x items views b at =
           let old = b.known j u q.1 k l c in
           (old.0, subst (λ (y : List Submission). of k y ≡ l) again old.1))
           (at_set views port j w u e);
-    } in
-    (w, after, (refl, omega arith, omega arith, omega arith, (items, learns port w (λ z. cc) items (set views port w) after (set_there views port (Draining t m got known) w at))))
+    }
+
+pop_all : (port t m : ℕ) (known : List SeatLog) (xs got items : List Submission) (views : List View) → Invariant (xs ++ items) views → get_elem? views port ≡ some (Draining t m got known)
+    → Invariant items (set views port (Draining t m (got ++ xs) known))
+pop_all port t m known [] got items views b at =
+    subst (λ (zs : List Submission). Invariant items (set views port (Draining t m zs known))) (sym (append-nil got))
+    (subst (λ (vs : List View). Invariant items vs) (sym (set_same views port (Draining t m got known) at)) b)
+pop_all port t m known (x ∷ xs) got items views b at =
+    let w : View = Draining t m (got ++ x ∷ []) known in
+    let one : Invariant (xs ++ items) (set views port w) = pop_one port t m got known x (xs ++ items) views b at in
+    let rest : Invariant items (set (set views port w) port (Draining t m ((got ++ x ∷ []) ++ xs) known)) =
+    pop_all port t m known xs (got ++ x ∷ []) items (set views port w) one (set_there views port (Draining t m got known) w at) in
+    subst (λ (vs : List View). Invariant items vs) (set_set views port w (Draining t m (got ++ x ∷ xs) known))
+    (subst (λ (zs : List Submission). Invariant items (set (set views port w) port (Draining t m zs known))) (append_assoc got (x ∷ []) xs) rest)
+
+pub pops : (port t m : ℕ) (got : List Submission) (known : List SeatLog) → Pops Holds port (Draining t m got known) (Took (Draining t m got known))
+pops port t m got known x items views b at =
+    let w : View = Draining t m (got ++ spelled x) known in
+    let after : Invariant (contents items) (set views port w) = pop_all port t m known (spelled x) got (contents items) views b at in
+    (w, after, (refl, (contents items, learns port w (λ z. cc) (contents items) (set views port w) after (set_there views port (Draining t m got known) w at))))
 
 -- ---- a pass is split
 -- before the first seat is made, only the drain knows how many there are to be
@@ -335,32 +401,33 @@ begins =
     }
 
 -- ---- the same for a pass whose view is known by an equation
-pub submits : (n port : ℕ) (v : View) (s t : ℕ) (x : Submission) → v ≡ Sending s t (sent_in v) → s < t → x.seat ≡ s → x.number ≡ length (sent_in v) → length (sent_in v) < 4294967295
-    → Pushes Invariant n port v x (Submitted v x) × Learns Invariant port v (Shows v)
+pub submits : (n port : ℕ) (v : View) (s t : ℕ) (x : Parcel) → v ≡ Sending s t (sent_in v) → s < t → x.seat ≡ s → x.number ≡ length (sent_in v) → length (sent_in v) + length (orders_of x.request) ≤ 4294967295
+    → Pushes Holds n port v x (Submitted v x) × Learns Holds port v (ShowsIn v)
 submits n port v s t x e lt is num room = (
-  subst (λ (y : View). Pushes Invariant n port y x (Submitted y x)) (sym e) (pushes n port s t (sent_in v) x lt is num room),
-  learns port v (λ z. cc),
+  subst (λ (y : View). Pushes Holds n port y x (Submitted y x)) (sym e) (pushes n port s t (sent_in v) x lt is num room),
+  λ items views b at. learns port v (λ z. cc) (contents items) views b at,
 )
 
-pub takes : (port : ℕ) (v : View) (t m : ℕ) (known : List SeatLog) → v ≡ Draining t m (taken_in v) known → Pops Invariant port v (Took v) × Learns Invariant port v (Shows v)
+pub takes : (port : ℕ) (v : View) (t m : ℕ) (known : List SeatLog) → v ≡ Draining t m (taken_in v) known → Pops Holds port v (Took v) × Learns Holds port v (ShowsIn v)
 takes port v t m known e = (
-  subst (λ (y : View). Pops Invariant port y (Took y)) (sym e) (pops port t m (taken_in v) known),
-  learns port v (λ z. cc),
+  subst (λ (y : View). Pops Holds port y (Took y)) (sym e) (pops port t m (taken_in v) known),
+  λ items views b at. learns port v (λ z. cc) (contents items) views b at,
 )
 
-pub one_more : (port : ℕ) (v : View) (t : ℕ) → v ≡ Draining t 0 [] [] → Forks Invariant port v (widened v) Spent
-one_more port v t e = subst (λ (y : View). Forks Invariant port y (widened y) Spent) (sym e) (widens port t)
+pub one_more : (port : ℕ) (v : View) (t : ℕ) → v ≡ Draining t 0 [] [] → Forks Holds port v (widened v) Spent
+one_more port v t e = subst (λ (y : View). Forks Holds port y (widened y) Spent) (sym e) (λ items views b at. widens port t (contents items) views b at)
 
-pub new_one : (port : ℕ) (v : View) (t m : ℕ) → v ≡ Draining t m [] [] → Forks Invariant port v (made_one v) (new_seat v)
-new_one port v t m e = subst (λ (y : View). Forks Invariant port y (made_one y) (new_seat y)) (sym e) (makes port t m)
+pub new_one : (port : ℕ) (v : View) (t m : ℕ) → v ≡ Draining t m [] [] → Forks Holds port v (made_one v) (new_seat v)
+new_one port v t m e = subst (λ (y : View). Forks Holds port y (made_one y) (new_seat y)) (sym e) (λ items views b at. makes port t m (contents items) views b at)
 
 pub joins : (port : ℕ) (v : View) (t m : ℕ) (got : List Submission) (known : List SeatLog) (other : ℕ) (w : View) (s n : ℕ) (sent : List Submission)
-    → v ≡ Draining t m got known → w ≡ Sending s n sent → Merges Invariant port v other w (informed v w) Spent
+    → v ≡ Draining t m got known → w ≡ Sending s n sent → Merges Holds port v other w (informed v w) Spent
 joins port v t m got known other w s n sent e f =
-    subst (λ (y : View × View). Merges Invariant port y.0 other y.1 (informed y.0 y.1) Spent) (λ i. (sym e i, sym f i)) (finishes port t m got known other s n sent)
+    subst (λ (y : View × View). Merges Holds port y.0 other y.1 (informed y.0 y.1) Spent) (λ i. (sym e i, sym f i))
+    (λ items views b at apart theirs. finishes port t m got known other s n sent (contents items) views b at apart theirs)
 
-pub looks : (port : ℕ) (v : View) (t m : ℕ) (got : List Submission) (known : List SeatLog) → v ≡ Draining t m got known → Learns Invariant port v (Shows v)
-looks port v t m got known e = learns port v (λ z. cc)
+pub looks : (port : ℕ) (v : View) (t m : ℕ) (got : List Submission) (known : List SeatLog) → v ≡ Draining t m got known → Learns Holds port v (ShowsIn v)
+looks port v t m got known e items views b at = learns port v (λ z. cc) (contents items) views b at
 
 -- ---- the law on every moment
 pub taken_first : TakenComesFirst
@@ -377,12 +444,53 @@ Sees n s sent held = (taken : List Submission) × IsHistory n (taken ++ held) ×
 seat_sees : (v : View) (s t n : ℕ) (l held : List Submission) → v ≡ Sending s t l → t ≡ n → Shows v held → Sees n s l held
 seat_sees v s t n l held e m sh = (sh.0, subst (λ k. IsHistory k (sh.0 ++ held)) (ap seats_in e ∙ m) sh.1, sh.2 s l (subst (λ (y : View). Knows y s l) (sym e) (refl, refl)))
 
-pub seat_found_full : (v : View) (s n cap : ℕ) → v ≡ Sending s (seats_in v) (sent_in v) → seats_in v ≡ n → Held cap (Shows v) → Held cap (Sees n s (sent_in v))
-seat_found_full v s n cap e m h = (h.0, h.1, seat_sees v s (seats_in v) n (sent_in v) h.0 e m h.2)
+pub seat_found_full : (v : View) (s n cap : ℕ) → v ≡ Sending s (seats_in v) (sent_in v) → seats_in v ≡ n → Held cap (ShowsIn v) → Held cap (λ held. Sees n s (sent_in v) (contents held))
+seat_found_full v s n cap e m h = (h.0, h.1, seat_sees v s (seats_in v) n (sent_in v) (contents h.0) e m h.2)
 
-pub seat_pushed : (v w : View) (s n : ℕ) (x y : Submission) → v ≡ Sending s (seats_in v) (sent_in v) → seats_in v ≡ n → x ≡ y → Submitted v x w
-    → (before : List Submission) × Sees n s (sent_in w) (before ++ y ∷ [])
-seat_pushed v w s n x y e m same r =
-    let z : w ≡ Sending s (seats_in v) (sent_in v ++ x ∷ []) = r.0 ∙ ap (λ (u : View). with_sent u x) e in
+abbrev pub SubmittedAll : View → List Submission → View → Type 0
+SubmittedAll v xs w = (w ≡ with_sent v xs) × ((before : List Submission) × Shows w (before ++ xs))
+
+sent_more : (v w : View) (s : ℕ) (xs : List Submission) → v ≡ Sending s (seats_in v) (sent_in v) → SubmittedAll v xs w → w ≡ Sending s (seats_in v) (sent_in v ++ xs)
+sent_more v w s xs e r = r.0 ∙ ap (λ (u : View). with_sent u xs) e
+
+numbered-length : (s k : ℕ) (os : List Order) → length (numbered s k os) ≡ length os
+numbered-length s k [] = refl
+numbered-length s k (o ∷ os) = ap suc (numbered-length s (k + 1) os)
+
+-- the seat that submitted more
+pub seat_after : (v w : View) (s k : ℕ) (os : List Order) → v ≡ Sending s (seats_in v) (sent_in v) → SubmittedAll v (numbered s k os) w
+    → (w ≡ Sending s (seats_in w) (sent_in w)) × (seats_in w ≡ seats_in v) × (length (sent_in w) ≡ length (sent_in v) + length os)
+seat_after v w s k os e r =
+    let z : w ≡ Sending s (seats_in v) (sent_in v ++ numbered s k os) = sent_more v w s (numbered s k os) e r in (
+      z ∙ (λ i. Sending s (sym (ap seats_in z) i) (sym (ap sent_in z) i)),
+      ap seats_in z,
+      ap (λ (u : View). length (sent_in u)) z ∙ omega (arith, length-append (sent_in v) (numbered s k os), numbered-length s k os),
+    )
+
+pub seat_pushed : (v w : View) (s n : ℕ) (xs ys : List Submission) → v ≡ Sending s (seats_in v) (sent_in v) → seats_in v ≡ n → xs ≡ ys → SubmittedAll v xs w
+    → (before : List Submission) × Sees n s (sent_in w) (before ++ ys)
+seat_pushed v w s n xs ys e m same r =
+    let z : w ≡ Sending s (seats_in v) (sent_in v ++ xs) = sent_more v w s xs e r in
     let z' : w ≡ Sending s (seats_in v) (sent_in w) = z ∙ ap (λ (l : List Submission). Sending s (seats_in v) l) (sym (ap sent_in z)) in
-    (r.1.0, subst (λ (i : Submission). Sees n s (sent_in w) (r.1.0 ++ i ∷ [])) same (seat_sees w s (seats_in v) n (sent_in w) (r.1.0 ++ x ∷ []) z' m r.1.1))
+    (r.1.0, subst (λ (i : List Submission). Sees n s (sent_in w) (r.1.0 ++ i)) same (seat_sees w s (seats_in v) n (sent_in w) (r.1.0 ++ xs) z' m r.1.1))
+
+-- ---- what a drain knows after a pop
+abbrev pub TookAll : View → List Submission → View → Type 0
+TookAll v xs w = (w ≡ with_taken v xs) × ((rest : List Submission) × Shows w rest)
+
+pub drain_after : (v w : View) (xs : List Submission) → v ≡ Draining (seats_in v) (seats_in v) (taken_in v) [] → TookAll v xs w
+    → (w ≡ Draining (seats_in w) (seats_in w) (taken_in w) []) × (seats_in w ≡ seats_in v) × (taken_in w ≡ taken_in v ++ xs) × ((rest : List Submission) × IsHistory (seats_in w) (taken_in w ++ rest))
+drain_after v w xs e r =
+    let z : w ≡ Draining (seats_in v) (seats_in v) (taken_in v ++ xs) [] = r.0 ∙ ap (λ (u : View). with_taken u xs) e in
+    let got : taken_in w ≡ r.1.1.0 = subst (λ (u : View). TakenIs u r.1.1.0 → taken_in u ≡ r.1.1.0) (sym z) (λ t. t) r.1.1.3 in (
+      z ∙ (λ i. Draining (sym (ap seats_in z) i) (sym (ap seats_in z) i) (sym (ap taken_in z) i) []),
+      ap seats_in z,
+      ap taken_in z,
+      (r.1.0, subst (λ (t : List Submission). IsHistory (seats_in w) (t ++ r.1.0)) (sym got) r.1.1.1),
+    )
+
+-- what it found where nothing was held
+pub drain_found : (v : View) (n : ℕ) (held : List Parcel) → v ≡ Draining (seats_in v) (seats_in v) (taken_in v) [] → seats_in v ≡ n → ShowsIn v held → IsHistory n (taken_in v ++ contents held)
+drain_found v n held e same sh =
+    let got : taken_in v ≡ sh.0 = subst (λ (u : View). TakenIs u sh.0 → taken_in u ≡ sh.0) (sym e) (λ t. t) sh.3 in
+    subst (λ (m : ℕ). IsHistory m (taken_in v ++ contents held)) same (subst (λ (t : List Submission). IsHistory (seats_in v) (t ++ contents held)) (sym got) sh.1)

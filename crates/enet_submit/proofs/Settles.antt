@@ -1,7 +1,7 @@
 -- What the end of the queue rests on: facts about lists.
-use Rattle.std.proofs.Common.{◌≡◌, ◌≢◌, ℕ, suc, ◌+◌, ◌<◌, ◌≤◌, ◌==◌, ◌⊎◌, inl, inr, ⊎_elim, cond, List, [], ◌∷◌, ◌++◌, length, sum, get_or, sym, refl, ap, ◌∙◌, subst, append-nil, lt_of_not-le, length-append, arith, eq-eqb, ne_eqb}
+use Rattle.std.proofs.Common.{◌≡◌, ◌≢◌, ℕ, suc, ◌+◌, ◌<◌, ◌≤◌, ◌==◌, ◌⊎◌, inl, inr, ⊎_elim, cond, List, [], ◌∷◌, ◌++◌, length, sum, get_or, sym, refl, ap, ◌∙◌, subst, append_assoc, append-nil, lt_of_not-le, length-append, arith, eq-eqb, ne_eqb}
 use Rattle.std.specs.List.{All, Contains}
-use Rattle.std.proofs.lemmas.List.Elements.{filter-append, All-nil, All-cons, Contains-append_cases, Contains-get_or}
+use Rattle.std.proofs.lemmas.List.Elements.{filter-append, All-nil, All-cons, All-contains, Contains-append_cases, Contains-get_or}
 use Rattle.std.proofs.lemmas.List.{get_or_append_left, nil_from_length}
 use Rattle.std.proofs.lemmas.List.Sums.{sum_by-cons}
 use native.Mathlib.Decide.{ℕ_discrete, dec_lt}
@@ -14,10 +14,15 @@ use Rattle.enet_submit.specs.declared.rule.View.{View}
 use Rattle.enet_submit.specs.declared.rule.View.TheVariants.{Draining, Sending}
 use Rattle.enet_submit.specs.declared.token.Seat.{Seat}
 use Rattle.enet_submit.specs.declared.token.Finished.{Finished}
+use Rattle.enet_submit.specs.declared.token.Drain.{Drain}
+use Rattle.enet_submit.specs.declared.queue.SubmitQueue.{SubmitQueue}
+use Rattle.crossbeam_queue.specs.Passes.{view}
+use Rattle.crossbeam_queue.specs.Fifo.{Held}
 use Rattle.enet_submit.specs.History.{of, IsHistory}
-use Rattle.enet_submit.specs.Rule.{log, Among, Shows, sent_in, informed}
+use Rattle.enet_submit.specs.Parcels.{left_of}
+use Rattle.enet_submit.specs.Rule.{log, Among, Shows, seats_in, sent_in, taken_in, informed}
 use Rattle.enet_submit.specs.Private.Rule.{finished_in}
-use Rattle.enet_submit.specs.Words.{EachFrom, HasSent, seat_of, all_sent}
+use Rattle.enet_submit.specs.Words.{EachFrom, HasSent, AllBack, DrainSees, IsFinishedOf, seats_of, taken, seat_of, all_sent}
 
 -- ---- seats in a row
 each_more : (P : ℕ → Seat → Type 0) (k : ℕ) (xs : List Seat) (x : Seat) → EachFrom k P xs → P (k + length xs) x → EachFrom k P (xs ++ x ∷ [])
@@ -175,3 +180,33 @@ module _ (n : ℕ) (got : List Submission) (known : List SeatLog) (items : List 
 
 pub to_all : (P : Finished → Type 0) (fs : List Finished) → ((f : Finished) → Contains fs f → P f) → All P fs
 to_all P fs h = λ k d lt. h (get_or fs k d) (Contains-get_or fs k d lt)
+
+-- what is left of packets for several peers was not taken yet
+shows_left : (n : ℕ) (all got left : List Submission) (known : List SeatLog) (items : List Submission) → got ++ left ≡ all → Shows (Draining n n all known) items → Shows (Draining n n got known) (left ++ items)
+shows_left n all got left known items e sh =
+    let same : sh.0 ++ items ≡ got ++ (left ++ items) = ap (λ (zs : List Submission). zs ++ items) (sym sh.3 ∙ sym e) ∙ append_assoc got left items in
+    (got, subst (IsHistory n) same sh.1, λ s l k. ap (of s) (sym same) ∙ sh.2 s l k, refl)
+
+-- what is known once each seat is back
+pub record Ended (q : SubmitQueue) (d : Drain) (fs : List Finished) : Type 0 where
+  pub total : sum d.counts ≡ length (taken d)
+  pub each : All (λ f. of (seat_of f) (taken d) ≡ all_sent f) fs
+  pub empty : Held 0 (DrainSees q d)
+
+pub ended : (q : SubmitQueue) (d : Drain) (fs : List Finished) (w : View) (held : List Submission) → length d.counts ≡ 16 → seats_in (view d.pass) ≡ seats_of q → All (IsFinishedOf q) fs → AllBack q d fs
+    → w ≡ Draining (seats_in (view d.pass)) (seats_in (view d.pass)) (taken_in (view d.pass)) (finished_in w) → Shows w held → ((f : Finished) → Contains fs f → Among (log (seat_of f) (all_sent f)) (finished_in w))
+    → Ended q d fs
+ended q d fs w held len own theirs back is shows among =
+    let n : ℕ = seats_in (view d.pass) in
+    let got : List Submission = taken d in
+    let known : List SeatLog = finished_in w in
+    let left : List Submission = left_of d.seat d.number d.rest in
+    let sh : Shows (Draining n n got known) (left ++ held) = shows_left n (taken_in (view d.pass)) got left known held d.ends (subst (λ (v : View). Shows v held) is shows) in
+    let all : (s : ℕ) → s < n → HasSent s (length (of s got)) fs = λ s lt. back s (omega (arith, own)) in
+    record {
+      total = sum_of_counts got n d.counts (got_within n got known (left ++ held) sh) (omega (arith, d.few, len)) (λ s lt. d.counted s (omega (arith, len)));
+      each = to_all (λ f. of (seat_of f) got ≡ all_sent f) fs (λ f is.
+          let its : IsFinishedOf q f = All-contains (IsFinishedOf q) fs f theirs is in
+          all_taken n got known (left ++ held) sh fs all among f is (omega (arith, f.within, its.1, own)));
+      empty = (left ++ held, none_held n got known (left ++ held) sh fs all among, subst (λ m. IsHistory m (got ++ (left ++ held))) own (seen n got known (left ++ held) sh));
+    }

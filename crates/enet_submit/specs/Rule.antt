@@ -1,11 +1,13 @@
 -- What holds at every moment, whatever the schedule, and what a step tells the token that takes it.
-use Rattle.std.specs.Prelude.{◌≡◌, ℕ, ◌+◌, ◌<◌, ◌≤◌, ◌⊎◌, List, [], ◌∷◌, ◌++◌, length}
+use Rattle.std.specs.Prelude.{◌≡◌, ℕ, ◌+◌, ◌≤◌, ◌⊎◌, List, [], ◌∷◌, ◌++◌}
 use mathlib.Core.Option.{some}
 use lib.ListN.{get_elem?}
 use Rattle.enet_submit.specs.declared.order.Submission.{Submission}
 use Rattle.enet_submit.specs.declared.rule.SeatLog.{SeatLog}
 use Rattle.enet_submit.specs.declared.rule.View.{View}
 use Rattle.enet_submit.specs.declared.rule.View.TheVariants.{Draining, Sending, Spent}
+use Rattle.enet_submit.specs.declared.order.Parcel.{Parcel}
+use Rattle.enet_submit.specs.Parcels.{spelled, contents}
 use Rattle.enet_submit.specs.History.{of, IsHistory, StartsWith}
 
 abbrev pub log : ℕ → List Submission → SeatLog
@@ -62,6 +64,10 @@ pub record Invariant (held : List Submission) (views : List View) : Type 0 where
   pub agrees : (pass : ℕ) (v : View) → get_elem? views pass ≡ some v → Agrees drain seats taken pass v
   pub known : (pass : ℕ) (v : View) → get_elem? views pass ≡ some v → (s : ℕ) (items : List Submission) → Knows v s items → (owner s ≡ pass) × (of s (taken ++ held) ≡ items)
 
+-- the same of what the places of the queue hold
+abbrev pub Holds : List Parcel → List View → Type 0
+Holds held views = Invariant (contents held) views
+
 -- ---- what a step does to the view
 abbrev pub widened : View → View
 widened (Draining seats made taken finished) = Draining (seats + 1) made taken finished
@@ -85,15 +91,15 @@ informed (Draining seats made taken finished) Spent = Draining seats made taken 
 informed (Sending seat seats sent) w = Sending seat seats sent
 informed Spent w = Spent
 
-abbrev pub with_sent : View → Submission → View
-with_sent (Draining seats made taken finished) x = Draining seats made taken finished
-with_sent (Sending seat seats sent) x = Sending seat seats (sent ++ x ∷ [])
-with_sent Spent x = Spent
+abbrev pub with_sent : View → List Submission → View
+with_sent (Draining seats made taken finished) xs = Draining seats made taken finished
+with_sent (Sending seat seats sent) xs = Sending seat seats (sent ++ xs)
+with_sent Spent xs = Spent
 
-abbrev pub with_taken : View → Submission → View
-with_taken (Draining seats made taken finished) x = Draining seats made (taken ++ x ∷ []) finished
-with_taken (Sending seat seats sent) x = Sending seat seats sent
-with_taken Spent x = Spent
+abbrev pub with_taken : View → List Submission → View
+with_taken (Draining seats made taken finished) xs = Draining seats made (taken ++ xs) finished
+with_taken (Sending seat seats sent) xs = Sending seat seats sent
+with_taken Spent xs = Spent
 
 -- ---- what a step tells
 abbrev pub TakenIs : View → List Submission → Type 0
@@ -108,15 +114,16 @@ Shows v held =
     × ((s : ℕ) (items : List Submission) → Knows v s items → of s (taken ++ held) ≡ items)
     × TakenIs v taken
 
--- the item joined the token's list, and stood last in the queue
-abbrev pub Submitted : View → Submission → View → Type 0
-Submitted v x w = (w ≡ with_sent v x) × ((before : List Submission) × Shows w (before ++ x ∷ []))
+abbrev pub ShowsIn : View → List Parcel → Type 0
+ShowsIn v held = Shows v (contents held)
 
--- the item, the next one of its seat, joined what the token took, and left the rest in the queue
-abbrev pub Took : View → Submission → View → Type 0
-Took v x w =
-    (w ≡ with_taken v x) × (x.seat < seats_in v) × (x.number ≡ length (of x.seat (taken_in v))) × (x.number < 4294967295)
-    × ((rest : List Submission) × Shows w rest)
+-- what a place holds joined the token's list, and stood last in the queue
+abbrev pub Submitted : View → Parcel → View → Type 0
+Submitted v x w = (w ≡ with_sent v (spelled x)) × ((before : List Submission) × Shows w (before ++ spelled x))
+
+-- what a place held joined what the token took, and left the rest in the queue
+abbrev pub Took : View → Parcel → View → Type 0
+Took v x w = (w ≡ with_taken v (spelled x)) × ((rest : List Submission) × Shows w rest)
 
 -- ---- the law on every moment
 -- what a seat was told Ok is its part of the history, and begins with what was taken of it

@@ -10,7 +10,9 @@ use Rattle.enet_submit.specs.declared.queue.SubmitQueue.{SubmitQueue}
 use Rattle.enet_submit.specs.declared.token.Seat.{Seat}
 use Rattle.enet_submit.specs.declared.token.Drain.{Drain}
 use Rattle.enet_submit.specs.declared.token.Finished.{Finished}
+use Rattle.enet_submit.specs.declared.order.Parcel.{Parcel}
 use Rattle.enet_submit.specs.History.{of, IsHistory}
+use Rattle.enet_submit.specs.Parcels.{numbered, contents, left_of, all_but}
 use Rattle.enet_submit.specs.Rule.{seats_in, sent_in, taken_in}
 
 -- ---- what a queue and its tokens show
@@ -33,7 +35,7 @@ sent s = sent_in (view s.pass)
 
 -- what the drain took, in order
 abbrev pub taken : Drain → List Submission
-taken d = taken_in (view d.pass)
+taken d = all_but (taken_in (view d.pass)) (left_of d.seat d.number d.rest)
 
 -- which seat was given up
 abbrev pub seat_of : Finished → ℕ
@@ -94,6 +96,12 @@ IsNext old order new ticket =
     let number = length (sent old) in
     (ticket ≡ record { seat = number_of old; number = number }) × (sent new ≡ sent old ++ submission (number_of old) number order ∷ [])
 
+-- the seat's list grows by these orders, under the next numbers, and the ticket says the first of these
+abbrev pub AreNext : Seat → List Order → Seat → Ticket → Type 0
+AreNext old orders new ticket =
+    let number = length (sent old) in
+    (ticket ≡ record { seat = number_of old; number = number }) × (sent new ≡ sent old ++ numbered (number_of old) number orders)
+
 -- while the queue holds these items: behind what was taken they make a history, and the seat's part of it is what the seat was told Ok
 abbrev pub SeatSees : SubmitQueue → Seat → List Submission → Type 0
 SeatSees q s held = (taken : List Submission) × IsHistory (seats_of q) (taken ++ held) × (of (number_of s) (taken ++ held) ≡ sent s)
@@ -101,6 +109,14 @@ SeatSees q s held = (taken : List Submission) × IsHistory (seats_of q) (taken +
 -- at one moment of the call the queue held some items, and behind them this one
 abbrev pub StoodLast : SubmitQueue → Seat → Submission → Type 0
 StoodLast q s item = (before : List Submission) × SeatSees q s (before ++ item ∷ [])
+
+-- the same of several
+abbrev pub AllStoodLast : SubmitQueue → Seat → List Submission → Type 0
+AllStoodLast q s items = (before : List Submission) × SeatSees q s (before ++ items)
+
+-- the same while the places of the queue hold these, each at least one item
+abbrev pub SeatSeesIn : SubmitQueue → Seat → List Parcel → Type 0
+SeatSeesIn q s held = SeatSees q s (contents held)
 
 -- ---- take
 -- while the queue holds these items: what the drain took, and then they, are a history

@@ -1,11 +1,11 @@
 //! How a queue is opened: its seats are counted, and then made one by one.
-ghost use Rattle.std.specs.Prelude.{◌≡◌, ◌↔◌, ◌<◌, [], length, IsTrue, IfOk};
+ghost use Rattle.std.specs.Prelude.{◌≡◌, ◌↔◌, ◌<◌, ◌≤◌, [], length, IsTrue, IfOk};
 ghost use Rattle.std.specs.Vec.{vec_capacity};
 ghost use Rattle.crossbeam_queue.specs.Passes.{view, IsPassOf};
 ghost use Rattle.enet_submit.specs.Rule.{draining, sending, seats_in};
-ghost use Rattle.enet_submit.specs.Words.{seats_of, IsInRange, IsOpened, IsSeatOf, IsNew, EachFrom};
+ghost use Rattle.enet_submit.specs.Words.{seats_of, taken, IsInRange, IsOpened, IsSeatOf, IsNew, EachFrom};
 
-use crate::order::Submission;
+use crate::order::Parcel;
 use crate::queue::{Ring, SubmitQueue};
 use crate::rule::{Makes, View, Widens};
 use crate::token::{Drain, Seat};
@@ -41,15 +41,25 @@ pub(crate) fn opened(
     };
     widen(&queue, &mut pass);
     let all = make_seats(&queue, &mut pass, all);
-    let drain = Drain {
+    Ok((queue, all, new_drain(pass)))
+}
+
+fn new_drain(pass: Pass<Parcel, View>) -> Drain
+    requires few { seats_in (view pass) ≤ 16 }
+    requires pass { (pass.me.1 ≡ []) × (view pass ≡ draining (seats_in (view pass)) (seats_in (view pass)) [] []) }
+    ensures { (result.pass ≡ pass) × (taken result ≡ []) }
+{
+    Drain {
         counts: [0; 16],
         pass,
-    };
-    Ok((queue, all, drain))
+        seat: 0,
+        number: 0,
+        rest: None,
+    }
 }
 
 // Tells the drain how many seats there are to be, before the first is made.
-fn widen(queue: &SubmitQueue, pass: &mut Pass<Submission, View>)
+fn widen(queue: &SubmitQueue, pass: &mut Pass<Parcel, View>)
     requires { IsPassOf queue.now.ring pass.old × (view pass.old ≡ draining 0 0 [] []) }
     ensures { IsPassOf queue.now.ring pass.new × (view pass.new ≡ draining (seats_of queue.now) 0 [] []) }
 {
@@ -58,11 +68,7 @@ fn widen(queue: &SubmitQueue, pass: &mut Pass<Submission, View>)
     }
 }
 
-fn make_seats(
-    queue: &SubmitQueue,
-    pass: &mut Pass<Submission, View>,
-    mut all: Vec<Seat>,
-) -> Vec<Seat>
+fn make_seats(queue: &SubmitQueue, pass: &mut Pass<Parcel, View>, mut all: Vec<Seat>) -> Vec<Seat>
     requires pass { IsPassOf queue.now.ring pass.old × (view pass.old ≡ draining (seats_of queue.now) 0 [] []) }
     requires room { (all.items ≡ []) × (vec_capacity all ≡ seats_of queue.now) }
     ensures pass { IsPassOf queue.now.ring pass.new × (view pass.new ≡ draining (seats_of queue.now) (seats_of queue.now) [] []) }
@@ -75,7 +81,7 @@ fn make_seats(
     all
 }
 
-fn new_seat(number: u8, pass: Pass<Submission, View>) -> Seat
+fn new_seat(number: u8, pass: Pass<Parcel, View>) -> Seat
     requires { (pass.me.1 ≡ []) × (view pass ≡ sending number (seats_in (view pass)) []) × (number < seats_in (view pass)) }
     ensures { (result.pass ≡ pass) × IsNew number result }
 {

@@ -1,5 +1,8 @@
 //! What goes through the queue, and what its calls answer.
+ghost use Rattle.std.specs.Prelude.{◌<◌, length};
+ghost use Rattle.enet_submit.specs.Requests.{orders_of};
 
+use crate::broadcast::Broadcast;
 use bytes::Bytes;
 use enet_codec::{Addr, DisconnectMode, PeerRef};
 
@@ -26,6 +29,22 @@ pub enum Order {
         how: DisconnectMode,
         info: u32,
     },
+}
+
+/// What is asked for at once: an order, or packets for several peers.
+#[derive(Drop)]
+pub enum Request {
+    One(Order),
+    Each(Broadcast),
+}
+
+/// What one place of the queue holds: what a seat asked for at once, with the number there of its first order.
+#[derive(Drop)]
+pub struct Parcel {
+    pub seat: u8,
+    pub number: u32,
+    pub request: Request,
+    pub ghost some: { 0 < length (orders_of request) },
 }
 
 /// An order with the seat that submitted it and its number there, from 0.

@@ -1,6 +1,6 @@
 //! The rule of the queue: what holds at every moment of what it holds and of what each thread knows. All of this is for
 //! proofs; no value of these types is made.
-use crate::order::Submission;
+use crate::order::{Parcel, Submission};
 use crossbeam_queue::protocol::{Join, Lesson, Outcome, Protocol, Split};
 use std::collections::LinkedList;
 
@@ -33,11 +33,11 @@ pub enum View {
 /// What was taken and what is held make a history.
 pub struct InOrder;
 
-impl Protocol<Submission, View> for InOrder {
+impl Protocol<Parcel, View> for InOrder {
     ghost use Rattle.std.specs.Prelude.{[]};
-    ghost use Rattle.enet_submit.specs.Rule.{Invariant, draining};
+    ghost use Rattle.enet_submit.specs.Rule.{Holds, draining};
 
-    ghost holds = { Invariant };
+    ghost holds = { Holds };
 
     ghost first = { draining 0 0 [] [] };
 }
@@ -78,29 +78,29 @@ impl Join<View> for Finishes {
 /// A push, or a push that finds the queue full.
 pub struct Submits;
 
-impl Outcome<Submission, View> for Submits {
+impl Outcome<Parcel, View> for Submits {
     ghost use Rattle.enet_submit.specs.Rule.{Submitted};
 
     ghost then = { Submitted };
 }
 
-impl Lesson<Submission, View> for Submits {
-    ghost use Rattle.enet_submit.specs.Rule.{Shows};
+impl Lesson<Parcel, View> for Submits {
+    ghost use Rattle.enet_submit.specs.Rule.{ShowsIn};
 
-    ghost fact = { Shows };
+    ghost fact = { ShowsIn };
 }
 
 /// A pop, or a pop that finds the queue empty.
 pub struct Takes;
 
-impl Outcome<Submission, View> for Takes {
+impl Outcome<Parcel, View> for Takes {
     ghost use Rattle.enet_submit.specs.Rule.{Took};
 
     ghost then = { Took };
 }
 
-impl Lesson<Submission, View> for Takes {
-    ghost use Rattle.enet_submit.specs.Rule.{Shows};
+impl Lesson<Parcel, View> for Takes {
+    ghost use Rattle.enet_submit.specs.Rule.{ShowsIn};
 
-    ghost fact = { Shows };
+    ghost fact = { ShowsIn };
 }

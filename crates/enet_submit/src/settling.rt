@@ -6,7 +6,7 @@ ghost use Rattle.enet_submit.specs.Rule.{draining, seats_in, taken_in, log, Amon
 ghost use Rattle.enet_submit.specs.Private.Rule.{finished_in};
 ghost use Rattle.enet_submit.specs.Words.{seat_of, all_sent, IsFinishedOf, AllBack, HasSent};
 
-use crate::order::Submission;
+use crate::order::Parcel;
 use crate::queue::SubmitQueue;
 use crate::rule::{Finishes, View};
 use crate::token::{Drain, Finished};
@@ -38,9 +38,9 @@ fn has_sent(finished: &[Finished], seat: u8, count: u32) -> bool
 // The drain's pass, which then knows what each of these seats submitted.
 pub(crate) fn take_in(
     queue: &SubmitQueue,
-    pass: Pass<Submission, View>,
+    pass: Pass<Parcel, View>,
     mut finished: Vec<Finished>,
-) -> Pass<Submission, View>
+) -> Pass<Parcel, View>
     requires pass { IsPassOf queue.now.ring pass × (view pass ≡ draining (seats_in (view pass)) (seats_in (view pass)) (taken_in (view pass)) []) }
     requires seats { All (IsFinishedOf queue.now) finished.items }
     ensures pass { IsPassOf queue.now.ring result × (view result ≡ draining (seats_in (view pass)) (seats_in (view pass)) (taken_in (view pass)) (finished_in (view result))) }

@@ -1,9 +1,2 @@
-pub mod Commands
-pub mod Counts
-pub mod Belonging
 pub mod Places
-pub mod Readings
-pub mod Unread
-pub mod Timelines
-pub mod Parts
 pub mod Queues

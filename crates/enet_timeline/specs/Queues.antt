@@ -1,9 +1,9 @@
 -- The reliable numbers that wait for their acknowledgement.
 use Rattle.std.specs.Prelude.{◌&&◌, not, Bool}
 use Rattle.enet_timeline.specs.declared.queue.Waiting.{Waiting}
-use Rattle.enet_timeline.specs.declared.timeline.Mark.{Mark}
-use Rattle.enet_timeline.specs.Commands.{answers, is_same}
-use Rattle.enet_timeline.specs.Counts.{same_way}
+use Rattle.enet_captured.specs.declared.timeline.Mark.{Mark}
+use Rattle.enet_captured.specs.Commands.{answers, is_same}
+use Rattle.enet_captured.specs.Counts.{same_way}
 
 -- A command answers what waits.
 abbrev pub is_answer_to : Mark → Waiting → Bool

@@ -1,16 +1,13 @@
 //! The picture.
 
-use crate::counting::{goes_again, went_before};
 use crate::element::{
     push_cross, push_left_head, push_line, push_right_head, push_title, push_words,
 };
 use crate::labels::{label, push_seconds, title};
-use crate::part::{Part, part_of};
 use crate::places::{LEFT, PAGE, RIGHT, is_long, step_of};
 use crate::queue::{Waiting, follow, push_left_over};
 use crate::summary::{push_part, push_whole};
-use crate::timeline::{Mark, Seen, Timeline, Way};
-use crate::told::Kind;
+use enet_captured::{Kind, Mark, Part, Seen, Timeline, Way, goes_again, part_of, went_before};
 use enet_text::address_text;
 use std::alloc::{AllocError, Global};
 
@@ -129,22 +126,22 @@ fn push_summary(pen: &mut Pen, summary: &str) -> Result<(), AllocError> {
 const LEGEND: [(u64, &str, &str); 7] = [
     (16, "data", "reliable"),
     (120, "plain", "unreliable, unsequenced"),
-    (300, "control", "connection"),
-    (410, "ping", "ping"),
-    (486, "ack", "acknowledgements"),
-    (630, "unread", "can't be read"),
-    (752, "data again", "sent again"),
+    (306, "control", "connection"),
+    (414, "ping", "ping"),
+    (484, "ack", "acknowledgements"),
+    (640, "unread", "can't be read"),
+    (758, "data again", "sent again"),
 ];
 
 // What the looks of arrows say.
 fn push_legend(pen: &mut Pen) -> Result<(), AllocError> {
     let y = pen.y.saturating_add(4);
     push_samples(&mut pen.text, y)?;
-    push_cross(&mut pen.text, "cross", 866, y)?;
+    push_cross(&mut pen.text, "cross", 870, y)?;
     push_words(
         &mut pen.text,
         "sum",
-        876,
+        880,
         y.saturating_add(4),
         "goes again later: lost, or its acknowledgement",
     )?;

@@ -1,7 +1,6 @@
 //! What stands at an arrow, and what is told of it where the pointer rests.
 
-use crate::timeline::{Mark, Seen};
-use crate::told::{Detail, Kind, Told};
+use enet_captured::{Detail, Kind, Mark, Seen, Told};
 use enet_codec::CONTROL_CHANNEL;
 use std::alloc::{AllocError, Global};
 

@@ -1,36 +1,18 @@
-//! A capture as a picture: which connections it holds, what went between their ends and when, what went again, and what waited for its
-//! acknowledgement; in words, and as an SVG.
+//! What a capture holds (`enet_captured`), in words, and as a picture (SVG).
 //!
-//! Proved, by the definitions of specs/: which commands a datagram says, and why the rest can't be read (`read_commands`, by `Says`); what
-//! is kept of a command (`told_of`), and that those of a datagram stand behind one another (`push_marks`); when it was captured
-//! (`moment_of`); between which connections' ends it goes, which is the last such connection, and whether it goes on with that
-//! (`way_in`, `last_between`, `goes_on`); what of a capture belongs to a connection (`part_of`, by `IsPart`); which commands went before and
-//! go again, and how many (`went_before`, `goes_again`, `resends`); what answers a command (`answers`); how many commands are of a kind, and
-//! how many datagrams go one way or can't be read (`count_of`, `going`, `stopped_by`); how far below the one before it a datagram stands
-//! (`step_of`).
-//! Only tested, by scripts/check-inspect.sh over 446 captured datagrams, crowds, random datagrams and captures that are cut short: that a
-//! datagram is put into the connection that was found (`seat_for`, `note`); how many commands aren't acknowledged, and the longest gap; the
-//! text of the summary; that the picture is XML, and has an arrow for each datagram, with what went before and what goes again marked.
+//! Proved, by the definitions of specs/: how far below the one before it a datagram stands (`step_of`); what of the commands that wait an
+//! answer is of, and which is sent again (`answered`, `waiting_place`).
+//! Only tested, by scripts/check-inspect.sh over 446 captured datagrams, crowds, random datagrams and captures that are cut short: the text
+//! of the summary; that the picture is XML, and has an arrow for each datagram, with what went before and what goes again marked.
 //! Neither: where in the picture words stand, and the queue beside the ends.
 #![tactic(auto)]
 
-mod connections;
-mod counting;
 mod drawing;
 mod element;
-mod fault;
 mod labels;
-mod part;
 mod places;
 mod queue;
-mod reading;
 mod summary;
-mod timeline;
-mod told;
 
 pub use drawing::draw;
-pub use fault::TimelineFault;
-pub use part::{Part, part_of};
 pub use summary::summarize;
-pub use timeline::{Connection, Mark, Seen, Timeline, Way, read_timeline};
-pub use told::{Detail, Kind, Told};

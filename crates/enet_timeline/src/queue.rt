@@ -3,12 +3,10 @@
 ghost use Rattle.std.specs.Prelude.{◌≡◌, position};
 ghost use Rattle.enet_timeline.specs.Queues.{is_answer_to, is_of};
 
-use crate::counting::{answers, is_same};
 use crate::element::{push_dot, push_line, push_words};
 use crate::labels::push_channel;
 use crate::places::{LANES, left_lane, right_lane};
-use crate::timeline::{Mark, Way};
-use crate::told::Told;
+use enet_captured::{Mark, Told, Way, answers, is_same};
 use std::alloc::{AllocError, Global};
 
 /// No more numbers than these are followed at once.

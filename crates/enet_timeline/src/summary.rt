@@ -1,11 +1,11 @@
 //! The summary in words.
 
-use crate::counting::{count_of, going, longest_gap, resends, stopped_by, unanswered};
 use crate::drawing::{CONNECTIONS, DATAGRAMS};
 use crate::labels::push_seconds;
-use crate::part::{Part, part_of};
-use crate::timeline::{Seen, Timeline, Way};
-use crate::told::Kind;
+use enet_captured::{
+    Kind, Part, Seen, Timeline, Way, count_of, going, longest_gap, part_of, resends, stopped_by,
+    unanswered,
+};
 use enet_codec::Stop;
 use enet_text::address_text;
 use std::alloc::{AllocError, Global};

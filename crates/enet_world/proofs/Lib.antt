@@ -2,3 +2,4 @@ pub mod Stepping
 pub mod Reaching
 pub mod Told
 pub mod Playing
+pub mod Calming

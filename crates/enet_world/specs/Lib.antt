@@ -1,3 +1,4 @@
 pub mod Worlds
 pub mod Private
 pub mod Transcript
+pub mod Calm

@@ -5,16 +5,18 @@
 //! by the network's definition (`Steps`): a refusal is the first that applies and changes nothing, and any other event makes its one
 //! host call on its side, with what that adds to what is kept. `run` is its steps in order (`Runs`). After each the headline holds
 //! of every connection, end and channel, whatever was connected before, at the same time or after, slots used again included
-//! (`HasHeadline`).
+//! (`HasHeadline`). `calm` is the stated rounds of such events in which the network loses nothing (`Rounds`), counted.
 //! Only tested, by scripts/rows, `check_lists` and `check_memory`: that calls succeed with ample memory, worked runs with their
 //! answers and bytes, and that a call which was refused for want of memory is answered as wanted when it is made again.
-//! Neither: that a datagram arrives, or that memory is there.
+//! Neither: that a datagram arrives, or that memory is there; nor that rounds without losses bring everything through.
 #![tactic(auto)]
 
+mod calm;
 mod happening;
 mod hosts;
 mod world;
 
+pub use calm::{Calm, Share};
 pub use happening::side_of;
 pub use law_network::{Answer, Side, WorldEvent};
 pub use world::World;

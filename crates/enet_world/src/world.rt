@@ -42,7 +42,7 @@ impl Model for World {
 }
 
 /// The other side.
-fn other(side: Side) -> Side
+pub(crate) fn other(side: Side) -> Side
     ensures { result ≡ other side }
 {
     match side {
@@ -171,7 +171,7 @@ impl World {
         Ok(answers)
     }
 
-    fn happen(&mut self, event: &WorldEvent) -> Result<Answer, Refusal>
+    pub(crate) fn happen(&mut self, event: &WorldEvent) -> Result<Answer, Refusal>
         ensures steps { Steps self.old.world event.now result self.new.world }
         ensures joined { self.new.joined ≡ self.old.joined }
     {

@@ -5,15 +5,19 @@ ghost use Rattle.example_game.specs.Guessing.{IsAnswer};
 
 use crate::rule::{answer, secret_of};
 use bytes::Bytes;
-use enet_codec::{DisconnectMode, Event, PeerRef, RELIABLE, Refusal};
+use enet_codec::{DisconnectMode, Event, Outward, PeerRef, RELIABLE, Refusal};
 use enet_service::{EventReceiver, OrderSender, Pumped, Signals};
-use enet_submit::Order;
+use enet_submit::{Broadcast, Order};
 use rand_core::utils::NextWord;
 use rand_pcg::Pcg32;
 use std::alloc::{AllocError, Global};
+use std::collections::VecDeque;
 use std::str;
 use std::sync::Wait;
 use std::sync::atomic::Ordering::SeqCst;
+
+/// What players are told where another one has won.
+const NEWS: &[u8] = b"somebody won";
 
 /// A client that is connected.
 #[derive(Drop)]
@@ -31,6 +35,8 @@ pub struct Game<'a> {
     dice: Pcg32,
     players: Vec<Player>,
     wins: u32,
+    // What all are to be told, and found no room yet.
+    news: VecDeque<Broadcast>,
     sender: OrderSender<'a>,
     receiver: EventReceiver<'a>,
 }
@@ -48,6 +54,7 @@ impl<'a> Game<'a> {
             dice: Pcg32::new(seed, 0),
             players: Vec::new(alloc),
             wins: 0,
+            news: VecDeque::new(alloc),
             sender,
             receiver,
         }
@@ -82,18 +89,34 @@ impl<'a> Game<'a> {
         unreachable!()
     }
 
-    // Hands the service what was asked for, and wakes it. What finds no room waits in the order sender, and events are taken on: a thread that
-    // waited for room here could wait for ever, since the service takes no orders while it has no room for an event.
+    // Hands the service what was asked for, and wakes it. What finds no room waits, and events are taken on: a thread that waited for room
+    // here could wait for ever, since the service takes no orders while it has no room for an event.
     fn submit<R: Wait>(&mut self, rt: &R) -> Result<(), Refusal> {
-        if self.sender.is_empty() {
+        if self.sender.is_empty() && self.news.is_empty() {
             return Ok(());
         }
-        let pumped = self.sender.submit(rt);
-        self.sender.ring();
-        match pumped {
-            Pumped::All | Pumped::Full => Ok(()),
+        let submitted = match self.sender.submit(rt) {
+            Pumped::All => self.spread_news(rt),
+            Pumped::Full => Ok(()),
             Pumped::Spent => Err(Refusal::SeatSpent),
+        };
+        self.sender.ring();
+        submitted
+    }
+
+    // What all are to be told takes one place of the queue, whatever their number.
+    fn spread_news<R: Wait>(&mut self, rt: &R) -> Result<(), Refusal> {
+        while let Some(news) = self.news.pop_front() {
+            match self.sender.submit_each(rt, news) {
+                Ok(()) => {}
+                Err((Refusal::Full, news)) => {
+                    self.news.push_front_reserved(news);
+                    return Ok(());
+                }
+                Err((why, _)) => return Err(why),
+            }
         }
+        Ok(())
     }
 
     fn note(&mut self, event: &Event) -> Result<(), Refusal> {
@@ -145,11 +168,37 @@ impl<'a> Game<'a> {
         if !won {
             return Ok(());
         }
+        self.tell_others(peer)?;
         self.sender.ask(Order::Disconnect {
             peer,
             how: DisconnectMode::Later,
             info: 0,
         })
+    }
+
+    // Tells all but the winner that somebody won, on channel 1.
+    fn tell_others(&mut self, winner: PeerRef) -> Result<(), Refusal> {
+        let packet = Outward {
+            except: Some(winner),
+            channel: 1,
+            flags: RELIABLE,
+            body: Bytes::from_static(NEWS),
+        };
+        let Ok(packets) = Vec::from_array(self.alloc, [packet]) else {
+            return Err(Refusal::Memory);
+        };
+        let news = Broadcast::new(self.all_peers()?, packets)?;
+        self.news.push_back(news).map_err(|_| Refusal::Memory)
+    }
+
+    fn all_peers(&self) -> Result<Vec<PeerRef>, Refusal> {
+        let mut peers = Vec::new(self.alloc);
+        for player in &self.players {
+            if peers.push(player.peer).is_err() {
+                return Err(Refusal::Memory);
+            }
+        }
+        Ok(peers)
     }
 
     fn part_from(&mut self, peer: PeerRef) {

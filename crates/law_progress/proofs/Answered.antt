@@ -79,11 +79,27 @@ pub same-cut : (o : Option ℕ) (told size : ℕ) → ((n : ℕ) → o ≡ Some 
 same-cut None told size h e = refl
 same-cut (Some n) told size h e = is-eqb n told (h n refl ∙ sym e)
 
+-- it agrees with what came, if that is of its packet
+pub agrees-came : (mtu : ℕ) (cs : List ChosenPacket) (r : Receiver) (d : DataCommand) (p : IsPieceOf mtu cs d) → Ready mtu cs r → (o : Option IncomingPacket)
+    → ((e : IncomingPacket) → o ≡ Some e → Matches mtu e.making p.packet) → agrees_with o (wired d) ≡ true
+agrees-came mtu cs r d p k None of_packet = refl
+agrees-came mtu cs r d p k (Some e) of_packet = elim (is_none (wired d).fragment) as (λ b. is_none (wired d).fragment ≡ b → (b || belongs e.making (place_in_packet (wired d))) ≡ true) [
+  | true ↦ λ f. refl
+  | false ↦ λ f.
+      let long = long-fragment mtu cs d p f in
+      let cut = k.cut p.packet (Stands-has cs p.number p.count p.packet p.stands) in
+      let sd = says mtu cs d p in
+      let tell = tells mtu cs d p cut in
+      let m = of_packet e refl in
+      belongs-by e.making (place_in_packet (wired d)) tell.sound (sd.pieces ∙ sym m.count) (tell.total ∙ sym m.total)
+      (same-cut e.making.cut (told_piece_len (place_in_packet (wired d))) (piece_length mtu) (m.cut long) (tell.cut long))
+] refl
+
 -- it agrees with what came of its packet
 agrees-meant : (mtu : ℕ) (cs : List ChosenPacket) (r : Receiver) (d : DataCommand) (p : IsPieceOf mtu cs d) → Ready mtu cs r → d.reliable ≡ true
     → (came_before unbounded r (wired d) ≡ None) ⊎ (came_before unbounded r (wired d) ≡ came_at r (wired d) (cond p.packet.reliable (p.number + 1) p.number)) → agrees_with (came_before unbounded r (wired d)) (wired d) ≡ true
 agrees-meant mtu cs r d p k rel (inl none) = ap (λ o. agrees_with o (wired d)) none
-agrees-meant mtu cs r d p k rel (inr same) = ap (λ o. agrees_with o (wired d)) (same ∙ place) ∙ go (get r.held (p.number + 1)) refl
+agrees-meant mtu cs r d p k rel (inr same) = ap (λ o. agrees_with o (wired d)) (same ∙ place) ∙ agrees-came mtu cs r d p k (get r.held (p.number + 1)) of_packet
   where
     cr : p.packet.reliable ≡ true
     cr = let sd = says mtu cs d p in sym sd.reliable ∙ rel
@@ -101,20 +117,6 @@ agrees-meant mtu cs r d p k rel (inr same) = ap (λ o. agrees_with o (wired d)) 
         let cut = k.cut p.packet (Stands-has cs p.number p.count p.packet p.stands) in
         let one : q.packet ≡ p.packet = same_reliable cs p.number q.count p.count q.packet p.packet (subst (λ z. Stands cs z q.count q.packet) n q.stands) p.stands q.reliable cr qcut.some' cut.some' in
         subst (λ y. Matches mtu e.making y) one q.matches
-
-    go : (o : Option IncomingPacket) → get r.held (p.number + 1) ≡ o → agrees_with o (wired d) ≡ true
-    go None t = refl
-    go (Some e) t = elim (is_none (wired d).fragment) as (λ b. is_none (wired d).fragment ≡ b → (b || belongs e.making (place_in_packet (wired d))) ≡ true) [
-      | true ↦ λ f. refl
-      | false ↦ λ f.
-          let long = long-fragment mtu cs d p f in
-          let cut = k.cut p.packet (Stands-has cs p.number p.count p.packet p.stands) in
-          let sd = says mtu cs d p in
-          let tell = tells mtu cs d p cut in
-          let m = of_packet e t in
-          belongs-by e.making (place_in_packet (wired d)) tell.sound (sd.pieces ∙ sym m.count) (tell.total ∙ sym m.total)
-          (same-cut e.making.cut (told_piece_len (place_in_packet (wired d))) (piece_length mtu) (m.cut long) (tell.cut long))
-    ] refl
 
 -- so it is handled where there is room
 pub handled-at : (r : Receiver) (c : DataCommand) (o : Option ℕ) → is_handled (outcome_at r c false o) ≡ true

@@ -1,13 +1,9 @@
 -- A command that went, reliable or not, is handled wherever it comes in time, as long as there is room.
-use Rattle.std.proofs.Common.{◌≡◌, ℕ, ◌+◌, ◌%◌, ◌<◌, ◌≤◌, ◌&&◌, ◌||◌, not, eqb, leb, Bool, true, false, cond, List, length, refl, sym, ap, subst, ◌∙◌, inl, inr, ◌⊎◌, arith, Option, Some, None}
-use Rattle.std.specs.Option.{is_none}
+use Rattle.std.proofs.Common.{◌≡◌, ℕ, ◌+◌, ◌%◌, ◌<◌, ◌≤◌, ◌&&◌, ◌||◌, not, eqb, leb, Bool, true, false, cond, List, length, refl, sym, ap, subst, ◌∙◌, inl, inr, ◌⊎◌, arith, Some, None}
 use Rattle.std.specs.FinMap.{get}
 use Rattle.enet_seq.specs.Numbering.{wire, unbounded}
-use Rattle.enet_fragment.specs.Cutting.{piece_length}
-use Rattle.enet_fragment.specs.Place.{told_piece_len}
 use Rattle.enet_fragment.specs.declared.data.DataCommand.{DataCommand}
-use Rattle.enet_fragment.specs.DataCommand.{piece_of, place_in_packet}
-use Rattle.enet_fragment.specs.PartialPacket.{belongs}
+use Rattle.enet_fragment.specs.DataCommand.{piece_of}
 use Rattle.enet_packets.specs.declared.incoming_packet.IncomingPacket.{IncomingPacket}
 use Rattle.enet_packets.specs.Packets.{line_at}
 use Rattle.enet_receiver.specs.declared.took.Took.TheVariants.{Bad}
@@ -26,7 +22,7 @@ use Rattle.law_connection.proofs.PieceLemmas.{IsPieceOf, says, tells, same_unrel
 use Rattle.law_connection.proofs.Shown.{Sound}
 use Rattle.law_connection.proofs.WireReceiver.{Shows-received}
 use Rattle.law_progress.specs.Links.{AreShort}
-use Rattle.law_progress.proofs.Answered.{le-leb, packet-short, long-fragment, belongs-by, same-cut, handled-at, handled-meant}
+use Rattle.law_progress.proofs.Answered.{le-leb, packet-short, agrees-came, handled-at, handled-meant}
 
 -- an unreliable command that was meant can be a piece of its packet
 unreliable-piece : (mtu most : ℕ) (cs : List ChosenPacket) (d : DataCommand) (p : IsPieceOf mtu cs d) → IsCut mtu p.packet → length p.packet.packet.body ≤ most → d.reliable ≡ false → is_piece most (wired d) ≡ true
@@ -41,7 +37,7 @@ unreliable-piece mtu most cs d p cut short rel =
 unreliable-agrees : (mtu : ℕ) (cs : List ChosenPacket) (r : Receiver) (d : DataCommand) (p : IsPieceOf mtu cs d) → Ready mtu cs r → d.reliable ≡ false
     → (came_before unbounded r (wired d) ≡ None) ⊎ (came_before unbounded r (wired d) ≡ came_at r (wired d) (cond p.packet.reliable (p.number + 1) p.number)) → agrees_with (came_before unbounded r (wired d)) (wired d) ≡ true
 unreliable-agrees mtu cs r d p k rel (inl none) = ap (λ o. agrees_with o (wired d)) none
-unreliable-agrees mtu cs r d p k rel (inr same) = ap (λ o. agrees_with o (wired d)) (same ∙ place) ∙ go (get (line_at r.waiting p.number) d.unreliable) refl
+unreliable-agrees mtu cs r d p k rel (inr same) = ap (λ o. agrees_with o (wired d)) (same ∙ place) ∙ agrees-came mtu cs r d p k (get (line_at r.waiting p.number) d.unreliable) of_packet
   where
     cr : p.packet.reliable ≡ false
     cr = let sd = says mtu cs d p in sym sd.reliable ∙ rel
@@ -61,20 +57,6 @@ unreliable-agrees mtu cs r d p k rel (inr same) = ap (λ o. agrees_with o (wired
         let z : q.count ≡ p.count = omega arith in
         let one : q.packet ≡ p.packet = same_unreliable mtu cs p.number p.count q.packet p.packet k.cut (subst (λ y. Stands cs p.number y q.packet) z q.stands) p.stands q.reliable cr in
         subst (λ y. Matches mtu e.making y) one q.matches
-
-    go : (o : Option IncomingPacket) → get (line_at r.waiting p.number) d.unreliable ≡ o → agrees_with o (wired d) ≡ true
-    go None t = refl
-    go (Some e) t = elim (is_none (wired d).fragment) as (λ b. is_none (wired d).fragment ≡ b → (b || belongs e.making (place_in_packet (wired d))) ≡ true) [
-      | true ↦ λ f. refl
-      | false ↦ λ f.
-          let long = long-fragment mtu cs d p f in
-          let cut = k.cut p.packet (Stands-has cs p.number p.count p.packet p.stands) in
-          let sd = says mtu cs d p in
-          let tell = tells mtu cs d p cut in
-          let m = of_packet e t in
-          belongs-by e.making (place_in_packet (wired d)) tell.sound (sd.pieces ∙ sym m.count) (tell.total ∙ sym m.total)
-          (same-cut e.making.cut (told_piece_len (place_in_packet (wired d))) (piece_length mtu) (m.cut long) (tell.cut long))
-    ] refl
 
 -- so it is handled where there is room
 any-handled : (mtu most : ℕ) (cs : List ChosenPacket) (r : Receiver) (d : DataCommand) (p : IsPieceOf mtu cs d) → Ready mtu cs r → length p.packet.packet.body ≤ most

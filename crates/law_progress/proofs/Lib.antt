@@ -5,6 +5,9 @@ pub mod Complete
 pub mod Delivered
 pub mod Trips
 pub mod NoDeadEnd
+pub mod Carried
+pub mod Rounds
+pub mod RoundHappens
 -- an outbox
 pub mod Filling
 pub mod SomethingGoes
@@ -18,6 +21,7 @@ pub mod Blocked
 pub mod Kept
 pub mod AllOut
 -- a peer
+pub mod Arrivals
 pub mod PeerAnswers
 pub mod Removed
 pub mod Others

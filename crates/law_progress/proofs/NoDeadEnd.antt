@@ -150,7 +150,7 @@ ends mtu most (suc k) v big s up short timed e =
     let r = ends mtu most k g.after big sg g.up (subst (λ qs. AreShort most qs) (sym g.submitted) short) g.timed (omega arith) in
     record { after = r.after; run = Calm-then mtu most v g.after r.after g.run r.run; up = r.up; submitted = r.submitted ∙ g.submitted; none = r.none }
 
-empty-of : {X : Type 0} (xs : List X) → length xs ≡ 0 → xs ≡ []
+pub empty-of : {X : Type 0} (xs : List X) → length xs ≡ 0 → xs ≡ []
 empty-of [] e = refl
 empty-of (x ∷ xs) e = absurd (omega arith)
 

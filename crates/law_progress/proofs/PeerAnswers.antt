@@ -1,9 +1,7 @@
 -- A connected peer with room answers each command that its sender waits for.
-use Rattle.std.proofs.Common.{◌≡◌, ℕ, ◌%◌, ◌<◌, ◌≤◌, ◌&&◌, Bool, true, false, cond, not, List, [], ◌∷◌, length, map, refl, sym, ap, subst, ◌∙◌, inl, inr, ◌⊎◌, ◌||◌, zero, suc, arith, Option, Some, None, ◌==◌}
+use Rattle.std.proofs.Common.{◌≡◌, ℕ, ◌%◌, ◌<◌, ◌≤◌, ◌&&◌, Bool, true, false, cond, not, List, [], ◌∷◌, length, map, refl, sym, ap, subst, ◌∙◌, inl, inr, arith, Option, Some, None, ◌==◌}
 use Rattle.std.specs.List.{slice_get}
 use Rattle.std.specs.FinMap.{get}
-use Rattle.std.specs.Option.{is_none}
-use Rattle.std.specs.Prelude.{is_ok}
 use Rattle.enet_codec.specs.declared.packet.Packet.{Packet}
 use Rattle.enet_codec.specs.declared.command.Fragment.{Fragment}
 use Rattle.enet_codec.specs.declared.stop.Stop.TheVariants as stop
@@ -15,14 +13,14 @@ use Rattle.enet_fragment.specs.DataCommand.{data_of, message_of, wire_body}
 use Rattle.enet_receiver.specs.declared.took.Took.{Took}
 use Rattle.enet_receiver.specs.declared.took.Took.TheVariants.{Held, Again, Outside, Bad, Waiting, Memory}
 use Rattle.enet_packets.specs.Packets.{line_at}
-use Rattle.enet_receiver.specs.DataOutcome.{outcome, outcome_at, outcome_of, is_handled, acknowledged, is_piece, is_piece_of_its_packet, agrees_with, own_place, place_read, came, came_at, came_if, is_behind}
+use Rattle.enet_receiver.specs.DataOutcome.{outcome, outcome_at, outcome_of, is_handled, acknowledged, is_piece, agrees_with, own_place, place_read, came_at, came_if}
 use Rattle.enet_receiver.specs.Receiver.{Receiver, without_waiting}
 use Rattle.enet_receiver.specs.Foresight.{ReceivingEnd}
 use Rattle.enet_sender.specs.CommandChoice as command_choice
 use Rattle.enet_sender.specs.Sender.{Sender}
 use Rattle.enet_sender.specs.declared.sent.Sent.{Sent}
 use Rattle.enet_inbox.specs.Inbox.{Inbox, is_full_for, given_way_receiver, given_way}
-use Rattle.enet_inbox.specs.DataEffect.{DataEffect, plain_arrival, is_waiting, makes_room, arrival, sequenced, sequenced_on, by_took, passed_over}
+use Rattle.enet_inbox.specs.DataEffect.{DataEffect, plain_arrival, arrival, sequenced, sequenced_on, by_took, passed_over}
 use Rattle.enet_outbox.specs.Outbox.{with_acknowledgement, is_unsequenced}
 use Rattle.enet_peer.specs.declared.parts.PeerState.TheVariants as state
 use Rattle.enet_peer.specs.Endings.{is_later}
@@ -39,6 +37,7 @@ use Rattle.law_connection.specs.LinkSteps as link
 use Rattle.law_progress.specs.Links.{Waits, AreShort}
 use Rattle.law_progress.specs.Peers.{Awaits, IsAnswered}
 use Rattle.law_progress.proofs.Answered as answering
+use Rattle.law_progress.proofs.Arrivals.{Coming, meets}
 
 -- an inbox handles it
 took-answers : (q : Peering) (channel time : ℕ) (c : DataCommand) (b : Inbox) (r : ReceivingEnd) (m : Message) → q.state ≡ state.Connected → m.head.acknowledge ≡ true → m.head.channel ≡ channel → m.head.number ≡ c.number
@@ -77,103 +76,13 @@ same-outcome most r c full reliable = (λ i. cond (is_piece most c && agrees_wit
     at None = refl
     at (Some place) = ap (outcome_of r c full place) (same-came r c place reliable)
 
--- a command that is handled where there is room is stopped for want of room alone
-pub but-for-room : (most : ℕ) (r : Receiver) (c : DataCommand) (full : Bool) → is_handled (outcome wire most r c false) ≡ true → (is_handled (outcome wire most r c full) ≡ true) ⊎ (outcome wire most r c full ≡ Waiting)
-but-for-room most r c full ok = by (is_piece_of_its_packet wire most r c) ok
-  where
-    at : (o : Option ℕ) → (is_handled (outcome_at r c full o) ≡ true) ⊎ (outcome_at r c full o ≡ Waiting)
-    at None = inl refl
-    at (Some place) = if_behind (is_behind r c place || came (came_at r c place) c) (full && is_none (came_at r c place))
-      where
-        if_behind : (behind wants : Bool) → (is_handled (cond behind Again (cond wants Waiting Held)) ≡ true) ⊎ (cond behind Again (cond wants Waiting Held) ≡ Waiting)
-        if_behind true wants = inl refl
-        if_behind false true = inr refl
-        if_behind false false = inl refl
-
-    by : (piece : Bool) → is_handled (cond piece (outcome_at r c false (place_read wire r c)) Bad) ≡ true
-        → (is_handled (cond piece (outcome_at r c full (place_read wire r c)) Bad) ≡ true) ⊎ (cond piece (outcome_at r c full (place_read wire r c)) Bad ≡ Waiting)
-    by true e = at (place_read wire r c)
-    by false e = absurd (cc)
-
--- the receivers once unreliable packets gave way
-pub given_way-there : (rs : List ReceivingEnd) (i : ℕ) (r : ReceivingEnd) → slice_get rs i ≡ Some r → slice_get (map given_way_receiver rs) i ≡ Some (given_way_receiver r)
-given_way-there [] i r e = absurd (cc)
-given_way-there (x ∷ rs) zero r e = let it : x ≡ r = cc in ap (λ (y : ReceivingEnd). Some (given_way_receiver y)) it
-given_way-there (x ∷ rs) (suc i) r e = given_way-there rs i r e
-
--- the inbox that the command meets handles it: the one that is there, or that in which the unreliable packets gave way
-record Coming (q : Peering) (channel : ℕ) (c : DataCommand) (r : ReceivingEnd) (m : Message) : Type 0 where
-  connected : q.state ≡ state.Connected
-  asks : m.head.acknowledge ≡ true
-  on : m.head.channel ≡ channel
-  number : m.head.number ≡ c.number
-  plain : (b : Inbox) → plain_arrival b m ≡ sequenced_on b channel c (slice_get b.receivers channel)
-  reliable : c.reliable ≡ true
-  there : slice_get q.inbox.receivers channel ≡ Some r
-  handled : is_handled (outcome wire r.max_packet r.receiver c false) ≡ true
-  acknowledged : acknowledges r.receiver.front c.number ≡ true
-  room : is_full_for (given_way q.inbox) (given_way_receiver r) c ≡ false
-
-met-answers : (q : Peering) (channel time : ℕ) (c : DataCommand) (r : ReceivingEnd) (m : Message) → Coming q channel c r m → IsAnswered q channel time c (by_arrival q m (Some time) (arrival q.inbox m))
-met-answers q channel time c r m k = elim (but-for-room r.max_packet r.receiver c full k.handled) [
-  | inl handled ↦
-      let waits : is_waiting (plain_arrival b m).answer ≡ false = ap (λ (a : DataEffect). is_waiting a.answer) plain ∙ not_waiting took b r handled in
-      let stays : makes_room b m ≡ false = ap (λ w. w && is_ok (plain_arrival way m).answer) waits in
-      let all : arrival b m ≡ by_took took b channel r c = ap (λ w. plain_arrival (cond w way b) m) stays ∙ plain in
-      by_effect all (took-answers q channel time c b r m k.connected k.asks k.on k.number took handled k.acknowledged)
-  | inr full' ↦
-      let waits : is_waiting (plain_arrival b m).answer ≡ true = ap (λ (a : DataEffect). is_waiting a.answer) plain ∙ ap (λ t. is_waiting (by_took t b channel r c).answer) full' in
-      let goes : is_ok (plain_arrival way m).answer ≡ true = ap (λ (a : DataEffect). is_ok a.answer) plain-way ∙ answers took-way way alone handled-way in
-      let gives : makes_room b m ≡ true = (λ i. waits i && goes i) in
-      let all : arrival b m ≡ by_took took-way way channel alone c = ap (λ w. plain_arrival (cond w way b) m) gives ∙ plain-way in
-      by_effect all (took-answers q channel time c way alone m k.connected k.asks k.on k.number took-way handled-way k.acknowledged)
-]
-  where
-    b : Inbox
-    b = q.inbox
-
-    way : Inbox
-    way = given_way b
-
-    alone : ReceivingEnd
-    alone = given_way_receiver r
-
-    full : Bool
-    full = is_full_for b r c
-
-    took : Took
-    took = outcome wire r.max_packet r.receiver c full
-
-    took-way : Took
-    took-way = outcome wire r.max_packet (without_waiting r.receiver) c (is_full_for way alone c)
-
-    plain : plain_arrival b m ≡ by_took took b channel r c
-    plain = k.plain b ∙ ap (sequenced_on b channel c) k.there
-
-    plain-way : plain_arrival way m ≡ by_took took-way way channel alone c
-    plain-way = k.plain way ∙ ap (sequenced_on way channel c) (given_way-there b.receivers channel r k.there)
-
-    handled-way : is_handled took-way ≡ true
-    handled-way = ap (λ f. is_handled (outcome wire r.max_packet (without_waiting r.receiver) c f)) k.room ∙ ap is_handled (same-outcome r.max_packet r.receiver c false k.reliable) ∙ k.handled
-
-    not_waiting : (t : Took) (a : Inbox) (e : ReceivingEnd) → is_handled t ≡ true → is_waiting (by_took t a channel e c).answer ≡ false
-    not_waiting Held a e h = refl
-    not_waiting Again a e h = refl
-    not_waiting Outside a e h = refl
-    not_waiting Bad a e h = absurd (cc)
-    not_waiting Waiting a e h = absurd (cc)
-    not_waiting Memory a e h = absurd (cc)
-
-    answers : (t : Took) (a : Inbox) (e : ReceivingEnd) → is_handled t ≡ true → is_ok (by_took t a channel e c).answer ≡ true
-    answers Held a e h = refl
-    answers Again a e h = refl
-    answers Outside a e h = refl
-    answers Bad a e h = absurd (cc)
-    answers Waiting a e h = absurd (cc)
-    answers Memory a e h = absurd (cc)
-
-    by_effect : {a : DataEffect} → arrival b m ≡ a → IsAnswered q channel time c (by_arrival q m (Some time) a) → IsAnswered q channel time c (by_arrival q m (Some time) (arrival b m))
-    by_effect {a} e h = subst (λ (x : DataEffect). IsAnswered q channel time c (by_arrival q m (Some time) x)) (sym e) h
+-- the inbox that the command meets handles it
+met-answers : (q : Peering) (channel time : ℕ) (c : DataCommand) (r : ReceivingEnd) (m : Message) → q.state ≡ state.Connected → m.head.acknowledge ≡ true → m.head.channel ≡ channel → m.head.number ≡ c.number
+    → acknowledges r.receiver.front c.number ≡ true → Coming q.inbox channel c r m → IsAnswered q channel time c (by_arrival q m (Some time) (arrival q.inbox m))
+met-answers q channel time c r m connected asks on number ack k =
+    let met = meets q.inbox channel c r m k in
+    subst (λ (x : DataEffect). IsAnswered q channel time c (by_arrival q m (Some time) x)) (sym met.is)
+    (took-answers q channel time c met.inbox met.end m connected asks on number met.took met.handled (ap (λ n. acknowledges n c.number) met.front ∙ ack))
 
 -- so does the peer
 peer-answers : (q : Peering) (now channel time : ℕ) (c : DataCommand) (r : ReceivingEnd) → q.state ≡ state.Connected → c.reliable ≡ true → slice_get q.inbox.receivers channel ≡ Some r → data_of (message_of channel c) ≡ Some c
@@ -184,9 +93,9 @@ peer-answers q now channel time c r connected reliable there reads ok ack room f
     obeys : (m : Message) → m.head.acknowledge ≡ true → m.head.channel ≡ channel → m.head.number ≡ c.number → ((b : Inbox) → plain_arrival b m ≡ sequenced_on b channel c (slice_get b.receivers channel))
         → IsAnswered q channel time c (on_data q m (Some time))
     obeys m asks on number plain =
-        let k : Coming q channel c r m = record { connected = connected; asks = asks; on = on; number = number; plain = plain; reliable = reliable; there = there; handled = ok; acknowledged = ack; room = room } in
+        let alone = ap is_handled (same-outcome r.max_packet r.receiver c false reliable) ∙ ok in
         subst (λ b. IsAnswered q channel time c (cond b (by_answer q m (Some time) (passed_over q.inbox m)) (by_arrival q m (Some time) (arrival q.inbox m)))) (sym (ap is_later connected))
-        (met-answers q channel time c r m k)
+        (met-answers q channel time c r m connected asks on number ack (record { plain = plain; there = there; handled = ok; handled_alone = alone; room = room }))
 
     allows : (m : Message) (body : Body) → is_allowed state.Connected body ≡ true → IsAnswered q channel time c (on_data q m (Some time)) → IsAnswered q channel time c (cond (is_allowed q.state body) (unless_crowded_out q m (on_data q m (Some time))) (stopped q stop.NotConnected))
     allows m body e h =

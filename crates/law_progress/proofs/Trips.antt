@@ -42,7 +42,7 @@ Calm-first mtu most e v u w calm h rest = record {
     first x (inl is) = subst (λ y. IsCalm most y) is calm
     first x (inr k) = rest.calm x k
 
-Runs-append : (mtu : ℕ) (a b : List Event) (v u w : WireLink) → Runs mtu a v u → Runs mtu b u w → Runs mtu (a ++ b) v w
+pub Runs-append : (mtu : ℕ) (a b : List Event) (v u w : WireLink) → Runs mtu a v u → Runs mtu b u w → Runs mtu (a ++ b) v w
 Runs-append mtu [] b v u w r s = subst (λ x. Runs mtu b x w) (sym r) s
 Runs-append mtu (e ∷ a) b v u w r s = (r.0, r.1, Runs-append mtu a b r.0 u w r.2 s)
 
@@ -59,7 +59,7 @@ Calm-then mtu most v u w a b = record {
     both (e ∷ es) x (inr k) all = both es x k (λ y j. all y (inr j))
 
 -- what was just put out is in time
-fresh-in_time : (sent n : ℕ) → n ≤ sent → sent ≤ n + 8192 → is_late sent sent (n % 65536) ≡ false
+pub fresh-in_time : (sent n : ℕ) → n ≤ sent → sent ≤ n + 8192 → is_late sent sent (n % 65536) ≡ false
 fresh-in_time sent n low high =
     let e = number_below_true n sent low (omega arith) in
     ap (λ x. ltb 32768 (sent - x)) e ∙ near (sent - n) (omega arith)
@@ -67,7 +67,7 @@ fresh-in_time sent n low high =
     near : (k : ℕ) → k ≤ 8192 → ltb 32768 k ≡ false
     near k h = grind (arith, nat_tests)
 
-Has-map : {X Y : Type 0} (f : X → Y) (xs : List X) (x : X) → Has xs x → Has (map f xs) (f x)
+pub Has-map : {X Y : Type 0} (f : X → Y) (xs : List X) (x : X) → Has xs x → Has (map f xs) (f x)
 Has-map f [] x h = absurd h
 Has-map f (y ∷ xs) x (inl e) = inl (ap f e)
 Has-map f (y ∷ xs) x (inr h) = inr (Has-map f xs x h)
@@ -133,7 +133,7 @@ length-set' [] i p = refl
 length-set' (x ∷ xs) zero p = refl
 length-set' (x ∷ xs) (suc i) p = let rest = length-set' xs i p in omega arith
 
-Images-has : (mtu : ℕ) (cs : List ChosenPacket) (ns : List ℕ) (sent : List Sent) (p : Sent) → Images mtu cs ns sent → Has sent p → (n : ℕ) × Has ns n × ImageOf mtu cs n p
+pub Images-has : (mtu : ℕ) (cs : List ChosenPacket) (ns : List ℕ) (sent : List Sent) (p : Sent) → Images mtu cs ns sent → Has sent p → (n : ℕ) × Has ns n × ImageOf mtu cs n p
 Images-has mtu cs [] [] p i h = absurd h
 Images-has mtu cs [] (d ∷ sent) p i h = absurd i
 Images-has mtu cs (n ∷ ns) [] p i h = absurd h

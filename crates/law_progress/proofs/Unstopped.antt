@@ -1,5 +1,5 @@
 -- A connected peer with room takes in each data command of the other end, reliable or not, without a stop.
-use Rattle.std.proofs.Common.{◌≡◌, ℕ, ◌<◌, ◌&&◌, ◌||◌, Bool, true, false, cond, refl, sym, ap, subst, ◌∙◌, inl, inr, Option, Some, None, Result, Ok, Err}
+use Rattle.std.proofs.Common.{◌≡◌, ℕ, ◌<◌, ◌&&◌, ◌||◌, Bool, true, false, cond, refl, sym, ap, subst, ◌∙◌, Option, Some, None, Result, Ok, Err}
 use Rattle.std.specs.List.{slice_get}
 use Rattle.std.specs.FinMap.{get, empty, get-empty}
 use Rattle.std.specs.Ordering.{nat_cmp}
@@ -13,13 +13,12 @@ use Rattle.enet_fragment.specs.declared.data.DataCommand.{DataCommand}
 use Rattle.enet_fragment.specs.DataCommand.{data_of, message_of, wire_body}
 use Rattle.enet_packets.specs.declared.incoming_packet.IncomingPacket.{IncomingPacket}
 use Rattle.enet_packets.specs.Packets.{line_at}
-use Rattle.enet_receiver.specs.declared.took.Took.{Took}
-use Rattle.enet_receiver.specs.declared.took.Took.TheVariants.{Held, Again, Outside, Bad, Waiting, Memory}
+use Rattle.enet_receiver.specs.declared.took.Took.TheVariants.{Held, Again, Bad, Waiting}
 use Rattle.enet_receiver.specs.DataOutcome.{outcome, outcome_at, is_handled, is_piece, agrees_with, own_place, place_read, came, came_at, came_if, came_before, is_behind}
 use Rattle.enet_receiver.specs.Receiver.{Receiver, without_waiting}
 use Rattle.enet_receiver.specs.Foresight.{ReceivingEnd}
 use Rattle.enet_inbox.specs.Inbox.{Inbox, is_full_for, given_way_receiver, given_way}
-use Rattle.enet_inbox.specs.DataEffect.{DataEffect, plain_arrival, is_waiting, makes_room, arrival, sequenced, sequenced_on, by_took}
+use Rattle.enet_inbox.specs.DataEffect.{DataEffect, plain_arrival, arrival, sequenced, sequenced_on}
 use Rattle.enet_peer.specs.declared.parts.PeerState.TheVariants as state
 use Rattle.enet_peer.specs.Peering.{Peering}
 use Rattle.enet_peer.specs.CommandEffect.{obeyed, by_arrival, by_answer, answered_at, is_answered_in}
@@ -32,7 +31,8 @@ use Rattle.law_connection.specs.LinkSteps as link
 use Rattle.law_progress.specs.Links.{AreShort}
 use Rattle.law_progress.specs.Peers.{Comes}
 use Rattle.law_progress.proofs.Handled as handling
-use Rattle.law_progress.proofs.PeerAnswers.{but-for-room, given_way-there, on-channel}
+use Rattle.law_progress.proofs.Arrivals.{Coming, meets, took-ok}
+use Rattle.law_progress.proofs.PeerAnswers.{on-channel}
 
 -- where what waits gave way, nothing came of an unreliable packet, so its command is handled where it can be a piece of it
 none-came : (r : Receiver) (c : DataCommand) (place : ℕ) → c.reliable ≡ false → came_at (without_waiting r) c place ≡ None
@@ -65,66 +65,11 @@ still-handled most r c unreliable ok = by (is_piece most c) refl
     by false e = absurd (let z : is_handled (outcome wire most r c false) ≡ false = ap (λ b. is_handled (cond (b && agrees_with (came_before wire r c) c) (outcome_at r c false (place_read wire r c)) Bad)) e in
         let y : true ≡ false = sym ok ∙ z in cc)
 
--- the inbox takes an unreliable command in, as it is, or once what waits gave way
-record Coming (q : Peering) (channel : ℕ) (c : DataCommand) (r : ReceivingEnd) (m : Message) : Type 0 where
-  asks : m.head.acknowledge ≡ false
-  plain : (b : Inbox) → plain_arrival b m ≡ sequenced_on b channel c (slice_get b.receivers channel)
-  unreliable : c.reliable ≡ false
-  there : slice_get q.inbox.receivers channel ≡ Some r
-  handled : is_handled (outcome wire r.max_packet r.receiver c false) ≡ true
-  room : is_full_for (given_way q.inbox) (given_way_receiver r) c ≡ false
-
-took-ok : (t : Took) (b : Inbox) (channel : ℕ) (e : ReceivingEnd) (c : DataCommand) → is_handled t ≡ true → is_ok (by_took t b channel e c).answer ≡ true
-took-ok Held b channel e c h = refl
-took-ok Again b channel e c h = refl
-took-ok Outside b channel e c h = refl
-took-ok Bad b channel e c h = absurd (cc)
-took-ok Waiting b channel e c h = absurd (cc)
-took-ok Memory b channel e c h = absurd (cc)
-
-not-waiting : (r : Result Bool Stop) → is_ok r ≡ true → is_waiting r ≡ false
-not-waiting (Ok may) e = refl
-not-waiting (Err why) e = absurd (cc)
-
-arrives : (q : Peering) (channel : ℕ) (c : DataCommand) (r : ReceivingEnd) (m : Message) → Coming q channel c r m → is_ok (arrival q.inbox m).answer ≡ true
-arrives q channel c r m k = elim (but-for-room r.max_packet r.receiver c full k.handled) [
-  | inl handled ↦
-      let ok : is_ok (plain_arrival b m).answer ≡ true = ap (λ (a : DataEffect). is_ok a.answer) plain ∙ took-ok took b channel r c handled in
-      let stays : makes_room b m ≡ false = ap (λ w. w && is_ok (plain_arrival way m).answer) (not-waiting (plain_arrival b m).answer ok) in
-      ap (λ w. is_ok (plain_arrival (cond w way b) m).answer) stays ∙ ok
-  | inr full' ↦
-      let waits : is_waiting (plain_arrival b m).answer ≡ true = ap (λ (a : DataEffect). is_waiting a.answer) plain ∙ ap (λ t. is_waiting (by_took t b channel r c).answer) full' in
-      let goes : is_ok (plain_arrival way m).answer ≡ true = ap (λ (a : DataEffect). is_ok a.answer) plain-way ∙ took-ok took-way way channel alone c handled-way in
-      let gives : makes_room b m ≡ true = (λ i. waits i && goes i) in
-      ap (λ w. is_ok (plain_arrival (cond w way b) m).answer) gives ∙ goes
-]
-  where
-    b : Inbox
-    b = q.inbox
-
-    way : Inbox
-    way = given_way b
-
-    alone : ReceivingEnd
-    alone = given_way_receiver r
-
-    full : Bool
-    full = is_full_for b r c
-
-    took : Took
-    took = outcome wire r.max_packet r.receiver c full
-
-    took-way : Took
-    took-way = outcome wire r.max_packet (without_waiting r.receiver) c (is_full_for way alone c)
-
-    plain : plain_arrival b m ≡ by_took took b channel r c
-    plain = k.plain b ∙ ap (sequenced_on b channel c) k.there
-
-    plain-way : plain_arrival way m ≡ by_took took-way way channel alone c
-    plain-way = k.plain way ∙ ap (sequenced_on way channel c) (given_way-there b.receivers channel r k.there)
-
-    handled-way : is_handled took-way ≡ true
-    handled-way = ap (λ f. is_handled (outcome wire r.max_packet (without_waiting r.receiver) c f)) k.room ∙ still-handled r.max_packet r.receiver c k.unreliable k.handled
+-- the inbox takes the command in, as it is, or once what waits gave way
+arrives : (b : Inbox) (channel : ℕ) (c : DataCommand) (r : ReceivingEnd) (m : Message) → Coming b channel c r m → is_ok (arrival b m).answer ≡ true
+arrives b channel c r m k =
+    let met = meets b channel c r m k in
+    ap (λ (a : DataEffect). is_ok a.answer) met.is ∙ took-ok met.took met.inbox channel met.end c met.handled
 
 -- so does the peer
 unstopped : (q : Peering) (now : ℕ) (sent : Option ℕ) (channel : ℕ) (c : DataCommand) (r : ReceivingEnd) → q.state ≡ state.Connected → c.reliable ≡ false → slice_get q.inbox.receivers channel ≡ Some r → data_of (message_of channel c) ≡ Some c
@@ -138,7 +83,7 @@ unstopped q now sent channel c r connected unreliable there reads ok room = subs
     at = ap (λ s. record q { state = s }) (sym connected)
 
     goes : (m : Message) → m.head.acknowledge ≡ false → ((b : Inbox) → plain_arrival b m ≡ sequenced_on b channel c (slice_get b.receivers channel)) → (by_arrival open' m sent (arrival q.inbox m)).stop ≡ None
-    goes m asks plain = answers (arrival q.inbox m) (arrives q channel c r m (record { asks = asks; plain = plain; unreliable = unreliable; there = there; handled = ok; room = room }))
+    goes m asks plain = answers (arrival q.inbox m) (arrives q.inbox channel c r m (record { plain = plain; there = there; handled = ok; handled_alone = still-handled r.max_packet r.receiver c unreliable ok; room = room }))
       where
         answers : (a : DataEffect) → is_ok a.answer ≡ true → (by_arrival open' m sent a).stop ≡ None
         answers a e = by a.answer e

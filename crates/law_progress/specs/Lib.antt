@@ -7,3 +7,4 @@ pub mod Waits
 pub mod Later
 pub mod Fits
 pub mod Settled
+pub mod Rounds

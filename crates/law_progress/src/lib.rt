@@ -4,17 +4,18 @@
 //! They speak of the links of `law_connection`, which are one channel from a sender to a receiver and the acknowledgements back, and of the
 //! definitions that the contracts of `enet_outbox::Outbox` and `enet_peer::Peer` name. Proved, each by itself: a command that waits for its
 //! acknowledgement is acknowledged wherever it comes while there is room, and from each reached link an exchange without losses leads to
-//! where all reliable packets were dispatched (`everything_can_arrive`); nothing holds back for good what an outbox has to send, and once
-//! nothing goes any more, all has gone, or something waits for its acknowledgement (`nothing_is_held_back`); a peer answers what its sender
-//! waits for, the answer takes it away, and no command of another kind is stopped where there is room, for it and for the acknowledgement
-//! that it asks for (`what_waits_is_answered`, `each_trip_takes_one_away`); what was acknowledged was delivered
+//! where all reliable packets were dispatched (`everything_can_arrive`), as do any rounds without losses, by so many as commands were
+//! queued, once the timeouts of what waited are over (`rounds_get_through`); nothing holds back for good what an outbox has to send, and
+//! once nothing goes any more, all has gone, or something waits for its acknowledgement (`nothing_is_held_back`); a peer answers what its
+//! sender waits for, the answer takes it away, and no command of another kind is stopped where there is room, for it and for the
+//! acknowledgement that it asks for (`what_waits_is_answered`, `each_trip_takes_one_away`); what was acknowledged was delivered
 //! (`acknowledged_was_delivered`); an attempt ends within a stated time (`every_attempt_ends`), and so does each wait for an
 //! acknowledgement (`no_wait_is_endless`); all that a peer has to send fits its datagrams (`all_that_waits_fits`); a peer that is to
 //! disconnect later comes to do so (`no_leave_is_put_off`). Not proved: that rounds without losses bring all channels of a connection to
-//! where nothing is outstanding, with the transit limit, the throttle and the timers of real peers, nor how many rounds that takes.
+//! where nothing is outstanding, with the transit limit and the timers that real peers' channels share, nor how many rounds that takes.
 #![tactic(auto)]
 
-ghost use Rattle.std.specs.Prelude.{◌≡◌, ℕ, ◌+◌, ◌*◌, ◌<◌, ◌≤◌, Bool, Option, Some, None, map, slice_get, true, false, List, [], ◌∷◌, length, ◌⊎◌};
+ghost use Rattle.std.specs.Prelude.{◌≡◌, ℕ, ◌+◌, ◌*◌, ◌<◌, ◌≤◌, Bool, Option, Some, None, map, slice_get, true, false, List, [], ◌∷◌, ◌++◌, length, ◌⊎◌};
 ghost use Rattle.enet_codec.specs.declared.command.Offer.{Offer};
 ghost use Rattle.enet_codec.specs.Message.{Message, acknowledge};
 ghost use Rattle.enet_seq.specs.Numbering.{wire};
@@ -55,6 +56,7 @@ ghost use Rattle.law_progress.specs.Attempts.{LastsAtMost, LastsFor, TellsWhenLe
 ghost use Rattle.law_progress.specs.Waits.{NoneWaitsLonger};
 ghost use Rattle.law_progress.specs.Fits.{StaysFit};
 ghost use Rattle.law_progress.specs.Later.{DisconnectsLater, LeavesOrTells};
+ghost use Rattle.law_progress.specs.Rounds.{Round, Rounds, Progresses, AreOver, HasAllThrough, HasARound};
 
 /// One channel of one connection, after any list of events, whatever was lost, repeated, reordered or late by then, while both ends go on.
 ///
@@ -72,6 +74,25 @@ pub fn everything_can_arrive()
         → (left v.outgoing).reliable ≡ false → AllDispatched (carried mtu v.submitted) (bodies_of v.incoming.dispatched) }
     ensures no_dead_end { (mtu most : ℕ) (events : List Event) (v : WireLink) → 28 < mtu → Runs mtu events fresh_link v → IsUp v
         → AreShort most v.submitted → AreTimed v.outgoing.sent → GetsThrough mtu most v }
+{}
+
+/// One channel of one connection, after any list of events, whatever was lost, repeated, reordered or late by then, and then rounds in which
+/// nothing is lost, while both ends go on. In each the clock goes on to any moment, the sending end puts out all that it may, whatever the
+/// throttle drops of it, each datagram comes at once to a receiver that has room and takes in packets of the lengths that were submitted,
+/// and all acknowledgements that wait go back.
+///
+/// `progresses`: whatever goes in a round is acknowledged in it. So each command that still waits has waited before, unchanged, and its
+/// timeout isn't over: no timeout is ever reached but by what was sent before the rounds began. The queue gets no longer, and gets shorter
+/// where nothing waited. `through`: so where there is a round by which each timeout of what waited is over, and after it as many rounds as
+/// commands were queued, nothing is outstanding, and each reliable packet that was submitted was dispatched. `happens`: there is a round
+/// from each such link.
+pub fn rounds_get_through()
+    ensures progresses { (mtu most bound now : ℕ) (events : List Event) (v w : WireLink) → 28 < mtu → Runs mtu events fresh_link v → IsUp v → AreShort most v.submitted
+        → Round mtu most bound now v w → Progresses mtu now v w }
+    ensures through { (mtu most bound : ℕ) (events : List Event) (v w : WireLink) (before after : List ℕ) (now : ℕ) → 28 < mtu → Runs mtu events fresh_link v → IsUp v
+        → AreShort most v.submitted → AreOver now v.outgoing.sent → length v.outgoing.queued ≤ length after
+        → Rounds mtu most bound (before ++ now ∷ after) v w → HasAllThrough mtu v w }
+    ensures happens { (mtu most bound now : ℕ) (v : WireLink) → IsUp v → HasARound mtu most bound now v }
 {}
 
 /// All that a peer sends, whatever its throttle, windows and transit limit are.

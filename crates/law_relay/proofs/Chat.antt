@@ -30,6 +30,7 @@ use Rattle.enet_service.proofs.Spells.{given_both, accepted_both}
 use Rattle.enet_serve.specs.declared.server.ChatServer.{ChatServer}
 use Rattle.enet_serve.specs.declared.server.Settings.{Settings}
 use Rattle.enet_serve.specs.Serving.{Serves, IsOpened, service_of, peers_of, backlog_of, orders_of, config_of}
+use Rattle.enet_serve.proofs.Partings.{spans-of-leave}
 use Rattle.law_network.specs.Calls.{Call}
 use Rattle.law_headline.specs.Nets.{Net, open_net}
 use Rattle.law_headline.specs.Page.{User, IsHeadline, IsBehind}
@@ -113,8 +114,11 @@ each-has-served kind settings fresh served runs left opened h leaves = record {
     s : Served kind fresh served
     s = each-served kind fresh runs served h
 
+    leave-spans : List Span
+    leave-spans = leaves.spans ++ leaves.last ∷ []
+
     more-rounds : List Round
-    more-rounds = rounds_in leaves.spans
+    more-rounds = rounds_in leave-spans
 
     untaken : List Event
     untaken = accepted (all_puts more-rounds)
@@ -127,10 +131,10 @@ each-has-served kind settings fresh served runs left opened h leaves = record {
 
     -- its runs, and what came after them
     spans : List Span
-    spans = (record { kind = kind; rounds = s.rounds; how = Now; parted = [] }) ∷ leaves.spans
+    spans = (record { kind = kind; rounds = s.rounds; how = Now; parted = [] }) ∷ leave-spans
 
     acts : Spans host_calls (beginning (config_of settings)) spans left
-    acts = (service_of served, (service_of served, turns, refl), leaves.acts)
+    acts = (service_of served, (service_of served, turns, refl), spans-of-leave (service_of served) left leaves)
 
     r : Running
     r = (let m = each-life (beginning (config_of settings)) spans left acts in

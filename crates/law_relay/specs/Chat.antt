@@ -1,6 +1,7 @@
 -- The relay of a `ChatServer`, from its runs' contracts.
 use Rattle.std.specs.Prelude.{◌≡◌, refl, ℕ, Bool, true, List, [], ◌++◌, length, map, Option, Some, slice_get}
 use Rattle.std.specs.List.{All, list_all}
+use Rattle.enet_codec.specs.declared.event.DisconnectMode.TheVariants.{Later}
 use Rattle.enet_codec.specs.declared.address.Addr.{Addr}
 use Rattle.enet_codec.specs.declared.config.Config.{Config}
 use Rattle.enet_codec.specs.Config as config
@@ -19,7 +20,7 @@ use Rattle.enet_service.specs.Phases.{Chain}
 use Rattle.enet_service.specs.Queues.{given, accepted}
 use Rattle.enet_service.specs.Turn.{Round}
 use Rattle.enet_service.specs.Run.{IsSound, all_gave, all_puts}
-use Rattle.enet_service.specs.LoneTurn.{Kind, AreAmong, RoundsOf}
+use Rattle.enet_service.specs.LoneTurn.{Kind, AreAmong, RoundsOf, beside}
 use Rattle.enet_chat.specs.Relaying.{noted_all, relayed_all, SameForEach}
 use Rattle.enet_serve.specs.declared.server.ChatServer.{ChatServer}
 use Rattle.enet_serve.specs.declared.server.Settings.{Settings}
@@ -55,7 +56,7 @@ EachServed = (kind : Kind) (old : ChatServer) (runs : List (RunLength × Report)
 
 -- a server that takes no leave
 abbrev pub stays : (s : Service Host) → Leaves s s
-stays s = record { spans = []; acts = refl; no_orders = refl; gentle = tt }
+stays s = record { spans = []; between = s; acts = refl; last = record { kind = beside; rounds = []; how = Later; parted = [] }; ends = (s, refl, refl); nobody = refl; no_orders = refl; gentle = tt }
 
 -- what a fresh server did in all its runs and in taking leave (`ChatServer::take_leave`), with the calls of its host
 pub record HasServed (settings : Settings) (served : ChatServer) (left : Service Host) : Type 0 where

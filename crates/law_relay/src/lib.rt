@@ -6,7 +6,7 @@
 //! (`each_pair`), but for orders that were refused, which are named (`refused_left_out`); on channel 1 it takes some of what i submitted
 //! there, each whole and once, in order; so it is of any runs of a `ChatServer`, one after another (`chat_server_in_order`).
 //! Premise: that of `law_service`. Where the server takes leave of its clients after the runs, `ChatServer::take_leave` says what it does then
-//! (`Leaves`).
+//! (`TakesLeave`).
 //! Neither: a run that ended in an error, of which `serve` promises nothing; nor is it said of what i submitted unsequenced on channel 1.
 #![tactic(auto)]
 

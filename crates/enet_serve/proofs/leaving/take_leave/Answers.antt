@@ -5,7 +5,7 @@ pub returns-then-is_err : goal.returns-then-is_err
 returns-then-is_err g c = record { leaves = left-so _ _ c.see_off.ensures }
 
 pub returns-then-part_from_all-gt0 : goal.returns-then-part_from_all-gt0
-returns-then-part_from_all-gt0 g c = let parts = c.part_from_all.ensures.parts in record { leaves = left-told _ c.see_off.new.bound.service parts.0 _ _ c.see_off.ensures parts.2 c.take_turn.ensures }
+returns-then-part_from_all-gt0 g c = record { leaves = left-told _ c.see_off.new.bound.service _ _ c.see_off.ensures c.part_from_all.ensures.parts c.take_turn.ensures }
 
 pub returns-else-part_from_all-gt0 : goal.returns-else-part_from_all-gt0
-returns-else-part_from_all-gt0 g c = let parts = c.part_from_all.ensures.parts in record { leaves = left-cut _ c.see_off.new.bound.service parts.0 _ c.see_off.ensures parts.2 }
+returns-else-part_from_all-gt0 g c = record { leaves = left-cut _ c.see_off.new.bound.service _ c.see_off.ensures c.part_from_all.ensures.parts }

@@ -1,11 +1,13 @@
 use Rattle.std.proofs.Common.{◌≡◌, ◌-◌, sym, ap, subst, ◌∙◌, List}
 use Rattle.enet_receiver.specs.Foresight.{ReceivingEnd}
 use Rattle.enet_inbox.specs.Inbox.{Inbox, cleared}
+use Rattle.enet_inbox.specs.Bounds.{IsBounded}
 use Rattle.enet_inbox.specs.Invariant.{KeepsInbox, KeepsPackets}
 use Rattle.enet_inbox.specs.Private.Invariant.{held_in}
 use Rattle.enet_inbox.specs.InboxParts.{inbox_of}
 use Rattle.enet_inbox.proofs.Keeping.{keeps_cleared}
 use Rattle.enet_inbox.proofs.Counting.{counts_cleared}
+use Rattle.enet_inbox.proofs.Limits.{bounded_cleared}
 use Rattle.enet_inbox.proofs.inbox.Inbox.clear.Goals as goal
 
 pub invariant_of-self : goal.invariant_of-self
@@ -20,4 +22,5 @@ invariant_of-self c =
           subst (λ n. KeepsInbox (inbox_of i.max_packet i.max_waiting c.clear_all.new.receivers.items i.groups i.untaken.items) (i.waiting - n)) (sym freed)
           (subst (λ (x : Inbox). KeepsInbox x (i.waiting - held_in i.receivers.items)) (sym now) (keeps_cleared b i.waiting c.self.invariant.inbox));
       places = subst (λ (rs : List ReceivingEnd). KeepsPackets rs 0) (sym c.clear_all.ensures) (counts_cleared i.receivers.items);
+      bounded = subst (λ (x : Inbox). IsBounded x) (sym now) (bounded_cleared b c.self.invariant.bounded);
     }

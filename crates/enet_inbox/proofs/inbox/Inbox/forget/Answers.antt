@@ -1,10 +1,12 @@
 use Rattle.std.proofs.Common.{◌≡◌, List, sym, subst}
 use Rattle.enet_receiver.specs.Foresight.{ReceivingEnd}
 use Rattle.enet_inbox.specs.Inbox.{Inbox, forgotten}
+use Rattle.enet_inbox.specs.Bounds.{IsBounded}
 use Rattle.enet_inbox.specs.Invariant.{KeepsInbox, KeepsPackets}
 use Rattle.enet_inbox.specs.InboxParts.{inbox_of}
 use Rattle.enet_inbox.proofs.Keeping.{keeps_forgotten}
 use Rattle.enet_inbox.proofs.Counting.{counts_cleared}
+use Rattle.enet_inbox.proofs.Limits.{bounded_forgotten}
 use Rattle.enet_inbox.proofs.inbox.Inbox.forget.Goals as goal
 
 pub invariant_of-self : goal.invariant_of-self
@@ -16,4 +18,5 @@ invariant_of-self c =
     record {
       inbox = subst (λ (x : Inbox). KeepsInbox x 0) (sym now) (keeps_forgotten b i.waiting c.self.invariant.inbox);
       places = subst (λ (rs : List ReceivingEnd). KeepsPackets rs 0) (sym c.clear_all.ensures) (counts_cleared i.receivers.items);
+      bounded = subst (λ (x : Inbox). IsBounded x) (sym now) (bounded_forgotten b c.self.invariant.bounded);
     }

@@ -1,11 +1,13 @@
 use Rattle.std.proofs.Common.{◌≡◌, ◌<◌, ◌^◌, ◌-◌, List, drop, sym, ap, subst, ◌∙◌, arith}
 use Rattle.enet_receiver.specs.Foresight.{ReceivingEnd}
 use Rattle.enet_inbox.specs.Inbox.{Inbox, narrowed}
+use Rattle.enet_inbox.specs.Bounds.{IsBounded}
 use Rattle.enet_inbox.specs.Invariant.{KeepsInbox, KeepsPackets, packets_in}
 use Rattle.enet_inbox.specs.Private.Invariant.{held_in}
 use Rattle.enet_inbox.specs.InboxParts.{inbox_of}
 use Rattle.enet_inbox.proofs.Keeping.{keeps_narrowed, dropped_counted, rest_of}
 use Rattle.enet_inbox.proofs.Counting.{counts_narrowed, dropped_packets_counted, packets_of_rest}
+use Rattle.enet_inbox.proofs.Limits.{bounded_narrowed}
 use Rattle.enet_inbox.proofs.inbox.Inbox.narrow.Goals as goal
 
 pub held_in-requires : goal.held_in-requires
@@ -41,6 +43,7 @@ invariant_of-self c =
       places =
           subst (λ n. KeepsPackets c.truncate.new.self.items (i.packets - n)) (sym fewer)
           (subst (λ (rs : List ReceivingEnd). KeepsPackets rs (i.packets - packets_in (drop c.args.channels i.receivers.items))) (sym c.truncate.ensures.items) (counts_narrowed i.receivers.items i.packets c.args.channels c.self.invariant.places));
+      bounded = subst (λ (x : Inbox). IsBounded x) (sym now) (bounded_narrowed b c.args.channels c.self.invariant.bounded);
     }
 
 pub packets_in-requires : goal.packets_in-requires

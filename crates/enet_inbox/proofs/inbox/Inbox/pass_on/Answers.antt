@@ -1,13 +1,15 @@
-use Rattle.std.proofs.Common.{◌<◌, ◌+◌, ◌^◌, length, refl, ap, ◌∙◌, arith, Some}
+use Rattle.std.proofs.Common.{◌<◌, ◌+◌, ◌^◌, length, refl, sym, ap, subst, ◌∙◌, arith, Some}
 use Rattle.std.specs.Prelude.{slice_set}
 use Rattle.enet_receiver.specs.ArrivingData.{data_command}
 use Rattle.enet_inbox.specs.Inbox.{Inbox, is_full_for}
 use Rattle.enet_inbox.specs.DataEffect.{sequenced}
+use Rattle.enet_inbox.specs.Bounds.{IsBounded}
 use Rattle.enet_inbox.specs.Invariant.{KeepsInbox}
 use Rattle.enet_inbox.specs.contracts.inbox.Inbox.{the_view}
 use Rattle.enet_inbox.proofs.Outcomes.{foresight_in}
 use Rattle.enet_inbox.proofs.Keeping.{Reached, taken_at, handed_at, kept_passed, bounded}
 use Rattle.enet_inbox.proofs.Counting.{counts_passed}
+use Rattle.enet_inbox.proofs.Limits.{bounded_sequenced}
 use Rattle.enet_inbox.proofs.inbox.Inbox.pass_on.Goals.{After-index_mut-receiver, In-Some}
 use Rattle.enet_inbox.proofs.inbox.Inbox.pass_on.Goals as goal
 
@@ -49,4 +51,9 @@ invariant_of-self-2 c =
     record {
       inbox = (kept at.In-Some t).0;
       places = counts_passed c.self.inside.receivers.items c.self.inside.packets c.args.arriving.head.channel c.index_mut-receiver.result.now c.pass_on.new.receiver c.self.invariant.places t.0 c.index_mut-receiver.ensures.value c.in-Some.ensures.as_many_held;
+      bounded =
+          subst (λ (x : Inbox). IsBounded x)
+          (sym (handed_at (the_view c.self.inside) c.args.arriving.head c.args.arriving.head (Some (data_command c.args.arriving)) (foresight_in c.args.what) c.index_mut-receiver.result.now c.pass_on.new.receiver (is_full_for c.args.self.now c.index_mut-receiver.result.now (data_command c.args.arriving)) c.pass_on.new.untaken.items refl t.1 t.2
+          (c.in-Some.ensures.receiver (is_full_for c.args.self.now c.index_mut-receiver.result.now (data_command c.args.arriving)) t.1.outcome) (c.in-Some.ensures.untaken (is_full_for c.args.self.now c.index_mut-receiver.result.now (data_command c.args.arriving)) t.1.outcome)))
+          (bounded_sequenced (the_view c.self.inside) c.self.inside.waiting c.args.arriving.head.channel (Some (data_command c.args.arriving)) c.self.invariant.bounded c.self.invariant.inbox);
     }

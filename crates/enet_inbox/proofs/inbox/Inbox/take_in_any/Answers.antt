@@ -1,15 +1,17 @@
-use Rattle.std.proofs.Common.{◌≡◌, ◌<◌, ◌+◌, ◌-◌, ◌^◌, length, refl, ap, ◌∙◌, arith, Some}
+use Rattle.std.proofs.Common.{◌≡◌, ◌<◌, ◌+◌, ◌-◌, ◌^◌, length, refl, sym, ap, subst, ◌∙◌, arith, Some}
 use Rattle.std.specs.Prelude.{slice_set}
 use Rattle.enet_receiver.specs.ArrivingData.{data_command}
 use Rattle.enet_receiver.specs.Receiver.{held_bytes}
 use Rattle.enet_receiver.specs.Foresight.{ReceivingEnd}
 use Rattle.enet_inbox.specs.Inbox.{Inbox, is_full_for}
 use Rattle.enet_inbox.specs.DataEffect.{sequenced}
+use Rattle.enet_inbox.specs.Bounds.{IsBounded}
 use Rattle.enet_inbox.specs.Invariant.{KeepsInbox}
 use Rattle.enet_inbox.specs.contracts.inbox.Inbox.{the_view}
 use Rattle.enet_inbox.proofs.Outcomes.{foresight_in}
 use Rattle.enet_inbox.proofs.Counting.{counts_set, one_counted, packets_bounded}
 use Rattle.enet_inbox.proofs.Keeping.{Reached, taken_at, kept_channel, looked_at_twice, handed_at, kept_after, held_counted, bounded}
+use Rattle.enet_inbox.proofs.Limits.{bounded_sequenced}
 use Rattle.enet_inbox.proofs.inbox.Inbox.take_in_any.Goals.{After-index_mut-receiver, After-from-2}
 use Rattle.enet_inbox.proofs.inbox.Inbox.take_in_any.Goals as goal
 
@@ -70,6 +72,10 @@ invariant_of-self-2 c =
     record {
       inbox = (kept at.After-from-2 t).0;
       places = counts_set c.self.inside.receivers.items c.self.inside.packets c.args.arriving.head.channel c.packets-packets_before.result c.packets.result c.index_mut-receiver.result.now c.take_in.new.receiver c.self.invariant.places t.0 c.index_mut-receiver.ensures.value c.packets-packets_before.ensures.packets c.packets.ensures.packets c.packets.ensures.few;
+      bounded =
+          subst (λ (x : Inbox). IsBounded x)
+          (sym (handed_at (the_view c.self.inside) c.args.arriving.head c.args.arriving.head (Some (data_command c.args.arriving)) (foresight_in c.args.what) c.index_mut-receiver.result.now c.take_in.new.receiver c.is_full_for-full.result c.take_in.new.untaken.items refl t.1 t.2 c.in-Some.ensures.receiver c.in-Some.ensures.untaken))
+          (bounded_sequenced (the_view c.self.inside) c.self.inside.waiting c.args.arriving.head.channel (Some (data_command c.args.arriving)) c.self.invariant.bounded c.self.invariant.inbox);
     }
 
 pub overflow_sub-self-2 : goal.overflow_sub-self-2

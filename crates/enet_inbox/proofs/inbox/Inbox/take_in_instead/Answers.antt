@@ -1,17 +1,18 @@
-use Rattle.std.proofs.Common.{◌≡◌, ◌<◌, ◌≤◌, ◌+◌, ◌-◌, ◌^◌, length, List, refl, sym, ap, subst, ◌∙◌, arith, Some}
-use Rattle.std.specs.Prelude.{slice_set}
+use Rattle.std.proofs.Common.{◌≡◌, ◌<◌, ◌+◌, ◌-◌, ◌^◌, length, List, sym, ap, subst, ◌∙◌, arith, Some}
 use Rattle.enet_receiver.specs.ArrivingData.{data_command}
 use Rattle.enet_receiver.specs.Receiver.{held_bytes, held_packets}
 use Rattle.enet_receiver.specs.Foresight.{ReceivingEnd}
 use Rattle.enet_inbox.specs.Inbox.{Inbox, given_way, given_way_receiver}
 use Rattle.enet_inbox.specs.DataEffect.{sequenced}
+use Rattle.enet_inbox.specs.Bounds.{IsBounded}
 use Rattle.enet_inbox.specs.Invariant.{KeepsInbox}
 use Rattle.enet_inbox.specs.Private.Invariant.{waiting_in, waiting_packets_in}
 use Rattle.enet_inbox.specs.Private.InboxParts.{FindsRoom}
 use Rattle.enet_inbox.specs.contracts.inbox.Inbox.{the_view}
 use Rattle.enet_inbox.proofs.Keeping.{bounded}
 use Rattle.enet_inbox.proofs.Counting.{packets_bounded, packets_alone, waiting_packets_counted, counts_made, made_packets_counted}
-use Rattle.enet_inbox.proofs.GivingWay.{Room, room_at, new_in_place, held_alone, waiting_counted, made_after, made_keeps, made_counted}
+use Rattle.enet_inbox.proofs.GivingWay.{Room, room_at, new_in_place, held_alone, waiting_counted, made_after, made_keeps, made_counted, keeps_given_way}
+use Rattle.enet_inbox.proofs.Limits.{bounded_sequenced, bounded_given_way}
 use Rattle.enet_inbox.proofs.inbox.Inbox.take_in_instead.Goals.{After-index_mut-receiver, After-from-2}
 use Rattle.enet_inbox.proofs.inbox.Inbox.take_in_instead.Goals as goal
 
@@ -81,6 +82,11 @@ invariant_of-self-2 c =
       inbox = (kept at.After-from-2 r).0;
       places = counts_made i.max_packet c.args.arriving.head.channel i.packets c.waiting_packets_in-other_packets.result (c.packets.result - c.waiting_packets.result) c.packets-packets_after.result i.receivers.items c.give_way_but.new.receivers.items d c.take_in_instead.new.receiver
           c.self.invariant.inbox.receivers c.self.invariant.places r.low c.index_mut-receiver.ensures.value own c.give_way_but.ensures others was c.packets-packets_after.ensures.packets c.packets-packets_after.ensures.few;
+      bounded =
+          subst (λ (x : Inbox). IsBounded x)
+          (sym (made_after (the_view i) i.waiting c.args.arriving.head.channel (data_command c.args.arriving) d c.take_in_instead.new.receiver c.give_way_but.new.receivers.items c.take_in_instead.new.untaken.items
+          c.self.invariant.inbox r c.in-Some.ensures.receiver c.in-Some.ensures.untaken c.give_way_but.ensures))
+          (bounded_sequenced (given_way (the_view i)) (i.waiting - waiting_in i.receivers.items) c.args.arriving.head.channel (Some (data_command c.args.arriving)) (bounded_given_way (the_view i) c.self.invariant.bounded) (keeps_given_way (the_view i) i.waiting c.self.invariant.inbox));
     }
 
 pub waiting_packets_in-other_packets-requires : goal.waiting_packets_in-other_packets-requires

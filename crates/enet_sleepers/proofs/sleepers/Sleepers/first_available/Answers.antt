@@ -1,8 +1,7 @@
 use Rattle.std.proofs.Common.{◌≤◌, length, sym, arith}
 use Rattle.enet_slot.specs.Slotted.{all_shown}
 use Rattle.enet_slot.proofs.Shown.{length-shown}
-use Rattle.enet_slot.proofs.Seating.{first-none}
-use Rattle.enet_sleepers.proofs.Offered.{found, none-at-all}
+use Rattle.enet_sleepers.proofs.Offered.{first-none, found, none-at-all}
 use Rattle.enet_sleepers.proofs.sleepers.Sleepers.first_available.Goals as goal
 
 pub returns-then-first-slots-clause-first : goal.returns-then-first-slots-clause-first

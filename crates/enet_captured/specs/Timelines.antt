@@ -1,0 +1,18 @@
+-- What a capture holds.
+use Rattle.std.specs.Prelude.{◌≡◌, ◌⊎◌, ◌+◌, ◌*◌, ◌/◌, ℕ, min, Bool, true, false, if◌then◌else◌, List, [], ◌∷◌, ◌++◌, map, length, Option, Some, None}
+use Rattle.enet_codec.specs.declared.stop.Stop.{Stop}
+use Rattle.enet_text.specs.declared.pcap.Captured.{Captured}
+use Rattle.enet_text.specs.declared.pcap.Datagram.{Datagram}
+use Rattle.enet_captured.specs.declared.told.Told.{Told}
+use Rattle.enet_captured.specs.declared.told.Detail.{Detail}
+use Rattle.enet_captured.specs.declared.told.Detail.TheVariants.{Nothing, Received, Offered, Unreliable, Group, Piece}
+use Rattle.enet_captured.specs.declared.timeline.Way.{Way}
+use Rattle.enet_captured.specs.declared.timeline.Mark.{Mark}
+
+-- When a packet was captured, in microseconds.
+abbrev pub moment_of : Captured → Bool → ℕ
+moment_of captured nanoseconds = captured.seconds * 1000000 + (if nanoseconds then captured.parts / 1000 else captured.parts)
+
+-- A command of a datagram.
+abbrev pub mark_of : ℕ → ℕ → Way → Told → Mark
+mark_of datagram connection way told = record { datagram = datagram; connection = connection; way = way; told = told }

@@ -1,0 +1,5 @@
+pub mod Texts
+pub mod Trips
+pub mod Readings
+pub mod Questions
+pub mod Answers

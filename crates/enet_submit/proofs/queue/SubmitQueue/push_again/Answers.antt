@@ -1,0 +1,25 @@
+use Rattle.std.proofs.Common.{refl, sym, ap, arith}
+use Rattle.enet_submit.specs.Parcels.{numbered}
+use Rattle.enet_submit.specs.Requests.{orders_of}
+use Rattle.enet_submit.proofs.Rules.{submits, seat_after, seat_found_full, seat_pushed}
+use Rattle.enet_submit.proofs.queue.SubmitQueue.push_again.Goals as goal
+
+pub push_as-requires-clause-rule : goal.push_as-requires-clause-rule
+push_as-requires-clause-rule g c = let s = c.args.seat.now in (submits _ _ _ s.number _ _ s.sees s.within refl (sym s.counted) (omega (arith, c.requires.room, c.requires.counted.0)))
+
+pub invariant_of-seat-clause-sees : goal.invariant_of-seat-clause-sees
+invariant_of-seat-clause-sees g c = let s = c.args.seat.now in (seat_after _ _ s.number s.count (orders_of c.args.request) s.sees c.in-Ok.ensures.rule).0
+
+pub invariant_of-seat-clause-counted : goal.invariant_of-seat-clause-counted
+invariant_of-seat-clause-counted g c = let s = c.args.seat.now in omega (arith, (seat_after _ _ s.number s.count (orders_of c.args.request) s.sees c.in-Ok.ensures.rule).2, s.counted, c.requires.counted.0)
+
+pub invariant_of-seat-clause-within : goal.invariant_of-seat-clause-within
+invariant_of-seat-clause-within g c = let s = c.args.seat.now in omega (arith, (seat_after _ _ s.number s.count (orders_of c.args.request) s.sees c.in-Ok.ensures.rule).1, s.within)
+
+pub returns-in-Ok-clause-pushed : goal.returns-in-Ok-clause-pushed
+returns-in-Ok-clause-pushed g c =
+    let s = c.args.seat.now in
+    seat_pushed _ _ s.number _ (numbered s.number s.count (orders_of c.args.request)) _ s.sees c.requires.seat.1 (ap (λ n. numbered s.number n (orders_of c.args.request)) (sym s.counted)) c.in-Ok.ensures.rule
+
+pub returns-in-Err-clause-full : goal.returns-in-Err-clause-full
+returns-in-Err-clause-full g c = let s = c.args.seat.now in seat_found_full _ s.number _ _ s.sees c.requires.seat.1 c.in-Err.ensures.rule.2

@@ -1,0 +1,17 @@
+use Rattle.std.proofs.Common.{◌≡◌, ◌∙◌, arith, subst}
+use Rattle.enet_world.specs.Calm.{Rounds}
+use Rattle.enet_world.proofs.Calming.{rounds-more}
+use Rattle.enet_world.proofs.world.World.calm.Goals as goal
+
+pub rounds-preserved : goal.rounds-preserved
+rounds-preserved c = record {
+  rounds = rounds-more c.args.ms c.rounds.played c.rounds.told c.round-now.result (record { a = c.plus-of_a.result; b = c.plus-of_b.result }) c.args.self.now.world c.rounds.self.world
+      c.round-now.new.self.world c.rounds.invariant.rounds c.round-now.ensures.round (λ i. record { a = c.plus-of_a.ensures i; b = c.plus-of_b.ensures i });
+  end = omega (arith, c.rounds-test.true);
+  joined = c.round-now.ensures.joined ∙ c.rounds.invariant.joined;
+}
+
+pub returns-clause-rounds : goal.returns-clause-rounds
+returns-clause-rounds c =
+    let all : c.rounds.played ≡ c.args.rounds = omega (arith, c.rounds-test.false, c.rounds.invariant.end) in
+    subst (λ n. Rounds c.args.ms n c.rounds.told c.args.self.now.world c.rounds.self.world) all c.rounds.invariant.rounds

@@ -1,0 +1,181 @@
+//! Rounds in which the network loses nothing.
+
+ghost use Rattle.std.specs.Prelude.{◌≡◌, ◌≤◌, is_some};
+ghost use Rattle.law_network.specs.Headline.{HasHeadline};
+ghost use Rattle.enet_world.specs.Calm.{PutsAllOut, Round, Rounds, TakesAll, both, datagram_in, event_in, refusals_in};
+
+use crate::world::{World, other};
+use enet_codec::Refusal;
+use law_network::{Answer, Side, WorldEvent};
+
+/// How many datagrams a side puts out in a round, and how many events its user takes, at most.
+const MOST: u64 = 65_536;
+
+/// What a side did in rounds without losses.
+#[derive(Clone, Copy)]
+pub struct Share {
+    /// How many datagrams it put out.
+    pub sent: u64,
+    /// How many of them the other side refused.
+    pub refused: u64,
+    /// How many events its user took.
+    pub taken: u64,
+}
+
+/// What came of rounds without losses.
+#[derive(Clone, Copy)]
+pub struct Calm {
+    /// What A did.
+    pub a: Share,
+    /// What B did.
+    pub b: Share,
+}
+
+/// What a side put out in a round.
+#[derive(Clone, Copy)]
+struct Output {
+    sent: u64,
+    refused: u64,
+}
+
+impl Share {
+    const NOTHING: Share = Share {
+        sent: 0,
+        refused: 0,
+        taken: 0,
+    };
+
+    /// The sums of both.
+    fn plus(self, more: Share) -> Share
+        ensures { result ≡ both self more }
+    {
+        Share {
+            sent: self.sent.saturating_add(more.sent),
+            refused: self.refused.saturating_add(more.refused),
+            taken: self.taken.saturating_add(more.taken),
+        }
+    }
+}
+
+/// The number of the datagram that an answer tells of.
+fn datagram_in(told: &Result<Answer, Refusal>) -> Option<u64>
+    ensures { result ≡ datagram_in told.now }
+{
+    match told {
+        Ok(Answer::Sent(number)) => *number,
+        _ => None,
+    }
+}
+
+/// Whether an answer tells of an event.
+fn has_event(told: &Result<Answer, Refusal>) -> bool
+    ensures { result ≡ is_some (event_in told.now) }
+{
+    match told {
+        Ok(Answer::Taken(Some(_))) => true,
+        _ => false,
+    }
+}
+
+/// How many deliveries an answer tells were refused.
+fn refusals_in(answer: &Result<Answer, Refusal>) -> u64
+    ensures counted { result ≡ refusals_in answer.now }
+    ensures few { result ≤ 1 }
+{
+    match answer {
+        Ok(_) => 0,
+        Err(_) => 1,
+    }
+}
+
+impl World {
+    /// Makes rounds happen in which the network loses nothing. In each both clocks go on by so many milliseconds, at most 60,000; then
+    /// A puts out all that it may, and then B, and each datagram comes at once to the other side; and then both users take all that
+    /// there is. No side puts out more than 65,536 datagrams in a round, and no user takes more events.
+    ///
+    /// `rounds`: this is what happens, event by event, each as `step` makes it happen, and it is counted; the counts stop at 2^64 - 1,
+    /// which so few rounds can't reach. A turn or a take that is refused for want of memory counts as one that brought nothing; a
+    /// datagram that the other side refuses, also for want of memory, is counted, and doesn't come again.
+    pub fn calm(&mut self, rounds: u16, ms: u32) -> Calm
+        ensures rounds { Rounds ms rounds result self.old.world self.new.world }
+        ensures joined { self.new.joined ≡ self.old.joined }
+        ensures headline { HasHeadline self.new.joined self.new.world }
+    {
+        let mut told = Calm {
+            a: Share::NOTHING,
+            b: Share::NOTHING,
+        };
+        let mut played = 0;
+        'rounds: while played < rounds {
+            let now = self.round(ms);
+            let of_a = told.a.plus(now.a);
+            let of_b = told.b.plus(now.b);
+            told = Calm { a: of_a, b: of_b };
+            played += 1;
+        }
+        self.headline();
+        told
+    }
+
+    fn round(&mut self, ms: u32) -> Calm
+        ensures round { Round ms result self.old.world self.new.world }
+        ensures joined { self.new.joined ≡ self.old.joined }
+    {
+        let _told_a = self.happen(&WorldEvent::Tick { side: Side::A, ms });
+        let _told_b = self.happen(&WorldEvent::Tick { side: Side::B, ms });
+        let out_a = self.put_all_out(Side::A);
+        let out_b = self.put_all_out(Side::B);
+        let taken_a = self.take_all(Side::A);
+        let taken_b = self.take_all(Side::B);
+        Calm {
+            a: Share {
+                sent: out_a.sent,
+                refused: out_a.refused,
+                taken: taken_a,
+            },
+            b: Share {
+                sent: out_b.sent,
+                refused: out_b.refused,
+                taken: taken_b,
+            },
+        }
+    }
+
+    /// A side puts out all that it may, and each datagram comes at once to the other side.
+    fn put_all_out(&mut self, side: Side) -> Output
+        ensures all { PutsAllOut side result.sent result.refused self.old.world self.new.world }
+        ensures joined { self.new.joined ≡ self.old.joined }
+    {
+        let mut sent = 0;
+        let mut refused = 0;
+        'turns: while sent < MOST {
+            let told = self.happen(&WorldEvent::Turn { side });
+            let Some(k) = datagram_in(&told) else {
+                return Output { sent, refused };
+            };
+            let answer = self.happen(&WorldEvent::Deliver {
+                side: other(side),
+                k,
+            });
+            refused += refusals_in(&answer);
+            sent += 1;
+        }
+        Output { sent, refused }
+    }
+
+    /// A user takes all events that there are. How many there were.
+    fn take_all(&mut self, side: Side) -> u64
+        ensures all { TakesAll side result self.old.world self.new.world }
+        ensures joined { self.new.joined ≡ self.old.joined }
+    {
+        let mut taken = 0;
+        'takes: while taken < MOST {
+            let told = self.happen(&WorldEvent::Take { side });
+            if !has_event(&told) {
+                return taken;
+            }
+            taken += 1;
+        }
+        taken
+    }
+}
