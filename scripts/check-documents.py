@@ -20,13 +20,11 @@ import subprocess
 import sys
 
 DOCUMENTS = ["README.md", "CONTRIBUTING.md", *sorted(glob.glob("docs/*.md"))]
-# Names that stand nowhere in the repository by their nature: the kit's, the system's, the reference library's own, and those of definitions
-# that are gone, which docs/PERF.md names to say what replaced them.
+# Names that stand nowhere in the repository by their nature: the kit's, the system's and the reference library's own.
 ELSEWHERE = re.compile(
     r"rt( .*)?|rattle.*|logic [0-9a-f]+|SHORTER_PROOFS\.md|FIRST_PROOFS\.md|docs/NOT_COVERED\.md|itoa|"
     r"ss( .*)?|perf.*|valgrind.*|nft.*|ulimit.*|net\..*|[A-Z]\w+=.*|-l\w+|"
-    r"ENetChannel|enet_channel|initialize_with_callbacks|peer_throttle|reset_queues|setup_outgoing_command|protocol_command_size|recvmmsg|"
-    r"KeepsSkips|Witness"
+    r"ENetChannel|enet_channel|initialize_with_callbacks|peer_throttle|reset_queues|setup_outgoing_command|protocol_command_size|recvmmsg"
 )
 # Parts of a name that stand for any: `crate/specs/File`, `on_*`, `Sound-EVENT`, `example_..`.
 STANDS_FOR = re.compile(r"\*|\.\.|\b(crate|CRATE|NAME|FILE|File|EVENT|FOLDER|COMMIT)\b")
