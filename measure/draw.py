@@ -100,8 +100,8 @@ def trips():
     bottom = 60 + STEP * len(cells)
     picture = Picture(LEFT + 590, bottom + 44, "A packet's trip at light load")
     picture.key(LEFT, 36, [("one thread", BLUE), ("two threads", GREY), ("libenet, in the runs of either", GREEN)])
-    across = log_scale(70, 7000, LEFT, 560)
-    for value in (100, 200, 500, 1000, 2000, 5000):
+    across = log_scale(45, 7000, LEFT, 560)
+    for value in (50, 100, 200, 500, 1000, 2000, 5000):
         picture.line(across(value), 46, across(value), bottom)
         picture.text(across(value), bottom + 14, f"{value:,}", anchor="middle")
     for at, (name, rows) in enumerate(cells.items()):
@@ -176,7 +176,7 @@ def instructions():
     ours = [row for row in rows if not row["change"].startswith("libenet")]
     theirs = [row for row in rows if row["change"].startswith("libenet")]
     picture = Picture(760, 400, "Instructions of the layer for C a delivered packet of 32 bytes, one client")
-    picture.key(70, 36, [("unreliable", BLUE), ("reliable", ORANGE), ("libenet (dashes)", GREEN)])
+    picture.key(70, 36, [("unreliable", BLUE), ("reliable", ORANGE), ("libenet: dashes", GREY)])
     wide = 590 / len(ours)
 
     def up(value):
@@ -196,7 +196,7 @@ def instructions():
             picture.line(x, y, x + wide, y, colour, 2.0)
             last = y
         for row in theirs[-1:]:
-            picture.line(70, up(float(row[column])), 660, up(float(row[column])), GREEN, 1.5, "5 3")
+            picture.line(70, up(float(row[column])), 660, up(float(row[column])), colour, 1.5, "5 3")
     for at, row in enumerate(ours):
         picture.text(76 + wide * at, 290, row["change"], turn=32)
     return picture.svg()
