@@ -12,7 +12,8 @@ use Rattle.enet_senders.specs.Controlling as controlling
 use Rattle.enet_fragment.specs.DataCommand.{message_of}
 use Rattle.enet_sender.specs.declared.outgoing.Kind.{Kind}
 use Rattle.enet_sender.specs.declared.outgoing.Kind.TheVariants.{Reliable, Begins, More}
-use Rattle.enet_sender.specs.Sender.{Occasion, Next, next, with_skipped}
+use Rattle.enet_sender.specs.declared.outgoing.Occasion.{Occasion}
+use Rattle.enet_sender.specs.Sender.{Next, next, with_skipped}
 use Rattle.enet_sender.specs.Due.{SendingEnd, due_kind}
 use Rattle.enet_outbox.specs.declared.parts.Acknowledgement.{Acknowledgement}
 use Rattle.enet_outbox.specs.declared.parts.Unsequenced.{Unsequenced}

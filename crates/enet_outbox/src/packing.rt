@@ -16,7 +16,7 @@ ghost use Rattle.enet_outbox.specs.Private.Packing.{header_asking, Leads, taken_
 
 use crate::{Acknowledgement, Destination, Outbox, Pace, Unsequenced, lists};
 use enet_codec::{Command, Head, Header, NO_PEER, write_acknowledge, write_command, write_header};
-use enet_sender::{Due, Kind};
+use enet_sender::{Due, Kind, Occasion};
 use enet_senders::{ControlChannel, Senders, Written};
 use enet_throttle::Throttle;
 use std::collections::VecDeque;
@@ -268,15 +268,13 @@ fn pack_channel(
     'turns: loop {
         let place = progress.place(buf);
         let most = flow.throttle.transit_limit(pace.window, pace.mtu);
-        match senders.next_due(
-            channel,
-            pace.now,
-            pace.timeout,
-            flow.transit,
+        let occasion = Occasion {
+            now: pace.now,
+            timeout: pace.timeout,
+            transit: flow.transit,
             most,
-            buf,
-            place,
-        ) {
+        };
+        match senders.next_due(channel, occasion, buf, place) {
             Due::Sent { past, added, kind } => {
                 if refuses(&mut flow.throttle, kind) {
                     senders.skip(channel);

@@ -34,7 +34,8 @@ use Rattle.enet_inbox.specs.Inbox.{Inbox, is_full, is_full_for, cleared_receiver
 use Rattle.enet_inbox.specs.DataEffect.{DataEffect, handled, stopped as refused, unsequenced, unsequenced_taken, by_took, sequenced, sequenced_on, passed_over, makes_room, met, arrival, arrival_of, emptied}
 use Rattle.enet_sender.specs.CommandChoice.{Packet}
 use Rattle.enet_sender.specs.declared.sent.Sent.{Sent}
-use Rattle.enet_sender.specs.Sender.{Occasion, Sender, Next, next, with_skipped}
+use Rattle.enet_sender.specs.declared.outgoing.Occasion.{Occasion}
+use Rattle.enet_sender.specs.Sender.{Sender, Next, next, with_skipped}
 use Rattle.enet_sender.specs.Sender as sender
 use Rattle.enet_sender.specs.Due.{SendingEnd, new_end}
 use Rattle.enet_outbox.specs.declared.parts.Acknowledgement.{Acknowledgement}

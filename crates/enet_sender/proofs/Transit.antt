@@ -9,7 +9,8 @@ use Rattle.enet_seq.specs.Numbering.{Numbering}
 use Rattle.enet_fragment.specs.declared.data.DataCommand.{DataCommand}
 use Rattle.enet_sender.specs.declared.sent.Sent.{Sent}
 use Rattle.enet_sender.specs.declared.outgoing.Left.{Left}
-use Rattle.enet_sender.specs.Sender.{Occasion, Sender, Next, next, next_of, next_queued, next_resent, first_sent, resent, begun, again, may_go, is_after_first, skipped, with_skipped, after_acknowledgement, acknowledged_bytes, without_place, position_of, size_at, size_of, marked, with_marked, bytes_in_transit, left}
+use Rattle.enet_sender.specs.declared.outgoing.Occasion.{Occasion}
+use Rattle.enet_sender.specs.Sender.{Sender, Next, next, next_of, next_queued, next_resent, first_sent, resent, begun, again, may_go, is_after_first, skipped, with_skipped, after_acknowledgement, acknowledged_bytes, without_place, position_of, size_at, size_of, marked, with_marked, bytes_in_transit, left}
 use Rattle.enet_sender.specs.Invariant.{reliable_in}
 use Rattle.enet_sender.proofs.Counting.{found_by_count, counted-head}
 

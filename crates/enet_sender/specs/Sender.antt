@@ -11,6 +11,7 @@ use Rattle.enet_fragment.specs.Cutting.{piece_length}
 use Rattle.enet_fragment.specs.declared.data.DataCommand.{DataCommand}
 use Rattle.enet_sender.specs.declared.sent.Sent.{Sent}
 use Rattle.enet_sender.specs.declared.outgoing.Left.{Left}
+use Rattle.enet_sender.specs.declared.outgoing.Occasion.{Occasion}
 use Rattle.enet_sender.specs.CommandChoice.{Packet, ChosenPacket, carried_as, is_long}
 
 pub record Sender : Type 0 where
@@ -76,13 +77,6 @@ is_in_span g (oldest ∷ sent) number = nat_lt (g.ahead oldest.command.number nu
 -- whether the head of the queue may go: `transit` bytes are in transit, and `most` may be
 abbrev pub may_go : Numbering → List Sent → ℕ → ℕ → DataCommand → Bool
 may_go g sent transit most c = not c.reliable || (is_in_span g sent c.number && nat_le (transit + length c.body) most)
-
--- what a sender is told when it is asked what is due
-pub record Occasion : Type 0 where
-  pub now : ℕ  -- the clock, in milliseconds
-  pub timeout : ℕ  -- how long a first send waits for its acknowledgement, in milliseconds
-  pub transit : ℕ  -- the payload bytes of the peer that are sent and unacknowledged
-  pub most : ℕ  -- how many of them there may be
 
 -- what is due next: a command with the sender after it
 pub record Next : Type 0 where

@@ -4,7 +4,8 @@
 ghost use Rattle.std.specs.Prelude.{◌≡◌, ℕ, ◌+◌, Some, unwrap_or};
 ghost use Rattle.enet_seq.specs.Numbering.{Numbering};
 ghost use Rattle.enet_sender.specs.CommandChoice.{Packet};
-ghost use Rattle.enet_sender.specs.Sender.{Occasion, Sender, Next, next, submitted, with_skipped, after_acknowledgement, acknowledged_bytes, with_marked, cleared, bytes_in_transit, left};
+ghost use Rattle.enet_sender.specs.declared.outgoing.Occasion.{Occasion};
+ghost use Rattle.enet_sender.specs.Sender.{Sender, Next, next, submitted, with_skipped, after_acknowledgement, acknowledged_bytes, with_marked, cleared, bytes_in_transit, left};
 
 /// How the payload bytes of what is sent and not acknowledged change: what is due next adds just the bytes that it tells, an
 /// acknowledgement takes out just those that it answers, `clear` takes out all, and nothing else changes them.

@@ -31,6 +31,6 @@ mod timed;
 mod writing;
 
 pub use laws::{reliable_stays_left, transit_follows};
-pub use outgoing::{Due, Kind, Left, Outgoing};
+pub use outgoing::{Due, Kind, Left, Occasion, Outgoing};
 pub use pending::Pending;
 pub use sent::Sent;

@@ -49,6 +49,19 @@ pub enum Kind {
     More,
 }
 
+/// What a sender is told when it is asked what is due.
+#[derive(Clone, Copy)]
+pub struct Occasion {
+    /// The clock, in milliseconds.
+    pub now: u32,
+    /// How long a command that is sent for the first time waits for its acknowledgement, in milliseconds.
+    pub timeout: u32,
+    /// The payload bytes of the peer that are sent and unacknowledged.
+    pub transit: u32,
+    /// How many of them there may be.
+    pub most: u32,
+}
+
 /// What `next_due` did.
 #[derive(Clone, Copy)]
 pub enum Due {
@@ -114,31 +127,25 @@ impl Outgoing {
     /// A reliable command goes for the first time where its number is less than 8,192 past the oldest unacknowledged one,
     /// and where the bytes in transit of the peer and its own are together at most `most` (our profile). Where it may
     /// not, nothing behind it goes. A resend keeps its number and is not tested. Where no command may go, the answer is
-    /// `Nothing`; where one may and does not fit, `NoRoom`. Neither changes anything, and the buffer stays.
-    ///
-    /// `now` is the clock and `timeout` how long to wait for the acknowledgement, in milliseconds; `transit` are the
-    /// payload bytes of the peer that are sent and unacknowledged. It takes no memory.
+    /// `Nothing`; where one may and does not fit, `NoRoom`. Neither changes anything, and the buffer stays. It takes no memory.
     pub fn next_due(
         &mut self,
         pending: &mut Pending,
-        now: u32,
-        timeout: u32,
-        transit: u32,
-        most: u32,
+        occasion: Occasion,
         buf: &mut [u8],
         at: usize,
     ) -> Due
         requires kept { KeepsIn pending.old self.old }
         requires room { HasRoom self.old }
-        ensures did { Did (next wire (record { now = now; timeout = timeout; transit = transit; most = most })
+        ensures did { Did (next wire occasion
             (sender_in pending.old self.old)) result (end_in pending.old self.old) (end_in pending.new self.new) (record { old = buf.old; at = at; new = buf.new }) }
         ensures kept { KeepsIn pending.new self.new }
         ensures passes { PassesIn pending.old self.old pending.new self.new }
         ensures room { HasRoom self.new }
     {
         match self.next_resend(pending) {
-            Some(place) => self.resend(pending, place, now, buf, at),
-            None => self.send_first(pending, now, timeout, transit, most, buf, at),
+            Some(place) => self.resend(pending, place, occasion.now, buf, at),
+            None => self.send_first(pending, occasion, buf, at),
         }
     }
 
@@ -233,17 +240,14 @@ impl Outgoing {
     fn send_first(
         &mut self,
         pending: &mut Pending,
-        now: u32,
-        timeout: u32,
-        transit: u32,
-        most: u32,
+        occasion: Occasion,
         buf: &mut [u8],
         at: usize,
     ) -> Due
         requires kept { KeepsIn pending.old self.old }
         requires room { HasRoom self.old }
         requires none { NoneDue (get pending.old.slab) self.old.sent.items 0 (length self.old.sent.items) }
-        ensures did { Did (next_queued wire (record { now = now; timeout = timeout; transit = transit; most = most })
+        ensures did { Did (next_queued wire occasion
             (sender_in pending.old self.old) (sender_in pending.old self.old).queued) result
             (end_in pending.old self.old) (end_in pending.new self.new) (record { old = buf.old; at = at; new = buf.new }) }
         ensures kept { KeepsIn pending.new self.new }
@@ -257,7 +261,7 @@ impl Outgoing {
             unreachable!()
         };
         let command = &head.command;
-        if !self.may_go(command, transit, most) {
+        if !self.may_go(command, occasion.transit, occasion.most) {
             return Due::Nothing;
         }
         let kind = due_kind(command);
@@ -267,7 +271,7 @@ impl Outgoing {
             return Due::NoRoom;
         };
         if reliable {
-            self.begin(pending, key, number, now, timeout);
+            self.begin(pending, key, number, occasion.now, occasion.timeout);
         } else {
             self.leave(pending, key);
         }

@@ -20,7 +20,8 @@ use Rattle.enet_sender.specs.declared.outgoing.Outgoing.{Outgoing}
 use Rattle.enet_sender.specs.declared.sent.Sent.{Sent}
 use Rattle.enet_sender.specs.Rings.{end_of}
 use Rattle.enet_seq.specs.Numbering.{Numbering, wire}
-use Rattle.enet_sender.specs.Sender.{Sender, Occasion, Next, marked, left, after_acknowledgement, without_place, position_of, skipped, with_skipped, next, next_of, next_queued, next_resent}
+use Rattle.enet_sender.specs.declared.outgoing.Occasion.{Occasion}
+use Rattle.enet_sender.specs.Sender.{Sender, Next, marked, left, after_acknowledgement, without_place, position_of, skipped, with_skipped, next, next_of, next_queued, next_resent}
 use Rattle.enet_sender.proofs.Lists.{position_none}
 use Rattle.enet_sender.specs.declared.outgoing.Due.{Due}
 use Rattle.enet_sender.specs.declared.outgoing.Due.TheVariants as due

@@ -20,7 +20,7 @@ use crate::channel_set::ChannelSet;
 use bytes::Bytes;
 use enet_codec::Refusal;
 use enet_rtt::Patience;
-use enet_sender::{Due, Outgoing, Pending};
+use enet_sender::{Due, Occasion, Outgoing, Pending};
 use std::alloc::Global;
 use std::marker::Model;
 
@@ -97,10 +97,7 @@ fn next_due_on(
     channels: &mut Vec<Outgoing>,
     pending: &mut Pending,
     channel: u8,
-    now: u32,
-    timeout: u32,
-    transit: u32,
-    most: u32,
+    occasion: Occasion,
     buf: &mut [u8],
     at: usize,
 ) -> Due
@@ -108,11 +105,11 @@ fn next_due_on(
     requires inside { channel < length channels.old.items }
     ensures did { (s : SendingEnd) → slice_get (ends_in pending.old channels.old.items) channel ≡ Some s
         → (t : SendingEnd) × ((ends_in pending.new channels.new.items ≡ slice_set (ends_in pending.old channels.old.items) channel t)
-        × Did (next wire (record { now = now; timeout = timeout; transit = transit; most = most }) s.sender) result s t
+        × Did (next wire occasion s.sender) result s t
         (record { old = buf.old; at = at; new = buf.new })) }
     ensures kept { KeepsAllIn pending.new channels.new.items }
 {
-    channels[usize::from(channel)].next_due(pending, now, timeout, transit, most, buf, at)
+    channels[usize::from(channel)].next_due(pending, occasion, buf, at)
 }
 
 /// Whether a channel surely has to wait.
@@ -337,33 +334,18 @@ impl Senders {
     }
 
     /// Writes the next command of a channel at `at`, where one may go, and keeps it as sent if it is reliable, as
-    /// `Outgoing::next_due` does. Neither `NoRoom` nor `Nothing` changes anything, and the buffer stays.
-    ///
-    /// `now` is the clock and `timeout` how long to wait for the acknowledgement, in milliseconds; `transit` are the
-    /// payload bytes of the peer that are sent and unacknowledged, and `most` is how many may be. It takes no memory.
-    pub fn next_due(
-        &mut self,
-        channel: u8,
-        now: u32,
-        timeout: u32,
-        transit: u32,
-        most: u32,
-        buf: &mut [u8],
-        at: usize,
-    ) -> Due
+    /// `Outgoing::next_due` does. Neither `NoRoom` nor `Nothing` changes anything, and the buffer stays. It takes no memory.
+    pub fn next_due(&mut self, channel: u8, occasion: Occasion, buf: &mut [u8], at: usize) -> Due
         requires { channel < length self.old }
         ensures { (s : SendingEnd) → slice_get self.old channel ≡ Some s
-            → (t : SendingEnd) × ((self.new ≡ slice_set self.old channel t) × Did (next wire (record { now = now; timeout = timeout; transit = transit; most = most }) s.sender) result s t
+            → (t : SendingEnd) × ((self.new ≡ slice_set self.old channel t) × Did (next wire occasion s.sender) result s t
             (record { old = buf.old; at = at; new = buf.new })) }
     {
         let due = next_due_on(
             &mut self.channels,
             &mut self.pending,
             channel,
-            now,
-            timeout,
-            transit,
-            most,
+            occasion,
             buf,
             at,
         );

@@ -6,7 +6,8 @@ use Rattle.std.specs.Prelude.{nat_lt}
 use Rattle.enet_seq.specs.Windows.{ahead}
 use Rattle.enet_seq.specs.Numbering.{wire}
 use Rattle.enet_fragment.specs.declared.data.DataCommand.{DataCommand}
-use Rattle.enet_sender.specs.Sender.{Occasion, Sender, Next, next}
+use Rattle.enet_sender.specs.declared.outgoing.Occasion.{Occasion}
+use Rattle.enet_sender.specs.Sender.{Sender, Next, next}
 use Rattle.law_connection.specs.Greatest.{greatest_after, greatest_over}
 use Rattle.law_connection.specs.FirstSends.{first_sends, first_sends_of, numbers_sent}
 use Rattle.law_connection.specs.Link.{PutOut}

@@ -9,7 +9,8 @@ use Rattle.enet_senders.specs.declared.control.Numbered.{Numbered}
 use Rattle.enet_senders.specs.declared.control.SentControl.{SentControl}
 use Rattle.enet_senders.specs.Controlling.{Commands, is_reliable, begun}
 use Rattle.enet_senders.specs.Controlling as controlling
-use Rattle.enet_sender.specs.Sender.{Occasion, Next, next}
+use Rattle.enet_sender.specs.declared.outgoing.Occasion.{Occasion}
+use Rattle.enet_sender.specs.Sender.{Next, next}
 use Rattle.enet_sender.specs.Sender as sender
 use Rattle.enet_sender.specs.Due.{SendingEnd}
 use Rattle.enet_outbox.specs.Outbox.{Outbox, cleared_sender, marked_sender, has_ended, with_control}

@@ -13,7 +13,8 @@ use Rattle.enet_fragment.proofs.Cuts.{piece_count-enough}
 use Rattle.enet_fragment.specs.declared.data.DataCommand.{DataCommand}
 use Rattle.enet_receiver.specs.Receiver.{Receiver}
 use Rattle.enet_sender.specs.CommandChoice.{Packet, ChosenPacket, carried, carried_from, carried_as, goes_reliable}
-use Rattle.enet_sender.specs.Sender.{Occasion, Sender, Next, commands_of, with_queued, again, begun, is_in_span, may_go, resent, first_sent, next_queued, next_resent, next_of, next, is_more, skipped, with_skipped, marked}
+use Rattle.enet_sender.specs.declared.outgoing.Occasion.{Occasion}
+use Rattle.enet_sender.specs.Sender.{Sender, Next, commands_of, with_queued, again, begun, is_in_span, may_go, resent, first_sent, next_queued, next_resent, next_of, next, is_more, skipped, with_skipped, marked}
 use Rattle.enet_sender.specs.declared.sent.Sent.{Sent}
 use Rattle.law_connection.specs.Follows.{command_count, count_after}
 use Rattle.law_connection.specs.Link.{wired}

@@ -9,7 +9,8 @@ use Rattle.enet_receiver.specs.Receiver.{Receiver}
 use Rattle.enet_receiver.specs.Foresight.{ReceivingEnd, after_command}
 use Rattle.enet_inbox.specs.Inbox.{cleared_receiver, is_full_for}
 use Rattle.enet_inbox.specs.DataEffect.{emptied}
-use Rattle.enet_sender.specs.Sender.{Occasion, Sender, Next, next, with_skipped, with_marked, nothing_sent}
+use Rattle.enet_sender.specs.declared.outgoing.Occasion.{Occasion}
+use Rattle.enet_sender.specs.Sender.{Sender, Next, next, with_skipped, with_marked, nothing_sent}
 use Rattle.enet_sender.specs.Sender as sender
 use Rattle.enet_sender.specs.Due.{SendingEnd}
 use Rattle.enet_sender.specs.CommandChoice as command_choice

@@ -14,7 +14,8 @@ use Rattle.enet_rtt.specs.declared.expiry.Expiry.{Expiry}
 use Rattle.enet_rtt.specs.declared.expiry.Expiry.TheVariants.{No, Resend, End}
 use Rattle.enet_fragment.specs.declared.data.DataCommand.{DataCommand}
 use Rattle.enet_sender.specs.CommandChoice.{Packet, ChosenPacket, carried_as}
-use Rattle.enet_sender.specs.Sender.{Occasion, Sender, Next, nothing_sent, command_at, commands_of, with_queued, submitted, again, begun, is_in_span, may_go, first_sent, next_queued, next_resent, next_of, next, is_after_first, is_more, skipped, with_skipped, position_of, without_place, after_acknowledgement, size_of, size_at, acknowledged_bytes, bytes_in_transit, is_late, marked, with_marked, ends, lateness, after_lateness, cleared, left}
+use Rattle.enet_sender.specs.declared.outgoing.Occasion.{Occasion}
+use Rattle.enet_sender.specs.Sender.{Sender, Next, nothing_sent, command_at, commands_of, with_queued, submitted, again, begun, is_in_span, may_go, first_sent, next_queued, next_resent, next_of, next, is_after_first, is_more, skipped, with_skipped, position_of, without_place, after_acknowledgement, size_of, size_at, acknowledged_bytes, bytes_in_transit, is_late, marked, with_marked, ends, lateness, after_lateness, cleared, left}
 use Rattle.enet_sender.specs.declared.sent.Sent.{Sent}
 use Rattle.law_connection.specs.Link.{wired, wired_fragment}
 use Rattle.law_connection.specs.Image.{reliable_count, reached, numbers_of, IsRising, IsRow, IsInOrder, wired_sent, ShowsSender, ShowsNext}

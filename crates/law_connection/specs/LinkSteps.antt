@@ -2,7 +2,8 @@
 use Rattle.std.specs.Prelude.{◌≡◌, ℕ, Bool, true, false, ◌≤◌, List, [], ◌∷◌, ◌++◌, Some, map}
 use Rattle.enet_seq.specs.Numbering.{wire}
 use Rattle.enet_sender.specs.CommandChoice.{Packet, carried_as, fragment_limit}
-use Rattle.enet_sender.specs.Sender.{Occasion, Sender, Next, next, nothing_sent}
+use Rattle.enet_sender.specs.declared.outgoing.Occasion.{Occasion}
+use Rattle.enet_sender.specs.Sender.{Sender, Next, next, nothing_sent}
 use Rattle.enet_packets.specs.declared.incoming_packet.Dispatched.{Dispatched}
 use Rattle.enet_receiver.specs.Receiver.{Receiver, nothing_received}
 use Rattle.enet_receiver.specs.DataOutcome.{acknowledged}

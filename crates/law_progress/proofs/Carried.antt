@@ -5,7 +5,8 @@ use Rattle.std.specs.List.{slice_get, slice_set}
 use Rattle.enet_seq.specs.Numbering.{wire}
 use Rattle.enet_fragment.specs.declared.data.DataCommand.{DataCommand}
 use Rattle.enet_receiver.specs.DataOutcome.{acknowledged}
-use Rattle.enet_sender.specs.Sender.{Occasion, Sender, Next, next, again, begun, resent, first_sent, is_more, skipped}
+use Rattle.enet_sender.specs.declared.outgoing.Occasion.{Occasion}
+use Rattle.enet_sender.specs.Sender.{Sender, Next, next, again, begun, resent, first_sent, is_more, skipped}
 use Rattle.enet_sender.specs.declared.sent.Sent.{Sent}
 use Rattle.law_connection.specs.Link.{PutOut, Answer, is_late}
 use Rattle.law_connection.specs.WireLink.{WireLink, sends, drops, puts_out, with_reach, arrives, logs_answer, answered}

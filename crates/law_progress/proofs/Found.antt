@@ -9,7 +9,8 @@ use Rattle.enet_senders.specs.declared.control.SentControl.{SentControl}
 use Rattle.enet_receiver.specs.Members.{Has}
 use Rattle.enet_sender.specs.declared.sent.Sent.{Sent}
 use Rattle.enet_sender.specs.Sender as sender
-use Rattle.enet_sender.specs.Sender.{Occasion, Sender, next, next_of}
+use Rattle.enet_sender.specs.declared.outgoing.Occasion.{Occasion}
+use Rattle.enet_sender.specs.Sender.{Sender, next, next_of}
 use Rattle.law_progress.proofs.Controls.{some-is}
 use Rattle.law_progress.proofs.Waiting.{Rests}
 

@@ -22,7 +22,8 @@ use Rattle.enet_fragment.specs.declared.data.DataCommand.{DataCommand}
 use Rattle.enet_receiver.specs.Members.{Has}
 use Rattle.enet_sender.specs.declared.sent.Sent.{Sent}
 use Rattle.enet_sender.specs.Sender as sender
-use Rattle.enet_sender.specs.Sender.{Occasion, Sender, Next, next, with_skipped}
+use Rattle.enet_sender.specs.declared.outgoing.Occasion.{Occasion}
+use Rattle.enet_sender.specs.Sender.{Sender, Next, next, with_skipped}
 use Rattle.enet_sender.specs.Due.{SendingEnd}
 use Rattle.enet_inbox.specs.DataEffect.{passed_over}
 use Rattle.enet_outbox.specs.declared.parts.Matched.{Matched}

@@ -9,7 +9,8 @@ use Rattle.enet_rtt.specs.Transmission as transmission
 use Rattle.enet_fragment.specs.declared.data.DataCommand.{DataCommand}
 use Rattle.enet_sender.specs.CommandChoice.{carried}
 use Rattle.std.specs.List.{position, prefix_len, slice_get}
-use Rattle.enet_sender.specs.Sender.{Occasion, Sender, Next, next, next_of, next_queued, next_resent, may_go, first_sent, resent, marked}
+use Rattle.enet_sender.specs.declared.outgoing.Occasion.{Occasion}
+use Rattle.enet_sender.specs.Sender.{Sender, Next, next, next_of, next_queued, next_resent, may_go, first_sent, resent, marked}
 use Rattle.enet_sender.specs.declared.sent.Sent.{Sent}
 use Rattle.law_connection.specs.Image.{reliable_count}
 use Rattle.law_connection.specs.WireLink.{WireLink, marks}

@@ -2,7 +2,8 @@
 use Rattle.std.proofs.Common.{◌≡◌, ℕ, zero, suc, ◌+◌, ◌≤◌, true, List, [], ◌∷◌, length, refl, sym, ap, subst, ◌∙◌, inl, inr, arith, Option, Some, None}
 use Rattle.enet_seq.specs.Numbering.{wire}
 use Rattle.enet_fragment.specs.declared.data.DataCommand.{DataCommand}
-use Rattle.enet_sender.specs.Sender.{Occasion, Sender, Next, next, bytes_in_transit}
+use Rattle.enet_sender.specs.declared.outgoing.Occasion.{Occasion}
+use Rattle.enet_sender.specs.Sender.{Sender, Next, next, bytes_in_transit}
 use Rattle.law_connection.specs.WireLink.{WireLink, marks, sends, puts_out}
 use Rattle.law_connection.specs.LinkSteps.{Has, Event, Send}
 use Rattle.law_connection.proofs.SoundSender.{next_cases}

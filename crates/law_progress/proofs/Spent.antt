@@ -14,7 +14,8 @@ use Rattle.enet_fragment.specs.DataCommand.{message_of}
 use Rattle.enet_sender.specs.declared.outgoing.Kind.{Kind}
 use Rattle.enet_sender.specs.declared.outgoing.Kind.TheVariants.{Reliable, Begins, More}
 use Rattle.enet_sender.specs.declared.sent.Sent.{Sent}
-use Rattle.enet_sender.specs.Sender.{Occasion, Sender, Next, next, next_of, next_queued, next_resent, first_sent, resent, again, begun, may_go, is_more, skipped, with_skipped, bytes_in_transit}
+use Rattle.enet_sender.specs.declared.outgoing.Occasion.{Occasion}
+use Rattle.enet_sender.specs.Sender.{Sender, Next, next, next_of, next_queued, next_resent, first_sent, resent, again, begun, may_go, is_more, skipped, with_skipped, bytes_in_transit}
 use Rattle.enet_sender.specs.Due.{SendingEnd, due_kind}
 use Rattle.enet_outbox.specs.declared.parts.Acknowledgement.{Acknowledgement}
 use Rattle.enet_outbox.specs.declared.parts.Unsequenced.{Unsequenced}

@@ -6,7 +6,8 @@ use Rattle.std.specs.List.{slice_get, slice_set}
 use Rattle.enet_seq.specs.Numbering.{wire}
 use Rattle.enet_fragment.specs.declared.data.DataCommand.{DataCommand}
 use Rattle.enet_sender.specs.CommandChoice.{ChosenPacket}
-use Rattle.enet_sender.specs.Sender.{Occasion, Sender, Next, next, again, begun, position_of, without_place}
+use Rattle.enet_sender.specs.declared.outgoing.Occasion.{Occasion}
+use Rattle.enet_sender.specs.Sender.{Sender, Next, next, again, begun, position_of, without_place}
 use Rattle.enet_sender.specs.declared.sent.Sent.{Sent}
 use Rattle.law_connection.specs.Link.{PutOut, Answer, is_late}
 use Rattle.law_connection.specs.WireLink.{WireLink, sends, puts_out, with_reach, arrives, logs_answer, answered}

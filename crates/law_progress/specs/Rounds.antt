@@ -4,7 +4,8 @@ use Rattle.enet_seq.specs.Numbering.{wire}
 use Rattle.enet_fragment.specs.declared.data.DataCommand.{DataCommand}
 use Rattle.enet_receiver.specs.DataOutcome.{acknowledged}
 use Rattle.enet_sender.specs.CommandChoice.{carried}
-use Rattle.enet_sender.specs.Sender.{Occasion, next, bytes_in_transit, is_late as has_waited_out}
+use Rattle.enet_sender.specs.declared.outgoing.Occasion.{Occasion}
+use Rattle.enet_sender.specs.Sender.{next, bytes_in_transit, is_late as has_waited_out}
 use Rattle.enet_sender.specs.declared.sent.Sent.{Sent}
 use Rattle.law_connection.specs.Link.{Answer, is_late}
 use Rattle.law_connection.specs.WireLink.{WireLink, marks, puts_out, arrives, answered}

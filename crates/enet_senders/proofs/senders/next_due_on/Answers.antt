@@ -18,7 +18,7 @@ returns-clause-did c = λ s there.
     let new : SendingEnd = end_of c.next_due.new.pending.slab c.next_due.new.self in
     let es = ends_of c.args.pending.now.slab c.args.channels.now.items in
     let is = end-there c.args.pending.now.slab c.args.channels.now.items c.from.result c.index_mut.result.now s (omega (arith, c.from.ensures, c.requires.inside)) (sym c.index_mut.ensures.value) (ap (λ k. slice_get es k) c.from.ensures ∙ there) in
-    let P : SendingEnd → Type 0 = λ e. Did (next wire (record { now = c.args.now; timeout = c.args.timeout; transit = c.args.transit; most = c.args.most }) e.sender) c.next_due.result e new (record { old = c.args.buf.now; at = c.args.at; new = c.next_due.new.buf }) in
+    let P : SendingEnd → Type 0 = λ e. Did (next wire c.args.occasion e.sender) c.next_due.result e new (record { old = c.args.buf.now; at = c.args.at; new = c.next_due.new.buf }) in
     (new, ((frame (goal.at.returns-clause-did c).After-next_due).ends ∙ ap (λ k. set es k new) c.from.ensures, subst P is c.next_due.ensures.did))
 
 pub returns-clause-kept : goal.returns-clause-kept

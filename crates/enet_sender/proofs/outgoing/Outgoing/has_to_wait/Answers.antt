@@ -1,7 +1,8 @@
 use Rattle.std.proofs.Common.{◌≡◌, ◌∙◌, Bool, true, false, not, drop, refl, sym, ap, arith}
 use Rattle.slab.specs.Slab.{get}
 use Rattle.enet_seq.specs.Numbering.{wire}
-use Rattle.enet_sender.specs.Sender.{Occasion, next_of}
+use Rattle.enet_sender.specs.declared.outgoing.Occasion.{Occasion}
+use Rattle.enet_sender.specs.Sender.{next_of}
 use Rattle.enet_sender.specs.Rings.{rings_of, sender_of, commands_at}
 use Rattle.enet_sender.proofs.Changing.{none_due-found}
 use Rattle.enet_sender.proofs.NextLemmas.{next_queued-blocked}

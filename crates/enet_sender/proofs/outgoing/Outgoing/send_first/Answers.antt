@@ -20,14 +20,14 @@ unreachable-requires c =
     cc
 
 -- what goes is the head
-goes : (c : After-put) → c.may_go.result ≡ true → next_queued wire (record { now = c.args.now; timeout = c.args.timeout; transit = c.args.transit; most = c.args.most }) (sender_of (get c.args.pending.now.slab) (rings_of c.args.self.now)) (commands_at (get c.args.pending.now.slab) c.args.self.now.queued.items)
-    ≡ Some (first_sent c.args.now c.args.timeout (sender_of (get c.args.pending.now.slab) (rings_of c.args.self.now)) c.in-Some-get.head.now.command (drop 1 (commands_at (get c.args.pending.now.slab) c.args.self.now.queued.items)))
+goes : (c : After-put) → c.may_go.result ≡ true → next_queued wire c.args.occasion (sender_of (get c.args.pending.now.slab) (rings_of c.args.self.now)) (commands_at (get c.args.pending.now.slab) c.args.self.now.queued.items)
+    ≡ Some (first_sent c.args.occasion.now c.args.occasion.timeout (sender_of (get c.args.pending.now.slab) (rings_of c.args.self.now)) c.in-Some-get.head.now.command (drop 1 (commands_at (get c.args.pending.now.slab) c.args.self.now.queued.items)))
 goes c may =
     let at = get c.args.pending.now.slab in
     let r = rings_of c.args.self.now in
     let p = c.in-Some-get.head.now in
     let is = head-queued at r.queued c.in-Some.key p (sym c.in-Some.ensures) (sym c.in-Some-get.ensures) in
-    next_queued-goes (record { now = c.args.now; timeout = c.args.timeout; transit = c.args.transit; most = c.args.most }) (sender_of at r) p.command is
+    next_queued-goes c.args.occasion (sender_of at r) p.command is
     (sym (c.may_go.ensures.value at c.requires.kept (head-number at r p.command (drop 1 (commands_at at r.queued)) c.requires.kept is)) ∙ may)
 
 pub returns-then-reliable-clause-did : goal.returns-then-reliable-clause-did
@@ -58,7 +58,7 @@ returns-else-reliable-clause-did c =
       c.in-Some-put.ensures.some,
       c.bytes_of-added.ensures,
       c.due_kind-kind.ensures,
-      c.leave.ensures.sends c.args.now c.args.timeout p (drop 1 (commands_at at r.queued)) (sym c.in-Some-get.ensures) is,
+      c.leave.ensures.sends c.args.occasion.now c.args.occasion.timeout p (drop 1 (commands_at at r.queued)) (sym c.in-Some-get.ensures) is,
       c.in-Some-put.ensures.message,
     )
 
@@ -68,7 +68,7 @@ returns-in_default-clause-did c =
     let r = rings_of c.args.self.now in
     let e : SendingEnd = end_of c.args.pending.now.slab c.args.self.now in
     let none : r.queued ≡ [] = by_none r.queued (sym c.in_default.ensures) in
-    let next = next_queued-empty (record { now = c.args.now; timeout = c.args.timeout; transit = c.args.transit; most = c.args.most }) (sender_of at r) (ap (λ keys. length (commands_at at keys)) none) in
+    let next = next_queued-empty c.args.occasion (sender_of at r) (ap (λ keys. length (commands_at at keys)) none) in
     let P : Option Next → Type 0 = λ n. Did n due.Nothing e e (record { old = c.args.buf.now; at = c.args.at; new = c.args.buf.now }) in
     subst P (sym next) (refl, refl)
 
@@ -80,7 +80,7 @@ returns-then-not-may_go-clause-did c =
     let e : SendingEnd = end_of c.args.pending.now.slab c.args.self.now in
     let is = head-queued at r.queued c.in-Some.key p (sym c.in-Some.ensures) (sym c.in-Some-get.ensures) in
     let next =
-    next_queued-blocked (record { now = c.args.now; timeout = c.args.timeout; transit = c.args.transit; most = c.args.most }) (sender_of at r) p.command is
+    next_queued-blocked c.args.occasion (sender_of at r) p.command is
     (sym (c.may_go.ensures.value at c.requires.kept (head-number at r p.command (drop 1 (commands_at at r.queued)) c.requires.kept is)) ∙ c.if-not-may_go.true) in
     let P : Option Next → Type 0 = λ n. Did n due.Nothing e e (record { old = c.args.buf.now; at = c.args.at; new = c.args.buf.now }) in
     subst P (sym next) (refl, refl)

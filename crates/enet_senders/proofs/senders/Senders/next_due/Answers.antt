@@ -12,7 +12,7 @@ pub invariant_of-self : goal.invariant_of-self
 invariant_of-self c =
     let inside = subst (λ (es : List SendingEnd). c.args.channel < length es) (sym c.self.view_is) c.requires in record {
       kept = c.next_due_on-due.ensures.kept;
-      sets = keeps-sent c.self.inside.ready c.self.inside.flying _ (record { now = c.args.now; timeout = c.args.timeout; transit = c.args.transit; most = c.args.most }) (ends_in c.self.inside.pending c.self.inside.channels.items) _
+      sets = keeps-sent c.self.inside.ready c.self.inside.flying _ c.args.occasion (ends_in c.self.inside.pending c.self.inside.channels.items) _
           c.args.channel c.next_due_on-due.result c.args.buf.now c.args.at c.next_due_on-due.new.buf inside c.next_due_on-due.ensures.did c.note_sent.ensures.others
           (λ e lacks there. c.note_sent.ensures.this e lacks (ap (λ (os : List Outgoing). slice_get (ends_in c.next_due_on-due.new.pending os) c.args.channel) c.deref.ensures.value ∙ there)) c.self.invariant.sets;
     }
@@ -21,20 +21,20 @@ pub note_sent-requires-clause-inside : goal.note_sent-requires-clause-inside
 note_sent-requires-clause-inside c =
     let inside = subst (λ (es : List SendingEnd). c.args.channel < length es) (sym c.self.view_is) c.requires in
     subst (λ (os : List Outgoing). c.args.channel < length os) (sym c.deref.ensures.value)
-    (inside-due (record { now = c.args.now; timeout = c.args.timeout; transit = c.args.transit; most = c.args.most }) (ends_in c.self.inside.pending c.self.inside.channels.items) c.next_due_on-due.new.pending.slab c.next_due_on-due.new.channels.items
+    (inside-due c.args.occasion (ends_in c.self.inside.pending c.self.inside.channels.items) c.next_due_on-due.new.pending.slab c.next_due_on-due.new.channels.items
     c.args.channel c.next_due_on-due.result c.args.buf.now c.args.at c.next_due_on-due.new.buf inside c.next_due_on-due.ensures.did)
 
 pub note_still-requires-clause-inside : goal.note_still-requires-clause-inside
 note_still-requires-clause-inside c =
     let inside = subst (λ (es : List SendingEnd). c.args.channel < length es) (sym c.self.view_is) c.requires in
     subst (λ (os : List Outgoing). c.args.channel < length os) (sym c.deref-in-Nothing.ensures.value)
-    (inside-due (record { now = c.args.now; timeout = c.args.timeout; transit = c.args.transit; most = c.args.most }) (ends_in c.self.inside.pending c.self.inside.channels.items) c.next_due_on-due.new.pending.slab c.next_due_on-due.new.channels.items
+    (inside-due c.args.occasion (ends_in c.self.inside.pending c.self.inside.channels.items) c.next_due_on-due.new.pending.slab c.next_due_on-due.new.channels.items
     c.args.channel c.next_due_on-due.result c.args.buf.now c.args.at c.next_due_on-due.new.buf inside c.next_due_on-due.ensures.did)
 
 pub note_still-requires-clause-none : goal.note_still-requires-clause-none
 note_still-requires-clause-none c = λ e there.
     let inside = subst (λ (es : List SendingEnd). c.args.channel < length es) (sym c.self.view_is) c.requires in
-    none-due-on (record { now = c.args.now; timeout = c.args.timeout; transit = c.args.transit; most = c.args.most }) (ends_in c.self.inside.pending c.self.inside.channels.items) (ends_in c.next_due_on-due.new.pending c.next_due_on-due.new.channels.items)
+    none-due-on c.args.occasion (ends_in c.self.inside.pending c.self.inside.channels.items) (ends_in c.next_due_on-due.new.pending c.next_due_on-due.new.channels.items)
     c.args.channel c.args.buf.now c.args.at c.next_due_on-due.new.buf inside c.in-Nothing.ensures.did e (ap (λ (os : List Outgoing). slice_get (ends_in c.next_due_on-due.new.pending os) c.args.channel) (sym c.deref-in-Nothing.ensures.value) ∙ there)
 
 pub invariant_of-self-in-Nothing : goal.invariant_of-self-in-Nothing
@@ -42,7 +42,7 @@ invariant_of-self-in-Nothing c =
     let inside = subst (λ (es : List SendingEnd). c.args.channel < length es) (sym c.self.view_is) c.requires in
     let es = ends_in c.self.inside.pending c.self.inside.channels.items in
     let new = ends_in c.next_due_on-due.new.pending c.next_due_on-due.new.channels.items in
-    let same : new ≡ es = same-unsent (record { now = c.args.now; timeout = c.args.timeout; transit = c.args.transit; most = c.args.most }) es new c.args.channel due.Nothing c.args.buf.now c.args.at c.next_due_on-due.new.buf inside
+    let same : new ≡ es = same-unsent c.args.occasion es new c.args.channel due.Nothing c.args.buf.now c.args.at c.next_due_on-due.new.buf inside
     (λ past added kind is. absurd (cc)) c.in-Nothing.ensures.did in
     record {
       kept = c.next_due_on-due.ensures.kept;
@@ -56,7 +56,7 @@ invariant_of-self-in-NoRoom c =
     let inside = subst (λ (es : List SendingEnd). c.args.channel < length es) (sym c.self.view_is) c.requires in
     let es = ends_in c.self.inside.pending c.self.inside.channels.items in
     let new = ends_in c.next_due_on-due.new.pending c.next_due_on-due.new.channels.items in
-    let same : new ≡ es = same-unsent (record { now = c.args.now; timeout = c.args.timeout; transit = c.args.transit; most = c.args.most }) es new c.args.channel due.NoRoom c.args.buf.now c.args.at c.next_due_on-due.new.buf inside
+    let same : new ≡ es = same-unsent c.args.occasion es new c.args.channel due.NoRoom c.args.buf.now c.args.at c.next_due_on-due.new.buf inside
     (λ past added kind is. absurd (cc)) c.in-NoRoom.ensures.did in
     record {
       kept = c.next_due_on-due.ensures.kept;
