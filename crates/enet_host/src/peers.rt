@@ -38,6 +38,8 @@ impl HostCore {
         ensures rest { KeepsRest self.old self.new }
     {
         self.sleepers.wake(usize::from(peer.slot));
+        // From here to the sender of the channel each call hands up a refusal alone, and doesn't end in the call that it makes: a whole
+        // result, which has room for the body that comes back, would be copied at each step.
         if let Err(refused) = calls::submit(&mut self.slots, peer, channel, flags, body) {
             return Err(refused);
         }

@@ -20,6 +20,7 @@ use crate::receivers::{
 };
 use crate::taking::{append, pass_on, take_in, take_in_instead};
 use enet_codec::{Command, Packet, Refusal, Stop};
+use enet_packets::look_at;
 use enet_receiver::{ArrivingData, Foresight, Incoming};
 use enet_unsequenced::Groups;
 use std::alloc::Global;
@@ -123,7 +124,7 @@ impl Inbox {
         ensures kept { IfOk result (λ foreseen. foreseen.kept ≡ is_kept self.now (view command.now)) }
         ensures value { result ≡ foreseen self.now (view command.now) }
     {
-        let _receivers = &self.receivers;
+        look_at(&self.receivers);
         let foreseen = self.foresee_plainly(command);
         if finds_no_room(&foreseen) {
             return self.foresee_room(command);
@@ -186,7 +187,7 @@ impl Inbox {
         ensures bound { places_of self.now ≤ most_places self.now.max_waiting }
         ensures held { packets_in self.now.receivers ≤ place_limit self.now.max_waiting + length self.now.receivers }
     {
-        let _receivers = &self.receivers;
+        look_at(&self.receivers);
         places_taken(self.packets, self.untaken.len())
     }
 
@@ -198,7 +199,7 @@ impl Inbox {
         ensures bound { waiting_of self.now ≤ most_bytes self.now.max_packet self.now.max_waiting }
         ensures held { waiting_of self.now ≤ self.now.max_waiting + (length self.now.receivers + 1) * self.now.max_packet + untaken_of self.now }
     {
-        let _receivers = &self.receivers;
+        look_at(&self.receivers);
         self.waiting
     }
 
@@ -238,7 +239,7 @@ impl Inbox {
     fn is_full(&self) -> bool
         ensures { result ≡ is_full self.now }
     {
-        let _receivers = &self.receivers;
+        look_at(&self.receivers);
         is_at_limit(self.max_waiting, self.waiting, self.places())
     }
 
@@ -308,7 +309,7 @@ impl Inbox {
         requires { (plain_arrival self.now (view command.now)).answer ≡ Err Stop.Waiting }
         ensures { result ≡ (plain_arrival (given_way self.now) (view command.now)).answer }
     {
-        let _receivers = &self.receivers;
+        look_at(&self.receivers);
         if self.is_full_without_waiting() {
             return Err(Stop::Waiting);
         }

@@ -1,6 +1,9 @@
 //! What a peer has to send is packed into a datagram, source by source: acknowledgements, the commands of channel 0xFF,
 //! unsequenced packets, and the channels (our profile). The commands stand in the buffer from 4 on, and the header is
 //! written before them in the end.
+//!
+//! A label names its loop for the proofs, here and in the other crates: its goals are called by it (`turns-preserved`), also
+//! if no `break` or `continue` names it.
 
 ghost use Rattle.std.specs.Prelude.{◌≡◌, ℕ, true, IsTrue, ◌≤◌, ◌+◌, ◌-◌, ◌%◌, ◌<◌, ◌^◌, ◌++◌, length, take, drop, slice_get, slice_set, Some, slice_range, unwrap_or};
 ghost use Rattle.std.specs.Option.{option_map};

@@ -12,9 +12,11 @@
 
 mod boxed_packet;
 mod incoming_packet;
+mod look;
 mod packets;
 mod waiting;
 
 pub use incoming_packet::{Dispatched, IncomingPacket};
+pub use look::look_at;
 pub use packets::Packets;
 pub use waiting::Waiting;

@@ -11,6 +11,7 @@ ghost use Rattle.enet_fragment.specs.PartialPacket.{belongs, piece_at, with_piec
 ghost use Rattle.enet_fragment.specs.Whole.{is_whole};
 
 use crate::boxed_packet::BoxedPacket;
+use crate::look::look_at;
 use crate::{Dispatched, IncomingPacket};
 use enet_codec::Refusal;
 use enet_fragment::Place;
@@ -167,7 +168,7 @@ impl Packets {
         ensures bytes { result ≡ bytes_of self.now }
         ensures small { result < 2 ^ 48 }
     {
-        let _packets = &self.packets;
+        look_at(&self.packets);
         self.bytes
     }
 

@@ -9,6 +9,7 @@ ghost use Rattle.std.specs.Map.{remove_entry};
 ghost use Rattle.std.specs.VecDeque.{deque_len, deque_capacity};
 ghost use Rattle.enet_fragment.specs.PartialPacket.{belongs, piece_at, with_piece};
 
+use crate::look::look_at;
 use crate::{Dispatched, IncomingPacket, Packets};
 use enet_codec::Refusal;
 use enet_fragment::Place;
@@ -241,7 +242,7 @@ impl Waiting {
     pub fn packets(&self) -> usize
         ensures { result ≡ packets_in self.now }
     {
-        let _lines = &self.lines;
+        look_at(&self.lines);
         self.packets
     }
 
@@ -249,7 +250,7 @@ impl Waiting {
     pub fn bytes(&self) -> u64
         ensures { result ≡ bytes_in self.now }
     {
-        let _lines = &self.lines;
+        look_at(&self.lines);
         self.bytes
     }
 

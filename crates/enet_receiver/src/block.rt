@@ -4,6 +4,7 @@ ghost use Rattle.std.specs.Prelude.{◌≡◌, ℕ, ◌<◌, ◌==◌, ◌&&◌,
 
 use enet_codec::Refusal;
 use enet_fragment::Marks;
+use enet_packets::look_at;
 use std::alloc::Global;
 use std::marker::Model;
 
@@ -73,8 +74,7 @@ impl Block {
     pub(crate) fn is_clear(&self) -> bool
         ensures { IsTrue result → (k : ℕ) → slice_index_or self.now k false ≡ false }
     {
-        // The field is named, so that what holds of every block is known here.
-        let _marks = &self.marks;
+        look_at(&self.marks);
         self.missing == NUMBERS
     }
 }

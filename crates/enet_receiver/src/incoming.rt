@@ -27,7 +27,7 @@ use crate::{Foresight, Took};
 use bytes::Bytes;
 use enet_codec::{Command, Packet, Refusal};
 use enet_fragment::Put;
-use enet_packets::{Dispatched, IncomingPacket, Waiting};
+use enet_packets::{Dispatched, IncomingPacket, Waiting, look_at};
 use enet_seq::{acknowledges, after, fragment_in_window, in_window};
 use std::alloc::Global;
 use std::collections::VecDeque;
@@ -246,7 +246,7 @@ impl Incoming {
             → self.new ≡ after_command self.old (Some (data_command arriving.entry)) full) }
         ensures unchanged { result ≡ false → self.new ≡ self.old }
     {
-        let _held = &self.held;
+        look_at(&self.held);
         self.keep(arriving, arriving.own_place())
     }
 
