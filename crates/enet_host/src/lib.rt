@@ -3,26 +3,39 @@
 //! A host has a fixed number of slots (`enet_slot`), each of which is free or holds one peer. Times are in milliseconds,
 //! bandwidths in bytes per second.
 //!
-//! Proved, each call exactly by small definitions over the slots: one that names a peer is that peer's call on the one slot of that
-//! number and generation (`on_named`), with E2 where there is none, and leaves all else as it was (`rest`). `receive` is `Arrives`: the
-//! tests of a datagram in their order, a stranger's offer, which takes the lowest slot that is free and has a generation left, or the
-//! commands of a datagram at the one slot that its header names. `service` asks slot after slot, beginning after the one served last,
-//! up to the first that gives a datagram, and names its peer as it was before (`GivesInTurn`); `next_event` goes by the first slot in
-//! turn that has an event (`IsFirst`), and `next_event_of`, `next_packet` and `next_body` say of the event that it gives whose it is
-//! and what it hands out (`Foretells`). Inside, by the invariant of `HostCore`: a slot that sleeps has nothing to put out or to tell, and
-//! it is noted when time brings it something (`KeepsSleepers` of `enet_sleepers`). `next_peer` is the name that an accepted connection
-//! gets, `submission_refusal` the refusal of `submit` but E1. `submit_each` is the submissions of its errands, peer by peer and one after
-//! another, and answers the first refusal but E2 and E3 (`SubmitsEach`). `tick` and `set_bandwidth` are one change on each slot; once a
-//! second the outgoing bandwidth is shared out among the connected peers. `due_in` is in how many milliseconds time brings something: a
-//! tick of fewer changes the clock alone (`IsDueIn`). `slot_counts` counts the slots that are free, with a generation left or without, and
-//! of the others how far their connections have come (`Counts`).
-//! No slot of any host holds a peer that is free (`HostCore::keeps`). Want of memory, of which no clause can say when it comes,
-//! changes nothing.
-//! Only tested, by `check_hosts`: that calls succeed with ample memory, worked scripts, captured files, foreign bytes. Neither: that
-//! a slot which has nothing falls asleep, and that those asleep, free ones and those whose peer only waits, are looked at by no
-//! call of `service` or of those that tell events, by `due_in` not at all, and by `tick` only where bandwidth is shared out or time
-//! brings that slot something; and that an offer looks at one of them at most, unless two of them have one mark, and at the free ones up
-//! to the one that it gets.
+//! # Proved
+//!
+//! Each call exactly, by small definitions over the slots:
+//! - One that names a peer is that peer's call on the one slot of that number and generation (`on_named`), with E2 where there is none,
+//!   and leaves all else as it was (`rest`). `submission_refusal` is the refusal of `submit` but E1.
+//! - `receive` is `Arrives`: the tests of a datagram in their order; a stranger's offer, which takes the lowest slot that is free and has
+//!   a generation left; or the commands of a datagram at the one slot that its header names. `next_peer` is the name that an accepted
+//!   connection gets.
+//! - `service` asks slot after slot, beginning after the one served last, up to the first that gives a datagram, and names its peer as it
+//!   was before (`GivesInTurn`).
+//! - `next_event` goes by the first slot in turn that has an event (`IsFirst`). `next_event_of`, `next_packet` and `next_body` say of the
+//!   event that it gives whose it is and what it hands out (`Foretells`).
+//! - `submit_each` is the submissions of its errands, peer by peer and one after another, and answers the first refusal but E2 and E3
+//!   (`SubmitsEach`).
+//! - `tick` and `set_bandwidth` are one change on each slot; once a second the outgoing bandwidth is shared out among the connected
+//!   peers. `due_in` is in how many milliseconds time brings something: a tick of fewer changes the clock alone (`IsDueIn`).
+//! - `slot_counts` counts the slots that are free, with a generation left or without, and of the others how far their connections have
+//!   come (`Counts`).
+//!
+//! Of every host: no slot holds a peer that is free (`HostCore::keeps`). By the invariant of `HostCore` a slot that sleeps has nothing to
+//! put out or to tell, and it is noted when time brings it something (`KeepsSleepers` of `enet_sleepers`). Want of memory, of which no
+//! clause can say when it comes, changes nothing.
+//!
+//! # Only tested
+//!
+//! By `check_hosts`: that calls succeed with ample memory, worked scripts, captured files, foreign bytes.
+//!
+//! # Neither
+//!
+//! - That a slot which has nothing falls asleep.
+//! - That those asleep, free ones and those whose peer only waits, are looked at by no call of `service` or of those that tell events, by
+//!   `due_in` not at all, and by `tick` only where bandwidth is shared out or time brings that slot something.
+//! - That an offer looks at one of them at most, unless two of them have one mark, and at the free ones up to the one that it gets.
 #![tactic(auto)]
 
 mod broadcast;

@@ -2,22 +2,32 @@
 //! again, and keeps them until they are acknowledged. All commands of a peer stand in one slab, `Pending`, and a channel has
 //! rings of their keys: of what is queued, and of what is sent, with a place for each number up to the last that went.
 //!
-//! Proved, each exactly by the definitions of specs/Sender and specs/CommandChoice: `Outgoing::submit` (how a packet goes, its
-//! commands and their numbers, all or none; E5 exactly above 16,384 pieces, `too_large`; a refused body comes back and
-//! nothing has changed, `refused`), `next_due` (the first due resend, else the head of the queue exactly where the sender's
-//! span and the bytes in transit let it go, written where it fits; NoRoom and Nothing change nothing), `skip`,
-//! `acknowledge`, `late`, `ends`, `is_late`, `mark`, `clear`, `left`; and `next_late`, in how many milliseconds something is late
-//! first. Where `has_to_wait` answers true, nothing goes, at whatever time (`Waits`, specs/Waiting). Where it matters each asks that rings and slab
-//! fit (`KeepsIn`, specs/Rings): each key of the rings is in the slab, once in the rings, and nothing under the mark of a vacant
-//! place; bodies are short; what is sent stands in the place of its number, of at most 8,192 the first of which isn't vacant, and
-//! none is due to go again before the place where the search for one begins; the reliable numbers of the queue go on, one by one,
-//! from the last that went to the last that was given, and are counted. Each leaves that so, and what stands under other keys
-//! (`PassesIn`; specs/Pending).
-//! Of all channels at once, exactly by specs/Foretold: `Pending::any_late`, `any_ends`, `first_late` and `mark_all`. They look only at commands
-//! whose timeout has passed, since when each is late is noted by its key from its sending until it is acknowledged or found late
-//! (`KeepsTime`, which no contract shows).
+//! # Proved
+//!
+//! Each exactly by the definitions of specs/Sender and specs/CommandChoice:
+//! - `Outgoing::submit`: how a packet goes, its commands and their numbers, all or none; E5 exactly above 16,384 pieces (`too_large`);
+//!   a refused body comes back and nothing has changed (`refused`).
+//! - `next_due`: the first due resend, else the head of the queue exactly where the sender's span and the bytes in transit let it go,
+//!   written where it fits; NoRoom and Nothing change nothing. Where `has_to_wait` answers true, nothing goes, at whatever time
+//!   (`Waits`, specs/Waiting).
+//! - `skip`, `acknowledge`, `late`, `ends`, `is_late`, `mark`, `clear`, `left`; and `next_late`, in how many milliseconds something is
+//!   late first.
+//! - Of all channels at once, by specs/Foretold: `Pending::any_late`, `any_ends`, `first_late` and `mark_all`. They look only at commands
+//!   whose timeout has passed, since when each is late is noted by its key from its sending until it is acknowledged or found late
+//!   (`KeepsTime`, which no contract shows).
+//!
+//! Where it matters each asks that rings and slab fit (`KeepsIn`, specs/Rings), and leaves that so, and what stands under other keys
+//! (`PassesIn`; specs/Pending). They fit if:
+//! - each key of the rings is in the slab, once in the rings, and nothing under the mark of a vacant place; bodies are short;
+//! - what is sent stands in the place of its number, of at most 8,192 the first of which isn't vacant, and none is due to go again before
+//!   the place where the search for one begins;
+//! - the reliable numbers of the queue go on, one by one, from the last that went to the last that was given, and are counted.
+//!
 //! Laws: how the bytes in transit change (`transit_follows`) and what stays left (`reliable_stays_left`).
-//! Only tested, by `check_peer`: that calls succeed with ample memory, and worked rows.
+//!
+//! # Only tested
+//!
+//! By `check_peer`: that calls succeed with ample memory, and worked rows.
 #![tactic(auto)]
 
 mod course;
