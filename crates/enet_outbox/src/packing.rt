@@ -545,6 +545,7 @@ impl Outbox {
     fn look_for_idle(&mut self)
         ensures { self.new ≡ self.old }
     {
-        self.idle = self.senders.have_no_packet() && self.senders.have_no_reliable();
+        self.idle =
+            self.transit == 0 && self.senders.have_no_packet() && self.senders.have_no_reliable();
     }
 }
