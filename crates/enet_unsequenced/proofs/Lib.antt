@@ -1,3 +1,4 @@
+pub mod Words
 pub mod MarksLemmas
 pub mod OnceLemmas
 pub mod InOrderLemmas

@@ -7,15 +7,19 @@
 //! unsequenced packets.
 #![tactic(auto)]
 
-ghost use Rattle.std.specs.Prelude.{◌≡◌, ℕ, ◌+◌, ◌%◌, ◌<◌, ◌≤◌, ◌≢◌, IsTrue, List, ◌∷◌, length, All, AllPairs, false};
+ghost use Rattle.std.specs.Prelude.{◌≡◌, ℕ, ◌+◌, ◌%◌, ◌<◌, ◌≤◌, ◌≢◌, IsTrue, List, ◌∷◌, length, All, AllPairs, slice_set, true};
 ghost use Rattle.std.specs.List.{AllAdjacentBelow};
 ghost use Rattle.std.specs.FinSet as set;
 ghost use Rattle.enet_unsequenced.specs.Groups.{nothing_seen, dispatches, mark, dispatched};
+ghost use Rattle.enet_unsequenced.specs.Marks.{mark_in, marks_in};
 
 use std::marker::Model;
 
 /// How many groups a block has.
 const BLOCK_SIZE: u16 = 1024;
+
+/// How many groups a word tells of.
+const WORD: u16 = 64;
 
 /// How far past the base a group may lie.
 const REACH: u16 = 32_768;
@@ -25,19 +29,20 @@ const REACH: u16 = 32_768;
 #[derive(Drop)]
 pub struct Groups {
     base: u16,
-    marks: [bool; 1024],
+    // Group `base + i` is marked where bit `i % 64` of word `i / 64` is set.
+    words: [u64; 16],
 }
 
 impl Model for Groups {
     ghost use Rattle.std.specs.Prelude.{◌≡◌, ◌%◌};
     ghost use Rattle.enet_unsequenced.specs.Groups.{Seen, seen_code};
-    ghost use Rattle.enet_unsequenced.specs.Marks.{marked_from};
+    ghost use Rattle.enet_unsequenced.specs.Marks.{marked_from, marks_in};
 
     ghost Value = { Seen };
 
     ghost coded = { seen_code };
 
-    ghost view = { λ g. record { base = g.base; marks = marked_from g.base g.marks } };
+    ghost view = { λ g. record { base = g.base; marks = marked_from g.base (marks_in 1024 g.words) } };
 
     ghost invariant = { λ g. g.base % 1024 ≡ 0 };
 }
@@ -57,7 +62,7 @@ impl Groups {
     {
         Self {
             base,
-            marks: no_marks(),
+            words: no_marks(),
         }
     }
 
@@ -67,7 +72,7 @@ impl Groups {
         ensures { result ≡ dispatches self.now group }
     {
         let past_base = group.wrapping_sub(self.base);
-        past_base < REACH && !(past_base < BLOCK_SIZE && self.marks[past_base as usize])
+        past_base < REACH && !(past_base < BLOCK_SIZE && is_marked(&self.words, past_base))
     }
 
     /// Marks a group that is dispatched, so one that passes `check`. A group of another block of 1,024 moves
@@ -80,15 +85,31 @@ impl Groups {
         if group - place != self.base {
             *self = Self::unmarked(group - place);
         }
-        self.marks[place as usize] = true;
+        set_mark(&mut self.words, place);
     }
 }
 
 /// A block's marks, none of them set.
-fn no_marks() -> [bool; 1024]
-    ensures { All (λ mark. mark ≡ false) result }
+fn no_marks() -> [u64; 16]
+    ensures { All (λ word. word ≡ 0) result }
 {
-    [false; 1024]
+    [0; 16]
+}
+
+/// Whether the mark at this place of a block is set.
+fn is_marked(words: &[u64; 16], place: u16) -> bool
+    requires { place < 1024 }
+    ensures { result ≡ mark_in words.now place }
+{
+    (words[usize::from(place / WORD)] >> (place % WORD)) & 1 == 1
+}
+
+/// Sets the mark at this place of a block.
+fn set_mark(words: &mut [u64; 16], place: u16)
+    requires { place < 1024 }
+    ensures { (count : ℕ) → marks_in count words.new ≡ slice_set (marks_in count words.old) place true }
+{
+    words[usize::from(place / WORD)] |= 1 << (place % WORD);
 }
 
 /// What the definitions that `check` and `mark` compute give for a whole run of groups, numbered without
