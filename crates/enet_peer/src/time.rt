@@ -89,7 +89,7 @@ impl Peer {
         ensures pinged { result ≡ is_pinged self.now.peer now }
         ensures room { IsTrue result → 1 ≤ self.now.room }
     {
-        self.awaits_ping() && self.ping_interval <= elapsed(now, self.heard)
+        self.ping_interval <= elapsed(now, self.heard) && self.awaits_ping()
     }
 
     /// Whether a PING is wanted once nothing was heard for the ping interval. Then there is room for it.
