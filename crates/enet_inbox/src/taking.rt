@@ -112,7 +112,7 @@ pub(crate) fn pass_on(
     ensures same_receiver { IfNone result (receiver.new ≡ receiver.old) }
     ensures same_untaken { IfNone result (untaken.new.items ≡ untaken.old.items) }
 {
-    if untaken.reserve(1).is_err() {
+    if untaken.len() == untaken.capacity() && untaken.reserve(1).is_err() {
         return None;
     }
     let Some(packet) = receiver.pass_on(arriving) else {
