@@ -93,6 +93,7 @@ impl Sleepers {
     }
 
     /// Something comes to the slot of this number, if there is one: it is awake from now on.
+    #[inline(always)]
     pub fn wake(&mut self, number: usize)
         ensures kept { (now : ℕ) (slots : List SlotState) → KeepsSleepers now self.old slots → KeepsSleepers now self.new slots }
         ensures awake { number < length self.old.awake → IsIn self.new.awake number }
