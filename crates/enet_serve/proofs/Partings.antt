@@ -102,6 +102,17 @@ gentle-all : (xs : List Span) → AreLater xs → AreGentle xs
 gentle-all [] p = tt
 gentle-all (x ∷ xs) p = gentle-one x xs p.0 (gentle-all xs p.1)
 
+abbrev Begins : List Span → Type 0
+Begins xs = (first : Span) × (rest : List Span) × (xs ≡ first ∷ rest) × (first.how ≡ Later)
+
+begins-later : (xs ys : List Span) → AreLater xs → 1 ≤ length xs → Begins (xs ++ ys)
+begins-later [] ys p some = absurd (omega (arith, some))
+begins-later (x ∷ xs) ys p some = (x, xs ++ ys, refl, p.0)
+
+first-later : (xs : List Span) → AreLater xs → 1 ≤ length xs → Begins xs
+first-later [] p some = absurd (omega (arith, some))
+first-later (x ∷ xs) p some = (x, xs, refl, p.0)
+
 pub left-so : (a b : Service Host) → HasSeenOff a b → TakesLeave a b
 left-so a b h = let p = h.off in record {
   leaves = record {
@@ -114,12 +125,12 @@ left-so a b h = let p = h.off in record {
     no_orders = no-more p.spans (span p.last.rounds Later [] ∷ []) p.no_orders (none-in (span p.last.rounds Later []) p.last.no_orders);
     gentle = gentle-all p.spans p.later;
   };
-  asked = h.asked;
+  gently = first-later p.spans p.later h.asked;
 }
 
 -- those that are left are cut off, and turns tell them so
-left-then : (o a : Service Host) (h : Host) (d : Service Host) → SeesOff o a → PartsFrom Now a.host (all_names a.host.slots) h → Idles (record { host = h; waiting = a.waiting }) d → TakesLeave o d
-left-then o a h d p parts i = record {
+left-then : (o a : Service Host) (h : Host) (d : Service Host) → HasSeenOff o a → PartsFrom Now a.host (all_names a.host.slots) h → Idles (record { host = h; waiting = a.waiting }) d → TakesLeave o d
+left-then o a h d seen parts i = record {
   leaves = record {
     spans = p.spans ++ s ∷ [];
     between = record { host = h; waiting = a.waiting };
@@ -130,17 +141,20 @@ left-then o a h d p parts i = record {
     no_orders = no-more (p.spans ++ s ∷ []) (span i.rounds Now [] ∷ []) (no-more p.spans (s ∷ []) p.no_orders (none-in s p.last.no_orders)) (none-in (span i.rounds Now []) i.no_orders);
     gentle = gentle-more p.spans (s ∷ []) p.later tt;
   };
-  asked = one-more p.spans s;
+  gently = begins-later p.spans (s ∷ []) p.later seen.asked;
 }
   where
+    p : SeesOff o a
+    p = seen.off
+
     s : Span
     s = span p.last.rounds Now (all_names a.host.slots)
 
 pub left-told : (o a : Service Host) (h : Host) (d : Service Host) → HasSeenOff o a → PartsFrom Now a.host (all_names a.host.slots) h → Idles (record { host = h; waiting = a.waiting }) d → TakesLeave o d
-left-told o a h d s parts i = left-then o a h d s.off parts i
+left-told o a h d s parts i = left-then o a h d s parts i
 
 pub left-cut : (o a : Service Host) (h : Host) → HasSeenOff o a → PartsFrom Now a.host (all_names a.host.slots) h → TakesLeave o (record { host = h; waiting = a.waiting })
-left-cut o a h s parts = left-then o a h (record { host = h; waiting = a.waiting }) s.off parts (no-turn (record { host = h; waiting = a.waiting }))
+left-cut o a h s parts = left-then o a h (record { host = h; waiting = a.waiting }) s parts (no-turn (record { host = h; waiting = a.waiting }))
 
 -- ---- as spans alone
 is-span : (a : Service Host) (s : Span) (b : Service Host) → PartsFromAll a s b → IsSpan host_calls a s b

@@ -1,5 +1,5 @@
 -- How a server takes leave of its clients.
-use Rattle.std.specs.Prelude.{◌≡◌, ◌≤◌, List, [], ◌∷◌, ◌++◌, length}
+use Rattle.std.specs.Prelude.{◌≡◌, List, [], ◌∷◌, ◌++◌}
 use Rattle.enet_codec.specs.declared.event.DisconnectMode.TheVariants.{Later}
 use Rattle.enet_host.specs.Host.{Host, all_names}
 use Rattle.enet_service.specs.declared.service.Service.{Service}
@@ -32,7 +32,7 @@ pub record Leaves (old new : Service Host) : Type 0 where
   pub no_orders : given (all_gave (rounds_in (spans ++ last ∷ []))) ≡ []
   pub gentle : AreGentle spans
 
--- it does so at least once
+-- it does so at least once, and the first time clients are parted from behind all that was sent to them
 pub record TakesLeave (old new : Service Host) : Type 0 where
   pub leaves : Leaves old new
-  pub asked : 1 ≤ length leaves.spans
+  pub gently : (first : Span) × (rest : List Span) × (leaves.spans ≡ first ∷ rest) × (first.how ≡ Later)
