@@ -1,4 +1,5 @@
 pub mod Asking
 pub mod Guarding
+pub mod Journals
 pub mod Passing
 pub mod Private

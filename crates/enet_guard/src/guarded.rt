@@ -1,11 +1,12 @@
 //! A wire behind a guard.
-ghost use Rattle.std.specs.Prelude.{◌≡◌, true, false};
-ghost use Rattle.enet_guard.specs.Passing.{Lets, Refuses};
+ghost use Rattle.std.specs.Prelude.{◌≡◌, ◌≤◌, true, false, None, Ok, IfOk, IfSome, IfErr};
+ghost use Rattle.enet_bridge.specs.Wires.{faults_after, last_fault};
+ghost use Rattle.enet_guard.specs.Passing.{Lets, Refuses, Receives};
 
 use crate::asking::asks;
 use crate::guard::{Guard, Rules};
 use crate::register::Register;
-use enet_bridge::Wire;
+use enet_bridge::{Journal, Note, Wire};
 use enet_codec::{Addr, Refusal};
 use std::alloc::Global;
 use std::sync::{Arc, Wait};
@@ -14,22 +15,26 @@ use std::time::Clock;
 /// In a call so many CONNECTs are passed over at most.
 const MOST_PASSED_OVER: u32 = 64;
 
-/// A wire that passes over the CONNECTs that its guard doesn't let pass. It tells nothing of its calls.
+/// A wire that passes over the CONNECTs that its guard doesn't let pass. It tells what its own calls did, in a list that clauses alone
+/// read.
 #[derive(Drop)]
 pub struct Guarded<N> {
     pub wire: N,
     pub guard: Guard,
     register: Arc<Register, Global>,
+    journal: Journal,
 }
 
 impl<N: Drop> Guarded<N> {
     ghost use Rattle.std.specs.Prelude.{◌≡◌, [], None, IfOk, IfErr, replicate};
     ghost use Rattle.enet_guard.specs.Guarding.{new_guard};
+    ghost use Rattle.enet_guard.specs.Journals.{told_of};
 
     /// The wire of a host of so many slots behind a guard with these rules, to which nothing came. E1 for want of memory.
     pub fn new(alloc: Global, wire: N, rules: Rules, slots: u16) -> Result<Guarded<N>, Refusal>
         ensures wire { IfOk result (λ guarded. guarded.wire ≡ wire) }
         ensures guard { IfOk result (λ guarded. guarded.guard ≡ new_guard rules slots) }
+        ensures untold { IfOk result (λ guarded. told_of guarded ≡ []) }
         ensures memory { IfErr result (λ why. why ≡ Refusal.Memory) }
     {
         let guard = Guard::new(alloc, rules, slots)?;
@@ -40,6 +45,7 @@ impl<N: Drop> Guarded<N> {
             wire,
             guard,
             register,
+            journal: Journal::new(),
         })
     }
 
@@ -55,43 +61,79 @@ impl<N: Drop> Guarded<N> {
 }
 
 impl<N: Wire> Wire for Guarded<N> {
-    ghost use Rattle.std.specs.Prelude.{◌≡◌, ◌≤◌, None, Ok, false, IfOk, IfSome, IfErr};
-    ghost use Rattle.enet_bridge.specs.Wires.{faults_after, last_fault};
+    ghost use Rattle.std.specs.Prelude.{◌≡◌, ◌≤◌, ◌++◌, Some, None, Ok, false, IfOk, IfSome, IfErr};
+    ghost use Rattle.enet_bridge.specs.Wires.{also, came, went, waited, unless_spent, faults_after, last_fault};
     ghost use Rattle.enet_guard.specs.Passing.{Receives};
+    ghost use Rattle.enet_guard.specs.Journals.{told_of};
 
-    ghost told = { λ w. None };
+    ghost told = { λ w. Some (told_of w) };
 
     ghost faults = { λ w. N.faults w.wire };
 
     /// None, too, where 64 CONNECTs were passed over.
     fn recv(&mut self, buf: &mut [u8; 4096]) -> Result<Option<(Addr, usize)>, Refusal>
+        ensures told { told_of self.new ≡ told_of self.old ++ unless_spent (N.faults self.old.wire) (came result buf.new) }
         ensures len { IfOk result (λ given. IfSome given (λ d. d.1 ≤ 4096)) }
         ensures fault { IfErr result (λ why. why ≡ Refusal.WireFault) }
         ensures faults { N.faults self.new.wire ≡ faults_after (N.faults self.old.wire) result }
         ensures spent { N.faults self.old.wire ≡ last_fault → result ≡ Ok None }
         ensures receives { Receives (N.told self.old.wire) (N.faults self.old.wire) self.old.guard result buf.new (N.told self.new.wire) self.new.guard }
     {
-        for _over in 0..MOST_PASSED_OVER {
-            let Some((from, len)) = self.wire.recv(buf)? else {
-                return Ok(None);
-            };
-            if judge(&mut self.guard, from, &buf[..len]) {
-                return Ok(Some((from, len)));
-            }
-            self.register.count();
+        let spent = self.wire.failures() == u64::MAX;
+        let given = first_passing(&mut self.wire, &mut self.guard, &self.register, buf)?;
+        if spent {
+            return Ok(given);
         }
-        Ok(None)
+        let note = match given {
+            Some((from, len)) => Note::GaveOn {
+                from,
+                bytes: &buf[..len],
+            },
+            None => Note::NothingCame,
+        };
+        self.journal = self.journal.and(&note);
+        Ok(given)
     }
 
-    fn send(&mut self, to: Addr, bytes: &[u8]) -> Result<bool, Refusal> {
-        self.wire.send(to, bytes)
+    /// As the wire behind the guard does.
+    fn send(&mut self, to: Addr, bytes: &[u8]) -> Result<bool, Refusal>
+        ensures told { told_of self.new ≡ told_of self.old ++ unless_spent (N.faults self.old.wire) (went to bytes.now result) }
+        ensures fault { IfErr result (λ why. why ≡ Refusal.WireFault) }
+        ensures faults { N.faults self.new.wire ≡ faults_after (N.faults self.old.wire) result }
+        ensures spent { N.faults self.old.wire ≡ last_fault → result ≡ Ok false }
+        ensures sends { N.told self.new.wire ≡ also (N.told self.old.wire) (unless_spent (N.faults self.old.wire) (went to bytes.now result)) }
+        ensures guard { self.new.guard ≡ self.old.guard }
+    {
+        let spent = self.wire.failures() == u64::MAX;
+        let taken = self.wire.send(to, bytes)?;
+        if spent {
+            return Ok(taken);
+        }
+        let note = if taken {
+            Note::TookOn { to, bytes }
+        } else {
+            Note::Blocked { to, bytes }
+        };
+        self.journal = self.journal.and(&note);
+        Ok(taken)
     }
 
-    fn wait<R: Wait + Clock>(&mut self, rt: &R) -> Result<u32, Refusal> {
+    /// As the wire behind the guard does.
+    fn wait<R: Wait + Clock>(&mut self, rt: &R) -> Result<u32, Refusal>
+        ensures told { told_of self.new ≡ told_of self.old ++ unless_spent (N.faults self.old.wire) (waited result) }
+        ensures fault { IfErr result (λ why. why ≡ Refusal.WireFault) }
+        ensures faults { N.faults self.new.wire ≡ faults_after (N.faults self.old.wire) result }
+        ensures spent { N.faults self.old.wire ≡ last_fault → result ≡ Ok 0 }
+        ensures waits { N.told self.new.wire ≡ also (N.told self.old.wire) (unless_spent (N.faults self.old.wire) (waited result)) }
+    {
+        let spent = self.wire.failures() == u64::MAX;
         let ms = self.wire.wait(rt)?;
         self.guard.tick(ms);
         if self.register.has_changed() {
             learn(&mut self.guard, &self.register);
+        }
+        if !spent {
+            self.journal = self.journal.and(&Note::Waited { ms });
         }
         Ok(ms)
     }
@@ -99,6 +141,31 @@ impl<N: Wire> Wire for Guarded<N> {
     fn failures(&self) -> u64 {
         self.wire.failures()
     }
+}
+
+// The next datagram that passes, if it comes behind fewer than 64 that are passed over.
+fn first_passing<N: Wire>(
+    wire: &mut N,
+    guard: &mut Guard,
+    register: &Register,
+    buf: &mut [u8; 4096],
+) -> Result<Option<(Addr, usize)>, Refusal>
+    ensures len { IfOk result (λ given. IfSome given (λ d. d.1 ≤ 4096)) }
+    ensures fault { IfErr result (λ why. why ≡ Refusal.WireFault) }
+    ensures faults { N.faults wire.new ≡ faults_after (N.faults wire.old) result }
+    ensures spent { N.faults wire.old ≡ last_fault → result ≡ Ok None }
+    ensures receives { Receives (N.told wire.old) (N.faults wire.old) guard.old result buf.new (N.told wire.new) guard.new }
+{
+    for _over in 0..MOST_PASSED_OVER {
+        let Some((from, len)) = wire.recv(buf)? else {
+            return Ok(None);
+        };
+        if judge(guard, from, &buf[..len]) {
+            return Ok(Some((from, len)));
+        }
+        register.count();
+    }
+    Ok(None)
 }
 
 // Whether a datagram passes.

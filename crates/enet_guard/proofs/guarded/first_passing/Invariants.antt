@@ -3,12 +3,12 @@ use Rattle.enet_codec.specs.declared.address.Addr.{Addr}
 use Rattle.enet_bridge.specs.Wires.{also, unless_spent}
 use Rattle.enet_guard.specs.Passing.{PassesOver}
 use Rattle.enet_guard.proofs.Passings.{came_so}
-use Rattle.enet_guard.proofs.guarded.GuardedWire.recv.Given as goal
+use Rattle.enet_guard.proofs.guarded.first_passing.Given as goal
 
 abbrev pub invariant-loop-over : goal.invariant-loop-over
 invariant-loop-over g l =
     (over : List (Addr × List ℕ))
-    × PassesOver l.fn.self.guard over l.self.guard
+    × PassesOver l.fn.guard over l.guard
     × (length over ≡ l._over)
-    × (g.N.Wire.told l.self.wire ≡ also (g.N.Wire.told l.fn.self.wire) (unless_spent (g.N.Wire.faults l.fn.self.wire) (came_so over)))
-    × (g.N.Wire.faults l.self.wire ≡ g.N.Wire.faults l.fn.self.wire)
+    × (g.N.Wire.told l.wire ≡ also (g.N.Wire.told l.fn.wire) (unless_spent (g.N.Wire.faults l.fn.wire) (came_so over)))
+    × (g.N.Wire.faults l.wire ≡ g.N.Wire.faults l.fn.wire)
