@@ -1,4 +1,5 @@
 pub mod Clock
 pub mod Moments
 pub mod Sets
+pub mod Invariant
 pub mod Private
