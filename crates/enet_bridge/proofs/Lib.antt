@@ -1,2 +1,4 @@
 pub mod Short
 mod Broadcasts
+pub mod Nothing
+pub mod Addresses

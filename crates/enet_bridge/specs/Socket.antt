@@ -1,9 +1,10 @@
 -- A socket.
-use Rattle.std.specs.Prelude.{ℕ, Option}
+use Rattle.std.specs.Prelude.{ℕ, List, Option}
 use Rattle.std.specs.Arc.{arc_value}
 use Rattle.std.specs.declared.io.Error.{Error}
 use Rattle.enet_bridge.specs.declared.bell.Bell.{Bell}
 use Rattle.enet_bridge.specs.declared.socket.MioWire.{MioWire}
+use Rattle.enet_bridge.specs.declared.told.Told.{Told}
 
 -- how often a call of it failed
 abbrev pub failures_of : MioWire → ℕ
@@ -16,3 +17,7 @@ reason_of wire = wire.reason
 -- its bell
 abbrev pub bell_of : MioWire → Bell
 bell_of wire = arc_value wire.bell
+
+-- what its calls did, in order
+abbrev pub told_of : MioWire → List Told
+told_of wire = wire.socket.journal.told

@@ -5,9 +5,11 @@
 //! Proved: a source gives and a sink takes just what its queue or its list says, in order; what an order sender was asked is, in order,
 //! what it submitted and what waits, and none is lost or doubled; with Full, and where there is no event or order, comes a state of the
 //! queue, full or empty, that fits all that the seat, the taker or the drain knows. Orders that find none waiting are never refused. Each
-//! wire counts its faults exactly, E14 comes exactly where the count rises, a spent wire does nothing, and a wire that tells its calls tells
-//! them truly. The wire in memory does what its script says: a call fails where the script has a fault, and else only with the word that
-//! memory was wanting ([`MemoryWire::starved`]). A sink in memory hands an event back only where it is full.
+//! wire counts its faults exactly, E14 comes exactly where the count rises, a spent wire does nothing, and each wire tells its calls,
+//! truly: one in memory in a list, a socket in a [`Journal`], which clauses alone read. Trusted of the socket are two functions of
+//! src/journaled.rt, `receive` and `send`: they alone ask the system for datagrams, and note what it answered, with the address that it
+//! gave or was given. The wire in memory does what its script says: a call fails where the script has a fault, and else only with the word
+//! that memory was wanting ([`MemoryWire::starved`]). A sink in memory hands an event back only where it is full.
 //! Only tested, by `check_queues`: that an order sender gets on once there is room, and that a queue with something in it gives it (no clause
 //! ties the state that comes with Full or with nothing to the call: a queue that answers Full for good, once its seat has submitted as many
 //! orders as it has places, or that never gives anything, meets them all); that datagrams pass through the socket, which stands at the
@@ -19,6 +21,8 @@
 
 mod bell;
 mod event_receiver;
+mod journal;
+mod journaled;
 mod memory;
 mod order_sender;
 mod sink;
@@ -30,6 +34,7 @@ mod wire;
 
 pub use bell::Bell;
 pub use event_receiver::{EventReceiver, TakerBell};
+pub use journal::{Journal, Note};
 pub use memory::MemoryWire;
 pub use order_sender::OrderSender;
 pub use sink::{MemorySink, QueueSink, Sink};

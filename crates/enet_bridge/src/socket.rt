@@ -1,9 +1,10 @@
 //! A UDP socket as a wire.
-ghost use Rattle.std.specs.Prelude.{◌≡◌, ◌⊎◌, ◌↔◌, ◌+◌, ◌<◌, Err, IfOk, IfErr, IsSome, None, Some};
-ghost use Rattle.enet_bridge.specs.Socket.{bell_of, failures_of, reason_of};
+ghost use Rattle.std.specs.Prelude.{◌≡◌, [], ◌⊎◌, ◌↔◌, ◌+◌, ◌<◌, Err, IfOk, IfErr, IsSome, None, Some};
+ghost use Rattle.enet_bridge.specs.Socket.{bell_of, failures_of, reason_of, told_of};
 ghost use Rattle.std.specs.Arc.{arc_value};
 
 use crate::bell::Bell;
+use crate::journaled::{JournaledSocket, socket_addr};
 use crate::source::MOST_PER_TURN;
 use crate::wire::Wire;
 use enet_codec::{Addr, Refusal};
@@ -12,8 +13,8 @@ use mio::net::UdpSocket;
 use mio::{Events, Interest, Poll, Token};
 use std::alloc::Global;
 use std::io::ErrorKind;
-use std::net::{IpAddr, Ipv4Addr, Net, SocketAddr};
-use std::os::fd::AsRawFd;
+use std::net::Net;
+use std::os::fd::{AsRawFd, RawFd};
 use std::sync::{Arc, Wait};
 use std::time::{Clock, Duration, Instant};
 use std::{io, thread};
@@ -54,10 +55,10 @@ impl From<Refusal> for Unopened {
     }
 }
 
-/// A UDP socket, whose wait other threads can end. It doesn't tell what its calls did, since only the system knows that.
+/// A UDP socket, whose wait other threads can end. It tells what its calls did, in a list that clauses alone read.
 #[derive(Drop)]
 pub struct MioWire {
-    socket: UdpSocket,
+    socket: JournaledSocket,
     poll: Poll,
     events: Events,
     bell: Arc<Bell, Global>,
@@ -89,6 +90,7 @@ impl MioWire {
     pub fn bind<R: Net + AllocGlobal>(rt: &R, addr: Addr) -> Result<MioWire, Refusal>
         ensures new { IfOk result (λ wire. failures_of wire ≡ 0) }
         ensures silent { IfOk result (λ wire. reason_of wire ≡ None) }
+        ensures untold { IfOk result (λ wire. told_of wire ≡ []) }
         ensures refused { IfErr result (λ why. (why ≡ Refusal.WireFault) ⊎ (why ≡ Refusal.Memory)) }
     {
         match MioWire::open(rt, addr) {
@@ -101,6 +103,7 @@ impl MioWire {
     pub fn open<R: Net + AllocGlobal>(rt: &R, addr: Addr) -> Result<MioWire, Unopened>
         ensures new { IfOk result (λ wire. failures_of wire ≡ 0) }
         ensures silent { IfOk result (λ wire. reason_of wire ≡ None) }
+        ensures untold { IfOk result (λ wire. told_of wire ≡ []) }
         ensures refused { IfErr result (λ unopened. (unopened.why ≡ Refusal.WireFault) ⊎ (unopened.why ≡ Refusal.Memory)) }
         ensures said { IfErr result (λ unopened. (unopened.why ≡ Refusal.WireFault) ↔ IsSome unopened.reason) }
     {
@@ -120,7 +123,7 @@ impl MioWire {
             return Err(Unopened::from(Refusal::Memory));
         };
         Ok(MioWire {
-            socket,
+            socket: JournaledSocket::new(socket),
             poll,
             events,
             bell,
@@ -152,7 +155,7 @@ impl MioWire {
     pub fn receive_buffer(&self) -> Option<u32> {
         let mut value = [0u8; 16];
         let mut len = 4u32;
-        let fd = self.socket.as_raw_fd();
+        let fd = self.socket.fd();
         let told = unsafe { c::getsockopt(fd, c::SOL_SOCKET, c::SO_RCVBUF, &mut value, &mut len) };
         if told != 0 {
             return None;
@@ -163,7 +166,7 @@ impl MioWire {
     /// Asks the system to keep so many bytes of datagrams until they are received, in place of 4 MB. It may keep fewer
     /// ([`MioWire::receive_buffer`] tells), which is no fault.
     pub fn set_receive_buffer(&self, bytes: u32) {
-        widen_incoming(&self.socket, bytes);
+        widen_incoming(self.socket.fd(), bytes);
     }
 
     /// What the system said at the last call that answered E14.
@@ -178,6 +181,7 @@ impl MioWire {
         ensures answer { result ≡ Err Refusal.WireFault }
         ensures count { failures_of self.new ≡ failures_of self.old + 1 }
         ensures reason { reason_of self.new ≡ Some reason }
+        ensures told { told_of self.new ≡ told_of self.old }
     {
         self.reason = Some(reason);
         self.failures += 1;
@@ -186,7 +190,8 @@ impl MioWire {
 
     // Whether there is to be no sleep: something is known to be left, or the bell was rung.
     fn is_wanted(&mut self) -> bool
-        ensures { failures_of self.new ≡ failures_of self.old }
+        ensures failures { failures_of self.new ≡ failures_of self.old }
+        ensures told { told_of self.new ≡ told_of self.old }
     {
         let more = !self.drained || self.lost || self.sent >= MOST_PER_TURN;
         self.lost = false;
@@ -196,7 +201,8 @@ impl MioWire {
 
     // Sleeps until a datagram comes, the bell is rung or the time is over. An error where the system can't wait.
     fn sleep(&mut self) -> io::Result<()>
-        ensures { failures_of self.new ≡ failures_of self.old }
+        ensures failures { failures_of self.new ≡ failures_of self.old }
+        ensures told { told_of self.new ≡ told_of self.old }
     {
         let longest = if self.blocked {
             LONGEST_BLOCKED
@@ -248,7 +254,8 @@ impl MioWire {
 
     // Whole milliseconds since those that were told before; the rest counts for the next time.
     fn passed<R: Clock>(&mut self, rt: &R) -> u32
-        ensures { failures_of self.new ≡ failures_of self.old }
+        ensures failures { failures_of self.new ≡ failures_of self.old }
+        ensures told { told_of self.new ≡ told_of self.old }
     {
         let Ok(now) = Instant::now(rt) else {
             return 0;
@@ -268,7 +275,7 @@ impl MioWire {
 fn opened<R: Net>(rt: &R, addr: Addr) -> io::Result<(UdpSocket, Poll, Bell)> {
     let poll = Poll::new(rt)?;
     let mut socket = UdpSocket::bind(rt, socket_addr(addr))?;
-    widen(&socket);
+    widen(socket.as_raw_fd());
     poll.registry()
         .register(&mut socket, SOCKET, Interest::READABLE)?;
     let bell = Bell::new(poll.registry())?;
@@ -276,17 +283,15 @@ fn opened<R: Net>(rt: &R, addr: Addr) -> io::Result<(UdpSocket, Poll, Bell)> {
 }
 
 // Asks the system to keep more datagrams that weren't received yet, or didn't leave yet. It may keep fewer, which is no fault.
-fn widen(socket: &UdpSocket) {
-    widen_incoming(socket, BUFFER);
+fn widen(fd: RawFd) {
+    widen_incoming(fd, BUFFER);
     let value = option_value(BUFFER);
-    let fd = socket.as_raw_fd();
     let _ = unsafe { c::setsockopt(fd, c::SOL_SOCKET, c::SO_SNDBUF, &value, 4) };
 }
 
 // Asks it to keep so many bytes that weren't received yet.
-fn widen_incoming(socket: &UdpSocket, bytes: u32) {
+fn widen_incoming(fd: RawFd, bytes: u32) {
     let value = option_value(bytes);
-    let fd = socket.as_raw_fd();
     let _ = unsafe { c::setsockopt(fd, c::SOL_SOCKET, c::SO_RCVBUF, &value, 4) };
 }
 
@@ -295,21 +300,6 @@ fn option_value(number: u32) -> [u8; 16] {
     let mut value = [0u8; 16];
     value[..4].copy_from_slice(&number.to_ne_bytes());
     value
-}
-
-fn socket_addr(addr: Addr) -> SocketAddr {
-    SocketAddr::from((Ipv4Addr::from_bits(addr.ip), addr.port))
-}
-
-// None for an address of another kind.
-fn plain_addr(addr: SocketAddr) -> Option<Addr> {
-    match addr.ip() {
-        IpAddr::V4(ip) => Some(Addr {
-            ip: ip.to_bits(),
-            port: addr.port(),
-        }),
-        IpAddr::V6(_) => None,
-    }
 }
 
 // Why a datagram didn't leave.
@@ -384,7 +374,7 @@ fn can_be_repeated(why: &io::Error) -> bool {
 }
 
 impl Wire for MioWire {
-    ghost told = { λ w. None };
+    ghost told = { λ w. Some (told_of w) };
 
     ghost faults = { λ w. failures_of w };
 
@@ -397,20 +387,19 @@ impl Wire for MioWire {
         }
         if self.quiet {
             self.quiet = false;
+            self.socket.note_nothing();
             return Ok(None);
         }
-        match self.socket.recv_from(buf) {
-            Ok((len, from)) => {
+        match self.socket.receive(buf) {
+            Ok(given) => {
                 self.drained = false;
                 self.empty = false;
-                match plain_addr(from) {
-                    Some(from) => Ok(Some((from, len))),
-                    None => Ok(None),
-                }
+                Ok(given)
             }
             Err(why) if can_be_repeated(&why) => {
                 self.drained = true;
                 self.empty = why.kind() == ErrorKind::WouldBlock;
+                self.socket.note_nothing();
                 Ok(None)
             }
             Err(why) => {
@@ -426,24 +415,20 @@ impl Wire for MioWire {
         if self.failures == u64::MAX {
             return Ok(false);
         }
-        let why = match self.socket.send_to(bytes, socket_addr(to)) {
-            Ok(_) => {
+        let why = match self.socket.send(to, bytes) {
+            Ok(()) => {
                 self.sent = self.sent.saturating_add(1);
                 return Ok(true);
             }
             Err(why) => why,
         };
         match why_unsent(&why) {
-            Unsent::Blocked => {
-                self.blocked = true;
-                Ok(false)
-            }
-            Unsent::Lost => {
-                self.lost = true;
-                Ok(false)
-            }
-            Unsent::Failed => self.fault(why),
+            Unsent::Blocked => self.blocked = true,
+            Unsent::Lost => self.lost = true,
+            Unsent::Failed => return self.fault(why),
         }
+        self.socket.note_blocked(to, bytes);
+        Ok(false)
     }
 
     fn wait<R: Wait + Clock>(&mut self, rt: &R) -> Result<u32, Refusal> {
@@ -456,7 +441,9 @@ impl Wire for MioWire {
                 return self.fault(why);
             }
         }
-        Ok(self.passed(rt))
+        let ms = self.passed(rt);
+        self.socket.note_wait(ms);
+        Ok(ms)
     }
 
     fn failures(&self) -> u64 {
