@@ -19,7 +19,7 @@ use Rattle.law_progress.proofs.SomethingGoes.{no-transit, head-due}
 use Rattle.law_progress.proofs.Spent.{nothing-may-go, filled-fits}
 
 -- nothing was sent, or something was
-some-sent : (xs : List SendingEnd) → AreQuiet xs ⊎ ((s : SendingEnd) × Has xs s × (t : Sent) × Has s.sender.sent t)
+pub some-sent : (xs : List SendingEnd) → AreQuiet xs ⊎ ((s : SendingEnd) × Has xs s × (t : Sent) × Has s.sender.sent t)
 some-sent [] = inl (λ i s e. absurd (cc))
 some-sent (x ∷ xs) = by x.sender.sent refl (some-sent xs)
   where
@@ -45,7 +45,7 @@ idle-controls now wait c none rests = by c.queued refl
         ∙ ap (λ (l : List SentControl). cond (controlling.is_in_span l x.number) (Some (record { command = x; commands = record c { queued = rest; sent = cond (controlling.is_reliable x.control) (c.sent ++ controlling.begun now wait x ∷ []) c.sent } })) None) none in
         absurd (let f : None ≡ Some _ = sym rests ∙ goes in cc)
 
-idle-senders : (pace : Pace) (o : Outbox) → AllFit pace o → AreQuiet o.senders → NothingMayGo pace o → (i : ℕ) (s : SendingEnd) → slice_get o.senders i ≡ Some s → s.sender.queued ≡ []
+pub idle-senders : (pace : Pace) (o : Outbox) → AllFit pace o → AreQuiet o.senders → NothingMayGo pace o → (i : ℕ) (s : SendingEnd) → slice_get o.senders i ≡ Some s → s.sender.queued ≡ []
 idle-senders pace o all quiet rests i s there = by s.sender.queued refl
   where
     fit : AreFit pace o

@@ -22,7 +22,7 @@ use Rattle.law_progress.specs.Rounds.{Fills, comes, all_come, Carries, CarriesMa
 use Rattle.law_progress.proofs.Answered as answering
 use Rattle.law_progress.proofs.Trips.{fresh-in_time, Has-map, Runs-append, Images-has}
 
-abbrev nums : List Sent → List ℕ
+abbrev pub nums : List Sent → List ℕ
 nums sent = map (λ (p : Sent). p.command.number) sent
 
 -- a link comes from another by something that can happen
@@ -44,7 +44,7 @@ record Step (o : Sender) (n : Next) : Type 0 where
   moved : (length n.sender.sent ≤ length o.sent) ⊎ (length n.sender.queued < length o.queued)
 
 -- to send again changes no number
-set-nums : (xs : List Sent) (i now : ℕ) (q : Sent) → slice_get xs i ≡ Some q → nums (slice_set xs i (again now q)) ≡ nums xs
+pub set-nums : (xs : List Sent) (i now : ℕ) (q : Sent) → slice_get xs i ≡ Some q → nums (slice_set xs i (again now q)) ≡ nums xs
 set-nums [] i now q t = refl
 set-nums (x ∷ xs) zero now q t = let it : x ≡ q = cc in ap (λ (y : Sent). y.command.number ∷ nums xs) (sym it)
 set-nums (x ∷ xs) (suc i) now q t = ap (λ (l : List ℕ). x.command.number ∷ l) (set-nums xs i now q t)
@@ -56,15 +56,15 @@ set-from (x ∷ xs) zero now q p t (inr h) = inl (inr h)
 set-from (x ∷ xs) (suc i) now q p t (inl is) = inl (inl is)
 set-from (x ∷ xs) (suc i) now q p t (inr h) = elim (set-from xs i now q p t h) [ inl k ↦ inl (inr k) | inr e ↦ inr e ]
 
-set-length : (xs : List Sent) (i : ℕ) (p : Sent) → length (slice_set xs i p) ≡ length xs
+pub set-length : (xs : List Sent) (i : ℕ) (p : Sent) → length (slice_set xs i p) ≡ length xs
 set-length [] i p = refl
 set-length (x ∷ xs) zero p = refl
 set-length (x ∷ xs) (suc i) p = let rest = set-length xs i p in omega arith
 
-Has-nums : (xs : List Sent) (p : Sent) → Has xs p → Has (nums xs) p.command.number
+pub Has-nums : (xs : List Sent) (p : Sent) → Has xs p → Has (nums xs) p.command.number
 Has-nums xs p h = Has-map (λ (q : Sent). q.command.number) xs p h
 
-Has-more : (xs ys : List Sent) (x : ℕ) → Has (nums xs) x → Has (nums (xs ++ ys)) x
+pub Has-more : (xs ys : List Sent) (x : ℕ) → Has (nums xs) x → Has (nums (xs ++ ys)) x
 Has-more [] ys x h = absurd h
 Has-more (y ∷ xs) ys x (inl e) = inl e
 Has-more (y ∷ xs) ys x (inr h) = inr (Has-more xs ys x h)
@@ -375,7 +375,7 @@ answers-reach mtu (a ∷ rest) u e =
     subst (λ l. Reaches mtu u (record u { answers = []; acks = l })) same (then-reaches mtu u x (record x { answers = []; acks = x.acks ++ map (answer_of x.greatest) rest }) (one-reaches mtu (PutsAnswer a rest) u x step) k)
 
 -- what waits is in time
-waits-in_time : (mtu : ℕ) (u : WireLink) (p : Sent) → Sound mtu u → u.is_sending ≡ true → Has u.outgoing.sent p → is_late u.greatest u.greatest p.command.number ≡ false
+pub waits-in_time : (mtu : ℕ) (u : WireLink) (p : Sent) → Sound mtu u → u.is_sending ≡ true → Has u.outgoing.sent p → is_late u.greatest u.greatest p.command.number ≡ false
 waits-in_time mtu u p s sending h =
     let im = Images-has mtu s.link.carried s.link.unacked u.outgoing.sent p (s.shows.images sending) h in
     let near = s.numbers.unacked im.0 im.1 in

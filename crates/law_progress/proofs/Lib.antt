@@ -38,3 +38,8 @@ pub mod Parted
 pub mod Tries
 pub mod Acknowledging
 pub mod PartingEnds
+-- two ends
+pub mod Emitted
+pub mod Obeyed
+pub mod Exchanges
+pub mod BothRounds

@@ -8,3 +8,4 @@ pub mod Later
 pub mod Fits
 pub mod Settled
 pub mod Rounds
+pub mod Exchanges

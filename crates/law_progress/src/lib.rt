@@ -1,18 +1,19 @@
 //! Laws of progress: where the network stops losing, what is reliable arrives; and no attempt to connect or to disconnect lasts for ever,
 //! whatever the network does. No code but the laws.
 //!
-//! They speak of the links of `law_connection`, which are one channel from a sender to a receiver and the acknowledgements back, and of the
-//! definitions that the contracts of `enet_outbox::Outbox` and `enet_peer::Peer` name. Proved, each by itself: a command that waits for its
-//! acknowledgement is acknowledged wherever it comes while there is room, and from each reached link an exchange without losses leads to
-//! where all reliable packets were dispatched (`everything_can_arrive`), as do any rounds without losses, by so many as commands were
-//! queued, once the timeouts of what waited are over (`rounds_get_through`); nothing holds back for good what an outbox has to send, and
-//! once nothing goes any more, all has gone, or something waits for its acknowledgement (`nothing_is_held_back`); a peer answers what its
-//! sender waits for, the answer takes it away, and no command of another kind is stopped where there is room, for it and for the
-//! acknowledgement that it asks for (`what_waits_is_answered`, `each_trip_takes_one_away`); what was acknowledged was delivered
-//! (`acknowledged_was_delivered`); an attempt ends within a stated time (`every_attempt_ends`), and so does each wait for an
-//! acknowledgement (`no_wait_is_endless`); all that a peer has to send fits its datagrams (`all_that_waits_fits`); a peer that is to
-//! disconnect later comes to do so (`no_leave_is_put_off`). Not proved: that rounds without losses bring all channels of a connection to
-//! where nothing is outstanding, with the transit limit and the timers that real peers' channels share, nor how many rounds that takes.
+//! They speak of the links of `law_connection`, which are one channel from a sender to a receiver and the acknowledgements back, of its
+//! connections, and of the definitions that the contracts of `enet_outbox::Outbox` and `enet_peer::Peer` name. Proved: a command that waits
+//! for its acknowledgement is acknowledged wherever it comes while there is room, and from each reached link an exchange without losses
+//! leads to where all reliable packets were dispatched (`everything_can_arrive`), as do any rounds without losses, by so many as commands
+//! were queued, once the timeouts of what waited are over (`rounds_get_through`); rounds of two connected peers make fewer the commands that
+//! are outstanding on all channels of both, or time alone passes, and so come to where nothing is (`both_get_through`); nothing holds back
+//! for good what an outbox has to send, and once nothing goes any more, all has gone, or something waits for its acknowledgement
+//! (`nothing_is_held_back`); a peer answers what its sender waits for, the answer takes it away, and no command of another kind is stopped
+//! where there is room, for it and for the acknowledgement that it asks for (`what_waits_is_answered`, `each_trip_takes_one_away`); what was
+//! acknowledged was delivered (`acknowledged_was_delivered`); an attempt ends within a stated time (`every_attempt_ends`), and so does each
+//! wait for an acknowledgement (`no_wait_is_endless`); all that a peer has to send fits its datagrams (`all_that_waits_fits`); a peer that is
+//! to disconnect later comes to do so (`no_leave_is_put_off`). Not proved: that two hosts make such rounds, whose datagrams may be stopped at
+//! one command and bring none of those behind it, nor that the patience of both outlasts them.
 #![tactic(auto)]
 
 ghost use Rattle.std.specs.Prelude.{◌≡◌, ℕ, ◌+◌, ◌*◌, ◌<◌, ◌≤◌, Bool, Option, Some, None, map, slice_get, true, false, List, [], ◌∷◌, ◌++◌, length, ◌⊎◌};
@@ -56,6 +57,7 @@ ghost use Rattle.law_progress.specs.Attempts.{LastsAtMost, LastsFor, TellsWhenLe
 ghost use Rattle.law_progress.specs.Waits.{NoneWaitsLonger};
 ghost use Rattle.law_progress.specs.Fits.{StaysFit};
 ghost use Rattle.law_progress.specs.Later.{DisconnectsLater, LeavesOrTells};
+ghost use Rattle.law_progress.specs.Exchanges.{IsOpen, RoundOfBoth, ProgressesBoth, RoundsOfBoth, outstanding_over, BothThrough};
 ghost use Rattle.law_progress.specs.Rounds.{Round, Rounds, Progresses, AreOver, HasAllThrough, HasARound};
 
 /// One channel of one connection, after any list of events, whatever was lost, repeated, reordered or late by then, while both ends go on.
@@ -224,4 +226,21 @@ pub fn no_leave_is_put_off()
     ensures connecting { (start : ℕ) (offer : Offer) (limits : Limits) → offer.mtu ≤ 4096 → DisconnectsLater (connecting start offer limits) }
     ensures answering { (start : ℕ) (offer : Offer) (server : Server) (limits : Limits) → DisconnectsLater (answering start offer server limits) }
     ensures told { LeavesOrTells }
+{}
+
+/// Two connected peers, in every reached connection, over all their channels and both ways, whatever was lost, repeated, reordered or late by
+/// then, and then rounds in which nothing is lost. In each both clocks go on to any moments by which neither's patience is over; the one end
+/// puts out all that it may, the other does, and the one does again; each command comes at once to the other end, which has room for it and
+/// for its acknowledgement, has its channel, and takes in packets of the lengths that were submitted, and by none a peer ceases to be
+/// connected.
+///
+/// `progresses`: a round makes fewer the commands that are outstanding at the two together, on all channels; or nothing went on any channel,
+/// and time alone passed: what is outstanding is as it was, no timeout was over, and if anything is outstanding at an end, it waits for an
+/// acknowledgement. `through`: so where all timeouts of what waits are over by each round's moments, as many rounds as commands are
+/// outstanding bring all through: nothing is outstanding, and each reliable packet that either user submitted was dispatched at the other
+/// end, in order, taken or not.
+pub fn both_get_through()
+    ensures progresses { (joined : Bool) (now there : ℕ) (c d : Connection) (p q : Peering) → Invariant joined c → IsOpen c.one p → IsOpen c.two q → (r : RoundOfBoth now there c d) → ProgressesBoth now there p q r }
+    ensures through { (joined : Bool) (moments : List (ℕ × ℕ)) (c d : Connection) (p q : Peering) → Invariant joined c → c.one.peer ≡ Some p → c.two.peer ≡ Some q → p.state ≡ state.Connected → q.state ≡ state.Connected
+        → RoundsOfBoth moments c d → outstanding_over p.outbox.senders + outstanding_over q.outbox.senders ≤ length moments → BothThrough d }
 {}

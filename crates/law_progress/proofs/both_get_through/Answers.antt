@@ -1,0 +1,8 @@
+use Rattle.law_progress.proofs.BothRounds.{round-progresses, all-get-through}
+use Rattle.law_progress.proofs.both_get_through.Goals as goal
+
+pub returns-clause-progresses : goal.returns-clause-progresses
+returns-clause-progresses c = round-progresses
+
+pub returns-clause-through : goal.returns-clause-through
+returns-clause-through c = all-get-through
