@@ -3,3 +3,4 @@ pub mod Reaching
 pub mod Told
 pub mod Playing
 pub mod Calming
+pub mod Delivering

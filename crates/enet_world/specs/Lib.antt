@@ -2,3 +2,4 @@ pub mod Worlds
 pub mod Private
 pub mod Transcript
 pub mod Calm
+pub mod Delivered

@@ -2,6 +2,7 @@
 
 ghost use Rattle.std.specs.Prelude.{◌≡◌, ◌≤◌, is_some};
 ghost use Rattle.law_network.specs.Headline.{HasHeadline};
+ghost use Rattle.enet_world.specs.Delivered.{HasDelivered};
 ghost use Rattle.enet_world.specs.Calm.{PutsAllOut, Round, Rounds, TakesAll, both, datagram_in, event_in, refusals_in};
 
 use crate::world::{World, other};
@@ -96,10 +97,15 @@ impl World {
     /// `rounds`: this is what happens, event by event, each as `step` makes it happen, and it is counted; the counts stop at 2^64 - 1,
     /// which so few rounds can't reach. A turn or a take that is refused for want of memory counts as one that brought nothing; a
     /// datagram that the other side refuses, also for want of memory, is counted, and doesn't come again.
+    ///
+    /// `delivered`: what a side has nothing left of has arrived. Where the peer of an end stands, still sends, and has no reliable command
+    /// of a channel queued or unacknowledged after the rounds, each reliable packet that its user submitted there, and that went in order,
+    /// was dispatched at the other end, in order, if that stands and still dispatches. It isn't said that rounds lead there.
     pub fn calm(&mut self, rounds: u16, ms: u32) -> Calm
         ensures rounds { Rounds ms rounds result self.old.world self.new.world }
         ensures joined { self.new.joined ≡ self.old.joined }
         ensures headline { HasHeadline self.new.joined self.new.world }
+        ensures delivered { HasDelivered self.new.world }
     {
         let mut told = Calm {
             a: Share::NOTHING,
@@ -114,6 +120,7 @@ impl World {
             played += 1;
         }
         self.headline();
+        self.delivered();
         told
     }
 

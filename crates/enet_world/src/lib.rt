@@ -5,7 +5,8 @@
 //! by the network's definition (`Steps`): a refusal is the first that applies and changes nothing, and any other event makes its one
 //! host call on its side, with what that adds to what is kept. `run` is its steps in order (`Runs`). After each the headline holds
 //! of every connection, end and channel, whatever was connected before, at the same time or after, slots used again included
-//! (`HasHeadline`). `calm` is the stated rounds of such events in which the network loses nothing (`Rounds`), counted.
+//! (`HasHeadline`), and what a host has nothing left to send of was delivered at the other (`HasDelivered`). `calm` is the stated rounds of
+//! such events in which the network loses nothing (`Rounds`), counted.
 //! Only tested, by scripts/rows, `check_lists` and `check_memory`: that calls succeed with ample memory, worked runs with their
 //! answers and bytes, and that a call which was refused for want of memory is answered as wanted when it is made again.
 //! Neither: that a datagram arrives, or that memory is there; nor that rounds without losses bring everything through.

@@ -5,6 +5,7 @@ ghost use Rattle.std.specs.Option.{option_copied, option_map};
 ghost use Rattle.enet_codec.specs.Config.{is_in_range};
 ghost use Rattle.law_network.specs.Headline.{HasHeadline, end_at, submitted_at, taken_at, events_at};
 ghost use Rattle.law_network.specs.World.{World as TwoHosts, Steps, Runs, open_world, site_of, other};
+ghost use Rattle.enet_world.specs.Delivered.{HasDelivered};
 ghost use Rattle.enet_world.specs.Transcript.{IsOnEachFront};
 ghost use Rattle.enet_world.specs.Worlds.{begun};
 
@@ -126,6 +127,17 @@ impl World {
         ensures { HasHeadline self.now.joined self.now.world }
     {
         each_connection_in_order();
+        // The field is looked at, so that what holds of every world is known here.
+        let _ = &self.hosts;
+    }
+
+    /// Acknowledged means delivered, a law of every world. Of each connection, both ways, on each channel below 255: where the peer of the
+    /// one end stands, still sends, and has no reliable command of the channel queued or unacknowledged, each reliable packet that its user
+    /// submitted there, and that went in order, was dispatched at the other end, in order, taken or not, if the peer of that end stands and
+    /// still dispatches.
+    pub fn delivered(&self)
+        ensures { HasDelivered self.now.world }
+    {
         // The field is looked at, so that what holds of every world is known here.
         let _ = &self.hosts;
     }
