@@ -43,3 +43,4 @@ pub mod Emitted
 pub mod Obeyed
 pub mod Exchanges
 pub mod BothRounds
+pub mod RoundOfAPair

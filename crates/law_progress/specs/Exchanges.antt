@@ -1,5 +1,5 @@
 -- Rounds of two connected ends, over all their channels and both ways, in which nothing is lost. Times are in milliseconds.
-use Rattle.std.specs.Prelude.{◌≡◌, ℕ, zero, suc, false, ◌+◌, ◌%◌, ◌<◌, ◌≤◌, List, [], ◌∷◌, ◌++◌, length, Some, slice_get, ◌⊎◌}
+use Rattle.std.specs.Prelude.{◌≡◌, ℕ, zero, suc, true, false, ◌+◌, ◌%◌, ◌<◌, ◌≤◌, List, [], ◌∷◌, ◌++◌, length, Some, slice_get, ◌⊎◌}
 use Rattle.enet_codec.specs.declared.packet.Packet.{Packet}
 use Rattle.enet_fragment.specs.declared.data.DataCommand.{DataCommand}
 use Rattle.enet_fragment.specs.DataCommand.{data_of}
@@ -15,6 +15,8 @@ use Rattle.enet_peer.specs.Calls.{pace_of}
 use Rattle.law_connection.specs.LinkSteps.{Has, bodies_of}
 use Rattle.enet_sender.specs.CommandChoice.{carried}
 use Rattle.law_connection.specs.Connection.{Put, End, Connection, of_channel}
+use Rattle.law_connection.specs.Examples.{example_packet}
+use Rattle.law_connection.specs.Invariant.{Invariant}
 use Rattle.law_connection.specs.Law.{mtu_of}
 use Rattle.law_connection.specs.Linked.{dispatched_on}
 use Rattle.law_connection.specs.Steps.{Emit, Come, Tick, Happens, InTime}
@@ -125,3 +127,9 @@ pub record BothThrough (d : Connection) : Type 0 where
   pub none : outstanding_over one.outbox.senders + outstanding_over two.outbox.senders ≡ 0
   pub forth : (channel : ℕ) → channel < 255 → IsThrough d.one d.two two channel
   pub back : (channel : ℕ) → channel < 255 → IsThrough d.two d.one one channel
+
+-- there is such a round, of a pair that is connected from the start: the one end has a reliable packet to send before it, and nothing
+-- outstanding after it
+abbrev pub SomeRound : Type 0
+SomeRound = (c d : Connection) × (p q : Peering) × Invariant true c × IsOpen c.one p × IsOpen c.two q × RoundOfBoth 0 0 c d
+    × (c.one.submitted ≡ example_packet ∷ []) × (outstanding_over p.outbox.senders ≡ 1) × (u : Peering) × (d.one.peer ≡ Some u) × (outstanding_over u.outbox.senders ≡ 0)

@@ -57,7 +57,7 @@ ghost use Rattle.law_progress.specs.Attempts.{LastsAtMost, LastsFor, TellsWhenLe
 ghost use Rattle.law_progress.specs.Waits.{NoneWaitsLonger};
 ghost use Rattle.law_progress.specs.Fits.{StaysFit};
 ghost use Rattle.law_progress.specs.Later.{DisconnectsLater, LeavesOrTells};
-ghost use Rattle.law_progress.specs.Exchanges.{IsOpen, RoundOfBoth, ProgressesBoth, RoundsOfBoth, outstanding_over, BothThrough};
+ghost use Rattle.law_progress.specs.Exchanges.{IsOpen, RoundOfBoth, ProgressesBoth, RoundsOfBoth, outstanding_over, BothThrough, SomeRound};
 ghost use Rattle.law_progress.specs.Rounds.{Round, Rounds, Progresses, AreOver, HasAllThrough, HasARound};
 
 /// One channel of one connection, after any list of events, whatever was lost, repeated, reordered or late by then, while both ends go on.
@@ -238,9 +238,10 @@ pub fn no_leave_is_put_off()
 /// and time alone passed: what is outstanding is as it was, no timeout was over, and if anything is outstanding at an end, it waits for an
 /// acknowledgement. `through`: so where all timeouts of what waits are over by each round's moments, as many rounds as commands are
 /// outstanding bring all through: nothing is outstanding, and each reliable packet that either user submitted was dispatched at the other
-/// end, in order, taken or not.
+/// end, in order, taken or not. `happens`: there is a round in which a reliable packet goes and is acknowledged, so this speaks of something.
 pub fn both_get_through()
     ensures progresses { (joined : Bool) (now there : ℕ) (c d : Connection) (p q : Peering) → Invariant joined c → IsOpen c.one p → IsOpen c.two q → (r : RoundOfBoth now there c d) → ProgressesBoth now there p q r }
     ensures through { (joined : Bool) (moments : List (ℕ × ℕ)) (c d : Connection) (p q : Peering) → Invariant joined c → c.one.peer ≡ Some p → c.two.peer ≡ Some q → p.state ≡ state.Connected → q.state ≡ state.Connected
         → RoundsOfBoth moments c d → outstanding_over p.outbox.senders + outstanding_over q.outbox.senders ≤ length moments → BothThrough d }
+    ensures happens { SomeRound }
 {}

@@ -1,4 +1,5 @@
 use Rattle.law_progress.proofs.BothRounds.{round-progresses, all-get-through}
+use Rattle.law_progress.proofs.RoundOfAPair.{some-round}
 use Rattle.law_progress.proofs.both_get_through.Goals as goal
 
 pub returns-clause-progresses : goal.returns-clause-progresses
@@ -6,3 +7,6 @@ returns-clause-progresses c = round-progresses
 
 pub returns-clause-through : goal.returns-clause-through
 returns-clause-through c = all-get-through
+
+pub returns-clause-happens : goal.returns-clause-happens
+returns-clause-happens c = some-round
