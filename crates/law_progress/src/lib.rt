@@ -46,7 +46,7 @@ ghost use Rattle.enet_peer.specs.CommandEffect.{obeyed};
 ghost use Rattle.law_connection.specs.Link.{PutOut, is_late};
 ghost use Rattle.law_connection.specs.LinkSteps.{Event, Runs, fresh_link, bodies_of};
 ghost use Rattle.law_connection.specs.WireLink.{WireLink};
-ghost use Rattle.law_connection.specs.Connection.{Put, Connection};
+ghost use Rattle.law_connection.specs.Connection.{Put, End, Connection};
 ghost use Rattle.law_connection.specs.Invariant.{Invariant};
 ghost use Rattle.law_progress.specs.Links.{Waits, AreShort, AllDispatched, IsUp, AreTimed, GetsThrough};
 ghost use Rattle.law_progress.specs.Outboxes.{AreFit, AllFit, NothingMayGo, WaitsForSome, GoOrStay, IsPutOut, AreQuiet, HasNew, AreSome, IsSpent, ready};
@@ -234,14 +234,16 @@ pub fn no_leave_is_put_off()
 /// for its acknowledgement, has its channel, and takes in packets of the lengths that were submitted, and by none a peer ceases to be
 /// connected.
 ///
-/// `progresses`: a round makes fewer the commands that are outstanding at the two together, on all channels; or nothing went on any channel,
-/// and time alone passed: what is outstanding is as it was, no timeout was over, and if anything is outstanding at an end, it waits for an
-/// acknowledgement. `through`: so where all timeouts of what waits are over by each round's moments, as many rounds as commands are
+/// `progresses`: a round makes fewer the commands that are outstanding at the two together, on all channels; or nothing went on any channel
+/// before the one end's second turn, and time alone passed: what is outstanding is as it was, no timeout was over, and if anything is
+/// outstanding at an end, something waits there for its acknowledgement. `through`: so where all timeouts of what waits are over by each round's moments, as many rounds as commands are
 /// outstanding bring all through: nothing is outstanding, and each reliable packet that either user submitted was dispatched at the other
 /// end, in order, taken or not. `happens`: there is a round in which a reliable packet goes and is acknowledged, so this speaks of something.
+/// `either`: what is asked of a reached connection holds of it with its ends exchanged, too, so either end may begin.
 pub fn both_get_through()
     ensures progresses { (joined : Bool) (now there : ℕ) (c d : Connection) (p q : Peering) → Invariant joined c → IsOpen c.one p → IsOpen c.two q → (r : RoundOfBoth now there c d) → ProgressesBoth now there p q r }
     ensures through { (joined : Bool) (moments : List (ℕ × ℕ)) (c d : Connection) (p q : Peering) → Invariant joined c → c.one.peer ≡ Some p → c.two.peer ≡ Some q → p.state ≡ state.Connected → q.state ≡ state.Connected
         → RoundsOfBoth moments c d → outstanding_over p.outbox.senders + outstanding_over q.outbox.senders ≤ length moments → BothThrough d }
     ensures happens { SomeRound }
+    ensures either { (joined : Bool) (a b : End) → Invariant joined (record { one = a; two = b }) → Invariant joined (record { one = b; two = a }) }
 {}

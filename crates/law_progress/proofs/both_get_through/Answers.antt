@@ -1,4 +1,5 @@
 use Rattle.law_progress.proofs.BothRounds.{round-progresses, all-get-through}
+use Rattle.law_progress.proofs.Exchanges.{joint-swap}
 use Rattle.law_progress.proofs.RoundOfAPair.{some-round}
 use Rattle.law_progress.proofs.both_get_through.Goals as goal
 
@@ -10,3 +11,6 @@ returns-clause-through c = all-get-through
 
 pub returns-clause-happens : goal.returns-clause-happens
 returns-clause-happens c = some-round
+
+pub returns-clause-either : goal.returns-clause-either
+returns-clause-either c = joint-swap
