@@ -111,6 +111,10 @@ is_crowded o = nat_le acknowledgement_limit (length o.acknowledgements)
 abbrev pub with_acknowledgement : Outbox → Acknowledgement → Outbox
 with_acknowledgement o a = record o { acknowledgements = o.acknowledgements ++ a ∷ [] }
 
+-- the same where few enough wait; else it is passed over
+abbrev pub acknowledging : Outbox → Acknowledgement → Outbox
+acknowledging o a = if is_crowded o then o else with_acknowledgement o a
+
 -- a command of channel 0xFF is queued
 abbrev pub with_control : Outbox → Control → Outbox
 with_control o what = record o { control = controlling.with_queued o.control what }

@@ -8,7 +8,7 @@ ghost use Rattle.enet_fragment.specs.Cutting.{piece_length, piece_count};
 ghost use Rattle.enet_sender.specs.Due.{SendingEnd};
 ghost use Rattle.enet_sender.specs.Sender as sender;
 ghost use Rattle.enet_senders.specs.Controlling.{is_idle};
-ghost use Rattle.enet_outbox.specs.Outbox.{acknowledgement_limit, after_acknowledgement, after_lateness, cleared, empty_outbox, is_crowded, is_done, is_quiet, lateness, marked, matched_by, narrowed, sampled, submitted, transit_of, with_acknowledgement, with_control, with_unsequenced};
+ghost use Rattle.enet_outbox.specs.Outbox.{acknowledgement_limit, acknowledging, after_acknowledgement, after_lateness, cleared, empty_outbox, is_crowded, is_done, is_quiet, lateness, marked, matched_by, narrowed, sampled, submitted, transit_of, with_control, with_unsequenced};
 
 use crate::{Acknowledgement, Matched, Unsequenced, lists};
 use bytes::Bytes;
@@ -181,16 +181,17 @@ impl Outbox {
         }
     }
 
-    /// Queues an acknowledgement behind those that wait, of which there must be less than 8,192 (our profile). There must be room for it,
-    /// so it takes no memory.
+    /// Queues an acknowledgement behind those that wait. Where as many wait as may, 8,192, it is passed over, and nothing changes (our
+    /// profile). There must be room for it, so it takes no memory.
     pub fn acknowledge(&mut self, what: Acknowledgement)
         requires room { 1 ≤ self.old.acknowledgement_room }
-        requires few { is_crowded self.old.outbox ≡ false }
-        ensures outbox { self.new.outbox ≡ with_acknowledgement self.old.outbox what }
+        ensures outbox { self.new.outbox ≡ acknowledging self.old.outbox what }
         ensures room { self.old.acknowledgement_room ≤ self.new.acknowledgement_room + 1 }
         ensures control_room { self.new.control_room ≡ self.old.control_room }
     {
-        self.acknowledgements.push_back_reserved(what);
+        if !self.is_crowded() {
+            self.acknowledgements.push_back_reserved(what);
+        }
     }
 
     /// Makes room for one command more of channel 0xFF. Where there is some, it takes no memory; else E1 where memory is
@@ -358,6 +359,14 @@ impl Outbox {
         ensures few { length self.now.outbox.acknowledgements ≤ acknowledgement_limit }
     {
         self.acknowledgements.len() >= ACKNOWLEDGEMENT_LIMIT
+    }
+
+    /// How many acknowledgements wait to be put out, at most 8,192 (our profile).
+    pub fn acknowledgements(&self) -> usize
+        ensures count { result ≡ length self.now.outbox.acknowledgements }
+        ensures few { result ≤ acknowledgement_limit }
+    {
+        self.acknowledgements.len()
     }
 
     /// Whether a command of channel 0xFF is queued.
