@@ -19,7 +19,7 @@ use Rattle.enet_fragment.specs.Whole.{is_whole}
 use Rattle.enet_fragment.specs.declared.data.DataCommand.{DataCommand}
 use Rattle.enet_fragment.specs.DataCommand.{piece_of, place_in_packet}
 use Rattle.enet_fragment.proofs.Places.{Sound-from_test}
-use Rattle.enet_fragment.proofs.Laws.{belongs-first, IsWhole-tested}
+use Rattle.enet_fragment.proofs.Laws.{belongs-first, count_of-nothing_yet, count_of-with_piece, IsWhole-tested}
 use Rattle.enet_fragment.proofs.Views.{AreKept-new, making_of-new, AreKept-added, making_of-added, joined-making, total_of-making, count_of-making}
 use Rattle.enet_packets.specs.declared.incoming_packet.IncomingPacket.{IncomingPacket}
 use Rattle.enet_packets.specs.declared.incoming_packet.Dispatched.{Dispatched}
@@ -82,6 +82,7 @@ made_first most c small t =
     let is = making_of-new bytes marks (piece_of c).count (piece_of c).total refl refl in
     let fits : belongs m p ≡ true = belongs-first p ∙ sound.0 in
     let absent : piece_at m p.number ≡ None = get_or-replicate (piece_of c).count (piece_of c).number None None below in
+    let count : count_of (with_more (earlier_or_new None c) c).making ≡ (piece_of c).count = count_of-with_piece m p c.body ∙ count_of-nothing_yet (piece_of c).count (piece_of c).total in
     record {
       bytes = written_at p.offset c.body bytes;
       came = set marks p.number true;
@@ -89,11 +90,14 @@ made_first most c small t =
       is = making_of-added bytes c.body marks (piece_of c).count None m p kept is fits refl;
       kept = AreKept-added bytes c.body marks (piece_of c).count None m p kept is fits absent refl;
       small = total;
+      few_pieces = omega arith;
     }
 
 made_more : (most : ℕ) (e : IncomingPacket) (c : DataCommand) → IsMade most e → belongs e.making (place_in_packet c) ≡ true → is_some (piece_at e.making (piece_of c).number) ≡ false → IsMade most (with_more e c)
 made_more most e c m fits missing =
     let p : Place = place_in_packet c in
+    let count : count_of (with_more e c).making ≡ count_of e.making = count_of-with_piece e.making p c.body in
+    let few : count_of e.making ≤ 16384 = m.few_pieces in
     record {
       bytes = written_at p.offset c.body m.bytes;
       came = set m.came p.number true;
@@ -101,6 +105,7 @@ made_more most e c m fits missing =
       is = making_of-added m.bytes c.body m.came m.missing e.making.cut e.making p m.kept m.is fits refl;
       kept = AreKept-added m.bytes c.body m.came m.missing e.making.cut e.making p m.kept m.is fits (none_from (piece_at e.making p.number) missing) refl;
       small = m.small;
+      few_pieces = omega arith;
     }
 
 made_grown : (most : ℕ) (c : DataCommand) (o : Option IncomingPacket) → most < 2 ^ 32 → is_piece most c ≡ true → agrees_with o c ≡ true → came o c ≡ false → ((e : IncomingPacket) → o ≡ Some e → IsMade most e)

@@ -4,13 +4,14 @@ use Rattle.std.specs.FinMap.{get, remove}
 use Rattle.enet_seq.specs.Windows.{after}
 use Rattle.enet_fragment.specs.declared.data.DataCommand.{DataCommand}
 use Rattle.enet_fragment.specs.Assembly.{making_of, AreKept}
+use Rattle.enet_fragment.specs.PartialPacket.{count_of}
 use Rattle.enet_packets.specs.declared.incoming_packet.IncomingPacket.{IncomingPacket}
 use Rattle.enet_packets.specs.declared.incoming_packet.Dispatched.{Dispatched}
 use Rattle.enet_packets.specs.Packets.{bytes_of, bytes_in, line_at}
 use Rattle.enet_receiver.specs.Receiver.{Receiver, held_bytes}
 use Rattle.enet_receiver.specs.DataOutcome.{is_next}
 
--- a packet of at most `most` bytes as its pieces make it: these bytes, with a mark for each piece that came
+-- a packet of at most `most` bytes as its pieces make it, at most 16,384: these bytes, with a mark for each piece that came
 pub record IsMade (most : ℕ) (c : IncomingPacket) : Type 0 where
   pub bytes : List ℕ
   pub came : List Bool
@@ -18,6 +19,7 @@ pub record IsMade (most : ℕ) (c : IncomingPacket) : Type 0 where
   pub is : making_of bytes came c.making.cut ≡ c.making
   pub kept : AreKept bytes came missing c.making.cut
   pub small : c.making.total ≤ most
+  pub few_pieces : count_of c.making ≤ 16384
 
 -- all that is held, waits or is in the making
 pub record HasMade (most : ℕ) (r : Receiver) : Type 0 where

@@ -36,7 +36,7 @@ pub fn sequenced_has_other_flags()
 {}
 
 /// A command takes a place and room for its packet at most, and none where so much waits that no packet begins: what it has
-/// dispatched were packets that had theirs. What a receiver holds is made of its pieces, and is so after the command.
+/// dispatched were packets that had theirs. What a receiver holds is made of its pieces, 16,384 at most, and is so after the command.
 pub fn a_command_takes_a_place_at_most()
     ensures place { (most : ℕ) (r : Receiver) (c : DataCommand) (full : Bool) → HavePieces r
         → TakesAPlace full r c (received wire most r c full) }
