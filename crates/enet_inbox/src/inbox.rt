@@ -179,6 +179,14 @@ impl Inbox {
         self.untaken.front()
     }
 
+    /// How many channels there are, at most 255.
+    pub fn channels(&self) -> usize
+        ensures count { result ≡ length self.now.receivers }
+        ensures few { result ≤ 255 }
+    {
+        self.receivers.len()
+    }
+
     /// How many packets take a place: those that are held, wait or are in the making on any channel, and those that weren't taken.
     /// Whatever came, and whether or not the user takes, they are no more than twice as many as there are places, and 255 more; the
     /// first kind alone no more than there are places, and one more for each channel.
@@ -186,6 +194,7 @@ impl Inbox {
         ensures value { result ≡ places_of self.now }
         ensures bound { places_of self.now ≤ most_places self.now.max_waiting }
         ensures held { packets_in self.now.receivers ≤ place_limit self.now.max_waiting + length self.now.receivers }
+        ensures few { result < 2 ^ 27 }
     {
         look_at(&self.receivers);
         places_taken(self.packets, self.untaken.len())
@@ -198,6 +207,7 @@ impl Inbox {
         ensures value { result ≡ waiting_of self.now }
         ensures bound { waiting_of self.now ≤ most_bytes self.now.max_packet self.now.max_waiting }
         ensures held { waiting_of self.now ≤ self.now.max_waiting + (length self.now.receivers + 1) * self.now.max_packet + untaken_of self.now }
+        ensures light { result < 2 ^ 42 }
     {
         look_at(&self.receivers);
         self.waiting

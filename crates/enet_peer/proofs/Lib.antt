@@ -11,3 +11,4 @@ pub mod Steps
 pub mod Each
 pub mod Calm
 pub mod Waiting
+pub mod Limited

@@ -8,5 +8,6 @@ pub mod Next
 pub mod Reachable
 pub mod Handling
 pub mod Heading
+pub mod Held
 pub mod Waiting
 pub mod Private

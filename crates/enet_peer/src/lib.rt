@@ -33,6 +33,7 @@ mod effects;
 mod endings;
 mod events;
 mod heading;
+mod held;
 mod laws;
 mod leaving;
 mod opening;
@@ -45,6 +46,7 @@ mod time;
 
 pub use datagram::{obey, what_was_put_out_comes};
 pub use heading::{read_heading, read_offer};
+pub use held::Held;
 pub use laws::{disconnect_is_answered, reachable_stays};
 pub use parts::{Limits, PeerEvent, PeerState};
 pub use peer::Peer;
