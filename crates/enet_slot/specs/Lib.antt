@@ -1,6 +1,7 @@
 pub mod Slot
 pub mod Giving
 pub mod Hearing
+pub mod Holding
 pub mod Seating
 pub mod Serving
 pub mod Sharing
