@@ -1,13 +1,14 @@
-//! How much went through a host, and what its slots are.
+//! How much went through a host, what its slots are, and how much is under way again.
 
 ghost use Rattle.std.specs.Prelude.{◌≡◌};
-ghost use Rattle.enet_slot.specs.Counting.{Counts};
+ghost use Rattle.enet_sender.specs.Counting.{added};
+ghost use Rattle.enet_slot.specs.Counting.{Counts, count_sent_again};
 ghost use Rattle.enet_host.specs.Opening.{no_totals};
 ghost use Rattle.enet_host.specs.Receiving.{with_datagram_in};
 ghost use Rattle.enet_host.specs.Serving.{with_datagram_out};
 
 use crate::host::HostCore;
-use enet_slot::{SlotCounts, count_slots};
+use enet_slot::{SlotCounts, count_sent_again, count_slots};
 
 /// How many datagrams and bytes came to a host and went out. Each number stops at its greatest value.
 #[derive(Clone, Copy, PartialEq, Eq)]
@@ -71,5 +72,13 @@ impl HostCore {
         ensures { Counts self.now.config.generations self.now.slots result }
     {
         count_slots(&self.slots, self.start.config.generations)
+    }
+
+    /// How many commands of all peers are sent, not acknowledged, and were sent more than once; it stops at 2^64 - 1. All that is sent is
+    /// looked at.
+    pub fn sent_again(&self) -> u64
+        ensures { result ≡ added 0 (count_sent_again self.now.slots) }
+    {
+        count_sent_again(&self.slots)
     }
 }

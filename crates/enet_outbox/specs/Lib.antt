@@ -1,4 +1,5 @@
 pub mod Outbox
+pub mod Counting
 pub mod Emission
 pub mod Invariant
 pub mod Resting

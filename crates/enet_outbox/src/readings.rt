@@ -3,8 +3,10 @@
 ghost use Rattle.std.specs.Prelude.{◌≡◌, ℕ};
 ghost use Rattle.std.specs.List.{list_any};
 ghost use Rattle.enet_rtt.specs.Clock.{HappensIn};
+ghost use Rattle.enet_sender.specs.Counting.{added};
 ghost use Rattle.enet_sender.specs.Due.{SendingEnd};
 ghost use Rattle.enet_sender.specs.Sender.{is_late};
+ghost use Rattle.enet_outbox.specs.Counting.{count_in};
 ghost use Rattle.enet_outbox.specs.Outbox.{has_late, transit_of};
 
 use crate::Outbox;
@@ -22,6 +24,15 @@ impl Outbox {
         ensures { result ≡ self.now.outbox.throttle.value }
     {
         self.throttle.value()
+    }
+
+    /// So many, and the commands of all channels that are sent, not acknowledged, and were sent more than once; it stops at 2^64 - 1. It
+    /// looks at all that is sent.
+    pub fn count_sent_again(&self, so_far: u64) -> u64
+        ensures { result ≡ added so_far (count_in self.now.outbox) }
+    {
+        let control = self.control.count_sent_again(so_far);
+        self.senders.count_sent_again(control)
     }
 
     /// In how many milliseconds after the moment `now` a sent command of any channel has waited out its timeout first, of those

@@ -3,6 +3,7 @@ pub mod Peered
 pub mod Endings
 pub mod CommandEffect
 pub mod Calls
+pub mod Counting
 pub mod Acting
 pub mod Next
 pub mod Reachable

@@ -2,7 +2,9 @@
 
 ghost use Rattle.std.specs.Prelude.{◌≡◌, is_some, IsTrue};
 ghost use Rattle.enet_outbox.specs.Outbox.{transit_of};
+ghost use Rattle.enet_sender.specs.Counting.{added};
 ghost use Rattle.enet_peer.specs.Calls.{next_event};
+ghost use Rattle.enet_peer.specs.Counting.{count_by_peer};
 ghost use Rattle.enet_peer.specs.Waiting.{is_steady, Waits};
 
 use crate::{Peer, PeerState};
@@ -33,6 +35,14 @@ impl Peer {
         ensures { result ≡ transit_of self.now.peer.outbox }
     {
         self.outbox.in_transit()
+    }
+
+    /// So many, and its commands on all channels that are sent, not acknowledged, and were sent more than once; it stops at 2^64 - 1. It
+    /// looks at all that is sent.
+    pub fn count_sent_again(&self, so_far: u64) -> u64
+        ensures { result ≡ added so_far (count_by_peer self.now.peer) }
+    {
+        self.outbox.count_sent_again(so_far)
     }
 
     /// The throttle, 0 to 32: of 32 unreliable or unsequenced packets in a row one more than it says goes, and all from 31 on.

@@ -1,4 +1,5 @@
 pub mod Counting
+pub mod Tallies
 pub mod Courses
 pub mod NextLemmas
 pub mod Transit

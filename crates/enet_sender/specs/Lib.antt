@@ -3,6 +3,7 @@ pub mod Sender
 pub mod Due
 pub mod Invariant
 pub mod Course
+pub mod Counting
 pub mod Pending
 pub mod Foretold
 pub mod Rings

@@ -37,6 +37,7 @@ mod outgoing;
 mod pending;
 mod ring;
 mod sent;
+mod tally;
 mod timed;
 mod writing;
 

@@ -15,6 +15,7 @@ ghost use Rattle.enet_sender.specs.Waiting.{Waits};
 ghost use Rattle.enet_fragment.specs.Cutting.{piece_length, piece_count};
 ghost use Rattle.enet_sender.specs.CommandChoice.{fragment_limit};
 ghost use Rattle.enet_sender.specs.Private.Invariant.{IsShort};
+ghost use Rattle.enet_sender.specs.Counting.{added, count_sent_again};
 ghost use Rattle.enet_sender.specs.Course.{IsCourse};
 ghost use Rattle.std.specs.List.{range_with_len, list_any};
 ghost use Rattle.enet_sender.specs.Private.Queues.{Queues};
@@ -27,6 +28,7 @@ use crate::pending::Pending;
 use crate::ring::{
     any_ends, any_late, first, first_due, mark_all, next_late, place_of, take_all, vacate,
 };
+use crate::tally::count_sent_again;
 use crate::writing::{bytes_of, due_kind, is_more, put};
 use bytes::Bytes;
 use enet_codec::Refusal;
@@ -371,6 +373,14 @@ impl Outgoing {
         ensures { HappensIn (λ (later : ℕ). list_any (is_late later) (sender_in pending.now self.now).sent) now result }
     {
         next_late(&self.sent, pending, now)
+    }
+
+    /// So many, and those of the channel's commands that are sent, not acknowledged, and were sent more than once; it stops at 2^64 - 1. It
+    /// looks at all that is sent.
+    pub fn count_sent_again(&self, pending: &Pending, so_far: u64) -> u64
+        ensures { result ≡ added so_far (count_sent_again (sender_in pending.now self.now)) }
+    {
+        count_sent_again(&self.sent, pending, so_far)
     }
 
     /// Each sent command that has waited out its timeout at the moment `now` is due to go again, and waits twice as long

@@ -1,6 +1,6 @@
 //! The commands of a peer, each under a key.
 
-ghost use Rattle.std.specs.Prelude.{◌≡◌, ℕ, ◌+◌, ◌<◌, ◌≤◌, Some, None, [], true, false, IsOk, IfOk, IfSome, IfNone, IsTrue, option_copied};
+ghost use Rattle.std.specs.Prelude.{◌≡◌, ℕ, ◌+◌, ◌<◌, ◌≤◌, Some, None, [], true, false, if◌then◌else◌, IsOk, IfOk, IfSome, IfNone, IsTrue, option_copied};
 ghost use Rattle.std.specs.Option.{option_map};
 ghost use Rattle.enet_rtt.specs.Clock.{HappensIn};
 ghost use Rattle.slab.specs.Slab.{get, slab_len, Updates, HasRoomFor};
@@ -9,6 +9,7 @@ ghost use Rattle.enet_sender.specs.Private.Pending.{queued};
 ghost use Rattle.enet_sender.specs.Private.Rounds.{test_at};
 ghost use Rattle.enet_sender.specs.declared.sent.Sent.{Sent};
 ghost use Rattle.enet_sender.specs.Foretold.{IsLateIn, NonePasses, SomePasses};
+ghost use Rattle.enet_sender.specs.Counting.{is_sent_again};
 ghost use Rattle.enet_sender.specs.Sender.{again, begun, ends, is_late, marked};
 ghost use Rattle.enet_sender.specs.Rings.{is_due, IsEmpty};
 
@@ -87,6 +88,16 @@ impl Pending {
         match self.slab.get(key) {
             Some(sent) => sent.transmission.is_late(now),
             None => false,
+        }
+    }
+
+    /// 1 where the command under a key was sent more than once, and else 0.
+    pub(crate) fn sent_again(&self, key: u32) -> u64
+        ensures { result ≡ (if test_at is_sent_again (get self.now.slab key) then 1 else 0) }
+    {
+        match self.slab.get(key) {
+            Some(sent) => u64::from(sent.transmission.attempts > 1),
+            None => 0,
         }
     }
 

@@ -1,5 +1,6 @@
 pub mod Senders
 pub mod Controlling
+pub mod Counting
 pub mod Invariant
 pub mod Sets
 pub mod Private

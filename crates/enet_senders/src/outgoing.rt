@@ -3,11 +3,13 @@
 ghost use Rattle.std.specs.Prelude.{◌≡◌, ℕ, ◌+◌, ◌<◌, ◌≤◌, nat_lt, false, IsTrue, IfOk, IfErr, IfNone, OnOk, OnErr, length, slice_get};
 ghost use Rattle.std.specs.List.{list_any};
 ghost use Rattle.enet_rtt.specs.Clock.{HappensIn};
+ghost use Rattle.enet_sender.specs.Counting.{added};
+ghost use Rattle.enet_senders.specs.Counting.{count_control};
 ghost use Rattle.enet_senders.specs.Controlling.{after_acknowledgement, acknowledged_control, after_lateness, cleared, Did, is_idle, is_still, lateness, next, next_queued, next_resent, nothing_controlled, ends, is_late, with_marked, with_queued};
 
 use crate::queue::{
-    any_ends, any_late, is_in_span, lateness, make_room, mark, next_late, position_of,
-    position_of_due, put, send_again, send_head,
+    any_ends, any_late, count_sent_again, is_in_span, lateness, make_room, mark, next_late,
+    position_of, position_of_due, put, send_again, send_head,
 };
 use crate::{Control, Numbered, SentControl};
 use enet_codec::Refusal;
@@ -217,6 +219,13 @@ impl ControlChannel {
         ensures { HappensIn (λ (later : ℕ). list_any (is_late later) self.now.commands.sent) now result }
     {
         next_late(&self.sent, now)
+    }
+
+    /// So many, and the commands that are sent, not acknowledged, and were sent more than once; it stops at 2^64 - 1.
+    pub fn count_sent_again(&self, so_far: u64) -> u64
+        ensures { result ≡ added so_far (count_control self.now.commands) }
+    {
+        count_sent_again(&self.sent, so_far)
     }
 
     /// Each sent command that has waited out its timeout at the moment `now` is due to go again, and waits twice as long

@@ -1,7 +1,7 @@
 //! What is queued and what is sent.
 
 ghost use Rattle.std.specs.Prelude.{◌≡◌, ℕ, ◌+◌, ◌<◌, ◌≤◌, List, ◌∷◌, [], ◌++◌, IsTrue, IfSome, IfNone, false, if◌then◌else◌, length, drop, slice_get, slice_set, Some, map};
-ghost use Rattle.std.specs.List.{position, list_any};
+ghost use Rattle.std.specs.List.{position, count_by, list_any};
 ghost use Rattle.std.specs.VecDeque.{deque_len, deque_capacity};
 ghost use Rattle.enet_codec.specs.Message.{IsMessage, canonical};
 ghost use Rattle.enet_codec.specs.Writing.{Puts};
@@ -9,6 +9,8 @@ ghost use Rattle.enet_rtt.specs.Clock.{HappensIn};
 ghost use Rattle.enet_senders.specs.declared.control.Numbered.{Numbered};
 ghost use Rattle.enet_senders.specs.declared.control.SentControl.{SentControl};
 ghost use Rattle.enet_senders.specs.Controlling.{Commands, again, begun, ends, is_in_span, is_late, is_reliable, lateness, marked, message_of, position_of};
+ghost use Rattle.enet_sender.specs.Counting.{added};
+ghost use Rattle.enet_senders.specs.Counting.{is_sent_again};
 ghost use Rattle.enet_senders.specs.Invariant.{KeepsRoom, room_of};
 
 use crate::{Numbered, SentControl};
@@ -162,6 +164,25 @@ pub fn next_late(sent: &VecDeque<SentControl>, now: u32) -> u32
         wait = wait.min(command.transmission.next_late(now));
     }
     wait
+}
+
+/// 1 where a command was sent more than once, and else 0.
+fn sent_again(command: &SentControl) -> u64
+    ensures { result ≡ (if is_sent_again command.now then 1 else 0) }
+{
+    u64::from(command.transmission.attempts > 1)
+}
+
+/// So many, and the sent commands that were sent more than once; it stops at the greatest number.
+pub fn count_sent_again(sent: &VecDeque<SentControl>, so_far: u64) -> u64
+    ensures { result ≡ added so_far (count_by is_sent_again sent.now.items) }
+{
+    let mut total = so_far;
+    for place in 0..sent.len() {
+        let command = &sent[place];
+        total = total.saturating_add(sent_again(command));
+    }
+    total
 }
 
 /// Marks all that is late as due to go again.

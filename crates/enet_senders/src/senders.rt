@@ -12,6 +12,8 @@ ghost use Rattle.enet_sender.specs.Waiting.{Waits};
 ghost use Rattle.enet_sender.specs.declared.outgoing.Outgoing.{Outgoing};
 ghost use Rattle.enet_sender.specs.declared.sent.Sent.{Sent};
 ghost use Rattle.enet_sender.specs.Rings.{end_in, IsEmpty};
+ghost use Rattle.enet_sender.specs.Counting.{added};
+ghost use Rattle.enet_senders.specs.Counting.{count_over};
 ghost use Rattle.enet_senders.specs.Senders.{ends_in, IsStill, KeepsAllIn, marked_end, cleared_end};
 ghost use Rattle.enet_senders.specs.Sets.{Lacks};
 ghost use Rattle.enet_senders.specs.Private.Seeking.{Seek};
@@ -41,6 +43,8 @@ impl Model for Senders {
 
     ghost Value = { List SendingEnd };
 
+    ghost use Rattle.enet_sender.specs.Counting.{added};
+    ghost use Rattle.enet_senders.specs.Counting.{count_over};
     ghost use Rattle.enet_senders.specs.Senders.{ends_in};
     ghost use Rattle.enet_senders.specs.Sets.{AreSenders};
 
@@ -205,6 +209,18 @@ fn look_for_late(channels: &[Outgoing], pending: &Pending, flying: &ChannelSet, 
         place = flying.next(place + 1);
     }
     wait
+}
+
+/// So many, and those of all channels' commands that are sent, not acknowledged, and were sent more than once; it stops at the greatest
+/// number.
+fn count_each(channels: &[Outgoing], pending: &Pending, so_far: u64) -> u64
+    ensures { result ≡ added so_far (count_over (ends_in pending.now channels.now)) }
+{
+    let mut total = so_far;
+    for place in 0..channels.len() {
+        total = channels[place].count_sent_again(pending, total);
+    }
+    total
 }
 
 /// Whether no channel has a packet queued. Channels that aren't in the set have none.
@@ -428,6 +444,14 @@ impl Senders {
             Some(wait) => wait,
             None => look_for_late(&self.channels, &self.pending, &self.flying, now),
         }
+    }
+
+    /// So many, and those of all channels' commands that are sent, not acknowledged, and were sent more than once; it stops at 2^64 - 1. It
+    /// looks at all that is sent.
+    pub fn count_sent_again(&self, so_far: u64) -> u64
+        ensures { result ≡ added so_far (count_over self.now) }
+    {
+        count_each(&self.channels, &self.pending, so_far)
     }
 
     /// All that is late at the moment `now`, in milliseconds, is due to go again, and waits twice as long then, but no longer than

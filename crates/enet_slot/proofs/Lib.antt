@@ -3,3 +3,4 @@ pub mod Shown
 pub mod OverAll
 pub mod Waiting
 pub mod OneByOne
+pub mod Tallies

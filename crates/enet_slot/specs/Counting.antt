@@ -1,8 +1,9 @@
--- What a slot is, and how many slots of a host are so.
-use Rattle.std.specs.Prelude.{◌≡◌, ℕ, ◌+◌, Bool, true, false, nat_lt, Option, Some, None, List, length}
+-- What a slot is, how many slots of a host are so, and how much of what their peers sent went again.
+use Rattle.std.specs.Prelude.{◌≡◌, ℕ, ◌+◌, Bool, true, false, nat_lt, Option, Some, None, List, length, sum_by}
 use Rattle.std.specs.List.{count_by}
 use Rattle.enet_peer.specs.declared.parts.PeerState.{PeerState}
 use Rattle.enet_peer.specs.declared.parts.PeerState.TheVariants as state
+use Rattle.enet_peer.specs.Counting.{count_by_peer}
 use Rattle.enet_peer.specs.Peering.{Peering}
 use Rattle.enet_slot.specs.declared.counting.SlotCounts.{SlotCounts}
 use Rattle.enet_slot.specs.declared.counting.Standing.{Standing}
@@ -62,3 +63,14 @@ pub record Counts (generations : ℕ) (slots : List SlotState) (c : SlotCounts) 
   pub connected : c.connected ≡ how_many is_connected generations slots
   pub leaving : c.leaving ≡ how_many is_leaving generations slots
   pub all : c.free + c.spent + c.connecting + c.answering + c.connected + c.leaving ≡ length slots
+
+-- how many of the commands that its peer has sent, and that are not acknowledged, were sent more than once
+abbrev pub count_of : Option Peering → ℕ
+count_of None = 0
+count_of (Some p) = count_by_peer p
+
+abbrev pub count_at : SlotState → ℕ
+count_at s = count_of s.peer
+
+abbrev pub count_sent_again : List SlotState → ℕ
+count_sent_again slots = sum_by count_at slots

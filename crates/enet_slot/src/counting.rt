@@ -1,7 +1,8 @@
-//! How many slots of a host are free, and how far the connections of the others have come.
+//! How many slots of a host are free, how far the connections of the others have come, and how much of what these sent went again.
 
 ghost use Rattle.std.specs.Prelude.{◌≡◌, ◌<◌, ◌≤◌, length};
-ghost use Rattle.enet_slot.specs.Counting.{standing_in, standing_of, Counts};
+ghost use Rattle.enet_sender.specs.Counting.{added};
+ghost use Rattle.enet_slot.specs.Counting.{standing_in, standing_of, Counts, count_at, count_sent_again};
 ghost use Rattle.enet_slot.specs.Private.Counting.{with_one, none_counted, counted};
 ghost use Rattle.enet_slot.specs.Slotted.{all_shown};
 
@@ -119,6 +120,17 @@ impl Slot {
             None => Standing::Spent,
         }
     }
+
+    /// So many, and the commands of its peer that are sent, not acknowledged, and were sent more than once; it stops at 2^64 - 1. It looks at
+    /// all that is sent.
+    pub fn count_sent_again(&self, so_far: u64) -> u64
+        ensures { result ≡ added so_far (count_at self.now.slot) }
+    {
+        match &self.peer {
+            Some(peer) => peer.count_sent_again(so_far),
+            None => so_far,
+        }
+    }
 }
 
 /// How many of the slots are free, if each has so many generations, and how far the others have come. Each slot is looked at. A host has at
@@ -132,4 +144,16 @@ pub fn count_slots(slots: &[Slot], generations: u32) -> SlotCounts
         counts = counts.with(slot.standing(generations));
     }
     counts
+}
+
+/// How many commands of all slots' peers are sent, not acknowledged, and were sent more than once; it stops at 2^64 - 1. It looks at all that
+/// is sent.
+pub fn count_sent_again(slots: &[Slot]) -> u64
+    ensures { result ≡ added 0 (count_sent_again (all_shown slots.now)) }
+{
+    let mut total = 0;
+    for slot in slots {
+        total = slot.count_sent_again(total);
+    }
+    total
 }

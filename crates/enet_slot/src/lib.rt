@@ -27,6 +27,6 @@ mod slot;
 
 pub use all::{Seat, any_is_connection, joined_slots, set_bandwidth, share_out, unused_slots};
 pub use calls::Setting;
-pub use counting::{SlotCounts, Standing, count_slots};
+pub use counting::{SlotCounts, Standing, count_sent_again, count_slots};
 pub use giving::{Question, Start};
 pub use slot::Slot;
