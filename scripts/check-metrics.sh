@@ -1,11 +1,12 @@
 #!/usr/bin/env bash
 # Asks `enet_relay serve --metrics` for its figures while 32 clients of the reference library talk (clients/tally.c), and compares these with
 # what the clients counted; sends it datagrams that it must stop, and requests that it must refuse; has 20 ask nothing for six seconds, and
-# others get their answer meanwhile; forges CONNECTs (clients/forge.c), whose slots must be told as half-open ones, and free again; stops
-# clients, to whom what others say must stay in transit; and stops the thread of the service alone (clients/hold.c), of which /healthz must
-# tell. Each figure that the dashboard of deploy/grafana asks for must be told (dashboard.py). In one thread and in two: `check-metrics.sh
-# [PROGRAM]`. PROGRAM is the built `enet_relay`, by default the one that `rt ci`, or `rt run` in crates/enet_relay,
-# leaves. Prints what failed, and as last line 'N passed, M failed'; the status is 1 where one failed. It takes two minutes.
+# others get their answer meanwhile; forges CONNECTs (clients/forge.c), whose slots must be told as half-open ones, and free again, and the
+# answers to them as sent again; stops clients, to whom what others say must stay in transit; has some talk over a line that loses
+# (clients/proxy.c), on which some of what is under way must be told as sent again; and stops the thread of the service alone (clients/hold.c),
+# of which /healthz must tell. Each figure that the dashboard of deploy/grafana asks for must be told (dashboard.py). In one thread and in two:
+# `check-metrics.sh [PROGRAM]`. PROGRAM is the built `enet_relay`, by default the one that `rt ci`, or `rt run` in crates/enet_relay, leaves.
+# Prints what failed, and as last line 'N passed, M failed'; the status is 1 where one failed. It takes two and a half minutes.
 cd "$(dirname "$0")/.." || exit 1
 . scripts/clients.sh
 program=${1:-crates/enet_relay/out/enet_relay}
@@ -73,15 +74,48 @@ slots_become() {
     same "$1" "$told" "$2"
 }
 
+# How many commands under way were sent more than once.
+sent_again() {
+    figure enet_sent_again "$(ask 'GET /metrics')"
+}
+
 # CONNECTs that nobody confirms each take a slot, for seven and a half seconds. One second after the last look that counted slots they are
-# counted again.
+# counted again. The answer to each goes again after half a second.
 half_open() {
-    local sent
+    local sent told
     sent=$("$room/forge" "$port" 20 1)
     sent=${sent% sent}
     [ "${sent:-0}" -ge 10 ] || fail forge "only '$sent' went"
     slots_become half-open "$((64 - sent)) 0 0 $sent 0 0" 3
+    for _ in {1..15}; do
+        told=$(sent_again)
+        [ "$told" != "$sent" ] || break
+        sleep 0.2
+    done
+    same half-open-sent-again "$told" "$sent"
     slots_become half-open-no-more '64 0 0 0 0 0' 12
+    same half-open-sent-again-no-more "$(sent_again)" 0
+}
+
+# Of clients that talk over a line that loses a fifth, both ways (clients/proxy.c), some commands are sent again; of clients that have gone none.
+lossy() {
+    local server=$port told=0 line talking
+    free_port
+    "$room/proxy" "$port" "$server" 7 loss 20 2> "$room/proxy.err" &
+    line=$!
+    "$room/steady" "$port" 8 6 100 > "$room/lossy.out" 2>&1 &
+    talking=$!
+    port=$server
+    for _ in {1..40}; do
+        told=$(sent_again)
+        [ "${told:-0}" -eq 0 ] || break
+        sleep 0.2
+    done
+    [ "${told:-0}" -gt 0 ] && passed=$((passed + 1)) || fail sent-again 'none was'
+    wait "$talking" || fail lossy "$(<"$room/lossy.out")"
+    kill "$line"
+    slots_become lossy-no-more '64 0 0 0 0 0' 20
+    same sent-again-no-more "$(sent_again)" 0
 }
 
 # Two clients talk, and two others stop: what these are sent, 17 bytes each time, stays in transit until they go on.
@@ -225,6 +259,7 @@ else
         figures
         half_open
         in_transit
+        lossy
         dashboard
         requests
         silent

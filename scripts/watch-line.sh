@@ -1,6 +1,6 @@
 #!/usr/bin/env bash
 # Tries the dashboard of deploy/grafana by hand: `watch-line.sh [PROGRAM] [PICTURE]`. `enet_relay serve --metrics` is asked by Debian's Prometheus,
-# by deploy/prometheus/prometheus.yml, each second, while twelve clients of the reference library talk over a line that loses 10 % and is down
+# by deploy/prometheus/prometheus.yml, each second, while 32 clients of the reference library talk over a line that loses 10 % and is down
 # for four seconds (clients/proxy.c), others forge CONNECTs (clients/forge.c), and some send what no host reads. Then each panel is drawn
 # (measure/panels.py) into PICTURE, an SVG, by default out/panels.svg; where rsvg-convert is there it is made a PNG beside it, too. PROGRAM is
 # the built `enet_relay`, by default the one that `rt ci`, or `rt run` in crates/enet_relay, leaves. Installs Prometheus, as root, where it is
@@ -30,7 +30,7 @@ for _ in {1..100}; do
 done
 sleep 3
 begun=$(date +%s)
-"$room/steady" "$way" 12 25 200 &
+"$room/steady" "$way" 32 25 200 &
 talking=$!
 sleep 14
 "$room/forge" "$server" 10 4 &

@@ -29,7 +29,7 @@ impl Figures {
     /// Nothing was done. An error for want of memory.
     pub fn new<R: Clock>(rt: &R, alloc: Global) -> Result<Figures, AllocError> {
         Ok(Figures {
-            standing: zeros(alloc, 17)?,
+            standing: zeros(alloc, 18)?,
             stops: zeros(alloc, 13)?,
             refusals: zeros(alloc, 8)?,
             trips: zeros(alloc, BUCKETS)?,
@@ -93,7 +93,7 @@ impl Figures {
 
     /// What is told now. The start counts as a look.
     pub fn read<R: Clock>(&self, rt: &R) -> Reading {
-        let mut numbers = [0; 17];
+        let mut numbers = [0; 18];
         let mut stops = [0; 13];
         let mut refusals = [0; 8];
         let mut counts = [0; BUCKETS];
@@ -115,7 +115,7 @@ impl Figures {
 }
 
 // The numbers of a standing in a row.
-fn numbers_of(standing: &Standing) -> [u64; 17] {
+fn numbers_of(standing: &Standing) -> [u64; 18] {
     [
         standing.peers,
         standing.slots,
@@ -134,11 +134,12 @@ fn numbers_of(standing: &Standing) -> [u64; 17] {
         standing.orders,
         standing.events,
         standing.in_transit,
+        standing.sent_again,
     ]
 }
 
 // The standing of these numbers.
-fn standing_of(numbers: &[u64; 17]) -> Standing {
+fn standing_of(numbers: &[u64; 18]) -> Standing {
     Standing {
         peers: numbers[0],
         slots: numbers[1],
@@ -157,6 +158,7 @@ fn standing_of(numbers: &[u64; 17]) -> Standing {
         orders: numbers[14],
         events: numbers[15],
         in_transit: numbers[16],
+        sent_again: numbers[17],
     }
 }
 

@@ -39,6 +39,8 @@ pub struct Standing {
     pub events: u64,
     /// Bytes of reliable packets that were sent and aren't acknowledged.
     pub in_transit: u64,
+    /// Commands that aren't acknowledged and were sent more than once.
+    pub sent_again: u64,
 }
 
 /// All that is told of a service.
@@ -111,6 +113,13 @@ fn push_peers(text: &mut String, standing: &Standing) -> Result<(), AllocError>
         "gauge",
         "Bytes of reliable packets that were sent and are not acknowledged.",
         standing.in_transit,
+    )?;
+    push_figure(
+        text,
+        "enet_sent_again",
+        "gauge",
+        "Commands that are not acknowledged and were sent more than once.",
+        standing.sent_again,
     )?;
     push_figure(
         text,

@@ -36,6 +36,7 @@ pub struct Monitor {
     round_at: Option<Instant>,
     slots: SlotCounts,
     in_transit: u64,
+    sent_again: u64,
 }
 
 impl Monitor {
@@ -53,6 +54,7 @@ impl Monitor {
                 leaving: 0,
             },
             in_transit: 0,
+            sent_again: 0,
         }
     }
 
@@ -66,6 +68,7 @@ impl Monitor {
         }
         if self.is_time(rt) {
             self.slots = host.host().slot_counts();
+            self.sent_again = host.host().sent_again();
             self.take_round(host);
         }
         self.figures.look(rt, &self.standing(host, counted));
@@ -91,6 +94,7 @@ impl Monitor {
             orders: counted.orders,
             events: counted.events,
             in_transit: self.in_transit,
+            sent_again: self.sent_again,
         }
     }
 
