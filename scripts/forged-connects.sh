@@ -1,9 +1,9 @@
 #!/usr/bin/env bash
 # Measures, by hand, how a server fares under CONNECTs that nobody stands behind (clients/forge.c), while clients of the reference library
-# (clients/knock.c) try to get in: `forged-connects.sh [PROGRAM]`, PROGRAM as in check-clients.sh. Prints for each row the slots, the forged
-# CONNECTs a second, from where they come, the server's options, how many of 40 honest tries got in, ten at a time for four seconds each, and
-# the server's processor time meanwhile, in seconds of 16. The last rows are the relay over the reference library (clients/server.c). It takes
-# five minutes.
+# (clients/knock.c) try to get in: `forged-connects.sh [PROGRAM] [flood]`, PROGRAM as in check-clients.sh. Prints for each row the slots, the
+# forged CONNECTs a second, from where they come, the server's options, how many of 40 honest tries got in, ten at a time for four seconds
+# each, and the server's processor time meanwhile, in seconds of 16. The last rows are the relay over the reference library
+# (clients/server.c). It takes six minutes. With `flood` the rows are those of 500 a second at 4,095 slots alone, twice by turns: three minutes.
 cd "$(dirname "$0")/.." || exit 1
 . scripts/clients.sh
 program=${1:-crates/enet_relay/out/enet_relay}
@@ -44,17 +44,28 @@ row() {
     relay=
 }
 
+# 500 a second at 4,095 slots, without a limit and with one, and the reference library's relay.
+flood() {
+    row ours 4095 500 anywhere
+    row reference 4095 500 anywhere
+    row ours 4095 500 anywhere --connects-per-second 10
+}
+
 room=$(mktemp -d) || exit 1
 relay=
 trap 'kill $relay $(jobs -p) 2> /dev/null; wait; rm -rf "$room"' EXIT
 build_clients "$room" || exit 1
+if [ "${2:-}" = flood ]; then
+    flood
+    flood
+    exit
+fi
 row ours 32 20 anywhere
 row ours 128 20 anywhere
 row ours 256 20 anywhere
 row ours 32 20 anywhere --connects-per-second 10
 row ours 32 500 127.0.9.9
 row ours 32 500 127.0.9.9 --per-address 4
-row ours 4095 500 anywhere
 row reference 32 20 anywhere
 row reference 256 20 anywhere
-row reference 4095 500 anywhere
+flood
