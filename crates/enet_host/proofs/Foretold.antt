@@ -25,7 +25,7 @@ use Rattle.enet_host.specs.Opening.{available}
 use Rattle.enet_host.specs.Foretelling.{next_name, submission_refusal, refusal_of, teller_of, packet_of, Foretells, IsTeller}
 use Rattle.enet_host.specs.Private.Shown.{SlotIsNamed, SlotShows}
 use Rattle.enet_sleepers.proofs.Keeping.{some-same}
-use Rattle.enet_host.proofs.Holding.{turns-apart}
+use Rattle.enet_host.proofs.Turning.{turns-apart}
 
 -- there is one first slot in turn
 same-first : (holds : SlotState → Bool) (slots : List SlotState) (from i j : ℕ) (a : IsFirst holds slots from i) (b : IsFirst holds slots from j) → i ≡ j

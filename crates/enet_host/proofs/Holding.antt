@@ -30,6 +30,7 @@ use Rattle.enet_slot.proofs.Shown.{length-shown}
 use Rattle.enet_slot.specs.Giving.{limits_of, unused_slot, joined_terms, joined_slots, given, offer_from, server_from, Basis, asking, answering}
 use Rattle.enet_slot.specs.declared.giving.Question.{Question}
 use Rattle.enet_slot.specs.Slot.{greatest, SlotState, with_peer, with_peer_in, with_changed, changed}
+use Rattle.enet_host.specs.Held.{AreLimited}
 use Rattle.enet_host.specs.Host.{Host, HoldsNoFree, with_generation}
 use Rattle.enet_host.specs.Opening.{joined, Connects, no_channel, no_slot, no_memory, asks}
 use Rattle.enet_host.specs.Receiving as receiving
@@ -41,6 +42,8 @@ use Rattle.enet_slot.specs.Sharing.{is_standing, limit_for, with_limit, shared}
 use Rattle.enet_host.specs.Ticking.{clock_after, with_time, is_due, ticked}
 use Rattle.enet_slot.specs.Calls.{kept, on_peer_in, Submits, Does, DoesWithMemory, GivesEvent}
 use Rattle.enet_host.specs.Calls.{put_back, on_slot, on_named}
+use Rattle.enet_host.proofs.Limits.{joined-limited, unused-limited}
+use Rattle.enet_host.proofs.Turning.{turns-apart}
 
 -- a slot doesn't hold a free peer
 abbrev pub IsHeld : SlotState → Type 0
@@ -203,10 +206,6 @@ passes-held : (now : ℕ) (s t : SlotState) (o : Option Peering) → IsHeld s �
 passes-held now s t None old e = subst IsHeld (sym e) old
 passes-held now s t (Some p) old n = subst IsHeld (sym n.left) (peer-held s n.after)
 
--- two slots have the same place in turn only if they are the same
-pub turns-apart : (n from i j : ℕ) → i < n → j < n → turn_of n from i ≡ turn_of n from j → i ≡ j
-turns-apart n from i j a b e = grind (arith, nat_tests)
-
 turned-held : (now from count : ℕ) (gave : Served) (i : ℕ) (s t : SlotState) → i < count → gave.name.slot < count → IsHeld s → InTurn (record { now = now; turn = turn_of count from; gave = gave }) i s t → IsHeld t
 turned-held now from count gave i s t within given old x = by (nat_lt (turn i) (turn gave.name.slot)) (nat_lt (turn gave.name.slot) (turn i)) refl refl
   where
@@ -271,23 +270,23 @@ shared-if-held due outgoing slots new e old =
     subst HoldsNoFree (sym e) (held-if due (map (shared outgoing (count_by is_standing slots)) slots) slots (shared-held outgoing (count_by is_standing slots) slots old) old)
 
 -- what a host keeps once its slots and turns have changed
-pub keeps-after : (peers was now generations from event first last : ℕ) (v w : Noted) (xs ys : List Slot) → KeepsHost (record { peers = peers; clock = was; generations = generations; service_from = from; event_from = event }) v xs → length ys ≡ length xs
-    → first < peers → last < peers → IsKept now w (all_shown ys) → KeepsHost (record { peers = peers; clock = now; generations = generations; service_from = first; event_from = last }) w ys
-keeps-after peers was now generations from event first last v w xs ys k e a b after =
-    record { count = e ∙ k.count; many = k.many; service = a; event = b; few = k.few; held = after.0; sleeping = after.1 }
+pub keeps-after : (peers was now generations packet waiting from event first last : ℕ) (v w : Noted) (xs ys : List Slot) → KeepsHost (record { peers = peers; clock = was; generations = generations; max_packet = packet; max_waiting = waiting; service_from = from; event_from = event }) v xs → length ys ≡ length xs
+    → first < peers → last < peers → IsKept now w (all_shown ys) → AreLimited packet waiting (all_shown ys) → KeepsHost (record { peers = peers; clock = now; generations = generations; max_packet = packet; max_waiting = waiting; service_from = first; event_from = last }) w ys
+keeps-after peers was now generations packet waiting from event first last v w xs ys k e a b after limited =
+    record { count = e ∙ k.count; many = k.many; service = a; event = b; few = k.few; held = after.0; sleeping = after.1; limited = limited }
 
 -- and once a slot was woken
-pub woken-kept : (peers now generations from event : ℕ) (v w : Noted) (xs : List Slot) → KeepsHost (record { peers = peers; clock = now; generations = generations; service_from = from; event_from = event }) v xs
+pub woken-kept : (peers now generations packet waiting from event : ℕ) (v w : Noted) (xs : List Slot) → KeepsHost (record { peers = peers; clock = now; generations = generations; max_packet = packet; max_waiting = waiting; service_from = from; event_from = event }) v xs
     → ((n : ℕ) (slots : List SlotState) → KeepsSleepers n v slots → KeepsSleepers n w slots) → IsKept now w (all_shown xs)
-woken-kept peers now generations from event v w xs k woken = (k.held, woken now (all_shown xs) k.sleeping)
+woken-kept peers now generations packet waiting from event v w xs k woken = (k.held, woken now (all_shown xs) k.sleeping)
 
 -- what it keeps at first
 in-range : (c : Config) → is_in_range c ≡ true → (0 < c.peers) × (c.peers ≤ 4095) × (c.generations ≤ greatest)
 in-range c h = (grind (arith, nat_tests), grind (arith, nat_tests), grind (arith, nat_tests))
 
 keeps-fresh : (c : Config) (r : Bool) (v : Noted) (xs : List Slot) (slots : List SlotState) → r ≡ is_in_range c → r ≡ true → ((slots : List SlotState) → length slots ≡ c.peers → KeepsSleepers c.clock v slots) → all_shown xs ≡ slots
-    → length slots ≡ c.peers → HoldsNoFree slots → KeepsHost (record { peers = c.peers; clock = c.clock; generations = c.generations; service_from = 0; event_from = 0 }) v xs
-keeps-fresh c r v xs slots is go fresh e count held =
+    → length slots ≡ c.peers → HoldsNoFree slots → AreLimited c.max_packet c.max_waiting slots → KeepsHost (record { peers = c.peers; clock = c.clock; generations = c.generations; max_packet = c.max_packet; max_waiting = c.max_waiting; service_from = 0; event_from = 0 }) v xs
+keeps-fresh c r v xs slots is go fresh e count held limited =
     let h : (0 < c.peers) × (c.peers ≤ 4095) × (c.generations ≤ greatest) = in-range c (sym is ∙ go) in
     record {
       count = sym (length-shown xs) ∙ ap length e ∙ count;
@@ -297,15 +296,18 @@ keeps-fresh c r v xs slots is go fresh e count held =
       few = h.2;
       held = subst HoldsNoFree (sym e) held;
       sleeping = fresh (all_shown xs) (ap length e ∙ count);
+      limited = subst (AreLimited c.max_packet c.max_waiting) (sym e) limited;
     }
 
 pub keeps-opened : (c : Config) (r : Bool) (v : Noted) (xs : List Slot) → r ≡ is_in_range c → r ≡ true → ((slots : List SlotState) → length slots ≡ c.peers → KeepsSleepers c.clock v slots) → all_shown xs ≡ replicate c.peers unused_slot
-    → KeepsHost (record { peers = c.peers; clock = c.clock; generations = c.generations; service_from = 0; event_from = 0 }) v xs
+    → KeepsHost (record { peers = c.peers; clock = c.clock; generations = c.generations; max_packet = c.max_packet; max_waiting = c.max_waiting; service_from = 0; event_from = 0 }) v xs
 keeps-opened c r v xs is go fresh e = keeps-fresh c r v xs (replicate c.peers unused_slot) is go fresh e (length-replicate c.peers unused_slot) (unused-held c.peers)
+    (unused-limited c.max_packet c.max_waiting c.peers)
 
 pub keeps-joined : (c : Config) (address : Addr) (r : Bool) (v : Noted) (xs : List Slot) → r ≡ is_in_range c → r ≡ true → ((slots : List SlotState) → length slots ≡ c.peers → KeepsSleepers c.clock v slots)
-    → all_shown xs ≡ joined_slots c address → KeepsHost (record { peers = c.peers; clock = c.clock; generations = c.generations; service_from = 0; event_from = 0 }) v xs
+    → all_shown xs ≡ joined_slots c address → KeepsHost (record { peers = c.peers; clock = c.clock; generations = c.generations; max_packet = c.max_packet; max_waiting = c.max_waiting; service_from = 0; event_from = 0 }) v xs
 keeps-joined c address r v xs is go fresh e =
     keeps-fresh c r v xs (joined_slots c address) is go fresh e
     (length-set (replicate c.peers unused_slot) 0 (given unused_slot address (peers.joined c.clock (joined_terms c) (limits_of c))) ∙ length-replicate c.peers unused_slot)
     (joined-held c address)
+    (joined-limited c address)

@@ -10,3 +10,5 @@ pub mod Telling
 pub mod Holding
 pub mod Foretold
 pub mod Bringing
+pub mod Limits
+pub mod Adding

@@ -56,3 +56,7 @@ late-by n from i turn (inr h) f inside past e = absurd (omega (arith, h.0, f, in
 -- and one after it
 pub late-turn : (n from i turn : ℕ) → from < n → turn < n → n - from ≤ turn → i ≡ turn - (n - from) → turn_of n from i ≡ turn
 late-turn n from i turn f inside past e = late-by n from i turn (turn-split n from i) f inside past e
+
+-- two slots have the same place in turn only if they are the same
+pub turns-apart : (n from i j : ℕ) → i < n → j < n → turn_of n from i ≡ turn_of n from j → i ≡ j
+turns-apart n from i j a b e = grind (arith, nat_tests)

@@ -1,4 +1,5 @@
 pub mod Host
+pub mod Held
 pub mod Turns
 pub mod Opening
 pub mod Receiving

@@ -74,7 +74,7 @@ impl Model for HostCore {
       slots = all_shown h.slots.items;
     } };
 
-    ghost invariant = { λ h. KeepsHost (record { peers = h.start.config.peers; clock = h.start.clock; generations = h.start.config.generations; service_from = h.service_from; event_from = h.event_from }) h.sleepers h.slots.items };
+    ghost invariant = { λ h. KeepsHost (record { peers = h.start.config.peers; clock = h.start.clock; generations = h.start.config.generations; max_packet = h.start.config.max_packet; max_waiting = h.start.config.max_waiting; service_from = h.service_from; event_from = h.event_from }) h.sleepers h.slots.items };
 }
 
 impl HostCore {
@@ -114,7 +114,7 @@ impl HostCore {
 
     /// A host with these settings and slots, to which nothing has happened.
     fn with_slots(alloc: Global, config: Config, slots: Vec<Slot>, sleepers: Sleepers) -> HostCore
-        requires { KeepsHost (record { peers = config.peers; clock = config.clock; generations = config.generations; service_from = 0; event_from = 0 }) sleepers slots.items }
+        requires { KeepsHost (record { peers = config.peers; clock = config.clock; generations = config.generations; max_packet = config.max_packet; max_waiting = config.max_waiting; service_from = 0; event_from = 0 }) sleepers slots.items }
         ensures { result ≡ record (opened config) { slots = all_shown slots.items } }
     {
         HostCore {

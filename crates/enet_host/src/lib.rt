@@ -43,6 +43,7 @@ mod calls;
 mod connecting;
 mod events;
 mod foretelling;
+mod held;
 mod host;
 mod peers;
 mod receiving;
@@ -55,7 +56,7 @@ pub use enet_codec::{
     Addr, Config, DisconnectMode, Event, Outward, Packet, PeerRef, Received, Refusal, Stop,
 };
 pub use enet_connect::Terms;
-pub use enet_peer::{PeerState, RoundTrip};
+pub use enet_peer::{Held, PeerState, RoundTrip};
 pub use enet_slot::SlotCounts;
 pub use host::HostCore;
 pub use totals::Totals;
