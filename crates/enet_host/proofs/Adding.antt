@@ -1,18 +1,18 @@
 -- What is held, slot by slot.
-use Rattle.std.proofs.Common.{◌≡◌, ℕ, suc, ◌<◌, ◌≤◌, ◌+◌, ◌*◌, Option, Some, None, List, [], ◌∷◌, ◌++◌, length, take, get_or, arith, refl, sym, ap, subst, ◌∙◌, zero-add}
+use Rattle.std.proofs.Common.{◌≡◌, ℕ, suc, ◌<◌, ◌≤◌, ◌+◌, ◌*◌, Option, Some, None, List, [], ◌∷◌, ◌++◌, length, take, get_or, arith, sym, ap, subst, ◌∙◌, zero-add}
 use Rattle.std.specs.Prelude.{sum_by}
 use Rattle.std.proofs.Math.Nat.{mul-le-mul_right, suc-mul}
-use Rattle.std.proofs.lemmas.List.{take_all, take_more, map-append}
+use Rattle.std.proofs.lemmas.List.{take_more, map-append}
 use Rattle.std.proofs.lemmas.List.Sums.{sum_by-append}
 use Rattle.enet_inbox.specs.Bounds.{most_places, most_bytes}
 use Rattle.enet_peer.specs.declared.held.Held.{Held}
-use Rattle.enet_peer.specs.Held.{most_of, HasLimits, IsLittle, IsWithin}
+use Rattle.enet_peer.specs.Held.{most_of, IsLittle, IsWithin}
 use Rattle.enet_peer.specs.Peering.{Peering}
 use Rattle.enet_slot.specs.declared.slot.Slot.{Slot}
 use Rattle.enet_slot.specs.Slot.{SlotState}
 use Rattle.enet_slot.specs.Slotted.{shown, all_shown}
 use Rattle.enet_slot.specs.Holding.{held_in, most_in, nothing_held}
-use Rattle.enet_slot.proofs.Shown.{get-shown, length-shown}
+use Rattle.enet_slot.proofs.Shown.{get-shown}
 use Rattle.enet_host.specs.Held.{AreLimited, IsLimitedIn, held_by, times}
 use Rattle.enet_host.specs.Private.Held.{IsLittleBy, together}
 

@@ -1,5 +1,5 @@
 -- Whatever a call does, each peer of a host keeps the limits of the host's settings.
-use Rattle.std.proofs.Common.{◌≡◌, ◌≢◌, ℕ, zero, suc, ◌<◌, ◌==◌, Bool, true, false, cond, nat_lt, if◌then◌else◌, Option, Some, None, Result, Ok, Err, List, [], ◌∷◌, length, map, replicate, slice_set, get_or, arith, refl, sym, ap, subst}
+use Rattle.std.proofs.Common.{◌≡◌, ℕ, zero, suc, ◌<◌, ◌==◌, Bool, true, false, cond, nat_lt, if◌then◌else◌, Option, Some, None, Result, Ok, Err, List, [], ◌∷◌, length, map, replicate, slice_set, get_or, arith, refl, sym, subst}
 use Rattle.std.proofs.lemmas.Bool.Decides.{nat_tests}
 use Rattle.std.proofs.lemmas.Option.{slice_get_within, slice_get-get_or}
 use Rattle.std.specs.List.{slice_get, count_by}
@@ -22,9 +22,8 @@ use Rattle.enet_peer.specs.Calls as calls
 use Rattle.enet_peer.specs.Held.{HasLimits}
 use Rattle.enet_peer.proofs.Limited.{handled-limited, left-limited, put-out-limited, taken-limited, ticked-limited}
 use Rattle.enet_slot.specs.Slot.{SlotState, with_peer, with_peer_in, with_changed, changed}
-use Rattle.enet_slot.specs.Giving.{limits_of, unused_slot, joined_terms, given, offer_from, server_from, Basis, asking, answering}
+use Rattle.enet_slot.specs.Giving.{limits_of, unused_slot, joined_terms, given, Basis, asking, answering}
 use Rattle.enet_slot.specs.declared.giving.Question.{Question}
-use Rattle.enet_slot.specs.declared.calls.Setting.{Setting}
 use Rattle.enet_slot.specs.Serving.{Gives, passes_by}
 use Rattle.enet_slot.specs.Sharing.{is_standing, limit_for, with_limit, shared}
 use Rattle.enet_slot.specs.Calls.{kept, on_peer_in, Submits, Does, DoesWithMemory, GivesEvent, submission, submitted_unless, leaving, left_by, or_not_connected, throttling, pinging, waiting}

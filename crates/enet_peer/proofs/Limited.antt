@@ -1,15 +1,13 @@
 -- Whatever happens to a peer, its inbox keeps the limits with which it began.
-use Rattle.std.proofs.Common.{◌≡◌, ℕ, ◌&&◌, Bool, true, false, cond, not, List, [], ◌∷◌, length, refl, sym, ap, subst, Option, Some, None, Result, Ok, Err, slice_get}
+use Rattle.std.proofs.Common.{◌≡◌, ℕ, ◌&&◌, Bool, true, false, cond, not, List, [], ◌∷◌, length, sym, subst, Option, Some, None, Result, Ok, Err, slice_get}
 use Rattle.std.specs.Prelude.{is_some, nat_lt, nat_le}
-use Rattle.enet_codec.specs.declared.command.Offer.{Offer}
 use Rattle.enet_codec.specs.declared.command.Head.{Head}
 use Rattle.enet_codec.specs.declared.command.Verify.{Verify}
 use Rattle.enet_codec.specs.declared.event.Received.{Received}
 use Rattle.enet_codec.specs.declared.packet.Packet as codec
-use Rattle.enet_codec.specs.declared.refusal.Refusal.{Refusal}
 use Rattle.enet_codec.specs.declared.stop.Stop.{Stop}
 use Rattle.enet_codec.specs.declared.stop.Stop.TheVariants as stop
-use Rattle.enet_codec.specs.Message.{Message, Body, acknowledge, connect, verify_connect, disconnect, ping, send_reliable, send_unreliable, send_fragment, send_unsequenced, bandwidth_limit, throttle_configure, send_unreliable_fragment}
+use Rattle.enet_codec.specs.Message.{Message, Body, acknowledge, connect, verify_connect, disconnect, ping, send_unsequenced, bandwidth_limit, throttle_configure}
 use Rattle.enet_rtt.specs.declared.expiry.Expiry.{Expiry}
 use Rattle.enet_rtt.specs.declared.expiry.Expiry.TheVariants.{No, Resend, End}
 use Rattle.enet_unsequenced.specs.Groups.{dispatches}
@@ -27,17 +25,15 @@ use Rattle.enet_inbox.specs.DataEffect.{DataEffect, handled, stopped as refused,
 use Rattle.enet_outbox.specs.declared.parts.Matched.{Matched}
 use Rattle.enet_outbox.specs.declared.parts.Matched.TheVariants as matched
 use Rattle.enet_outbox.specs.Outbox.{is_done, matched_by, lateness, with_control}
-use Rattle.enet_outbox.specs.Outbox as outbox
 use Rattle.enet_outbox.specs.Emission.{filled}
 use Rattle.enet_peer.specs.declared.parts.PeerState.{PeerState}
 use Rattle.enet_peer.specs.declared.parts.PeerState.TheVariants as state
-use Rattle.enet_peer.specs.declared.parts.PeerEvent.{PeerEvent}
 use Rattle.enet_peer.specs.declared.parts.PeerEvent.TheVariants as event
 use Rattle.enet_peer.specs.Peering.{Peering}
-use Rattle.enet_peer.specs.Endings.{ended, freed, disconnecting, parting, settled, is_later, cut_off_in}
+use Rattle.enet_peer.specs.Endings.{freed, disconnecting, parting, settled, is_later, cut_off_in}
 use Rattle.enet_peer.specs.CommandEffect.{Outcome, answered, answered_at, is_answered_in, is_allowed, is_connect, obeyed, by_body, by_answer, by_arrival, on_data, stopped, unless_crowded_out, wants_memory, acknowledged, with_answer, on_match, is_connecting, on_acknowledge, welcomed, on_verify_in, on_last_disconnect, on_disconnect_in}
 use Rattle.enet_peer.specs.Handling.{Arrival, SoFar, Handles, nothing_left, no_command, stops, goes_on}
-use Rattle.enet_peer.specs.Calls.{Leave, AtOnce, TellsOnce, Asks, AsksLater, Refused, left, PutsOut, after_timeouts, growth_bound, after_timeouts_by, is_pinged, ticked, is_connected, pace_of, gone_on_in, Taken, next_event, event_after, packet_event, last_event}
+use Rattle.enet_peer.specs.Calls.{Leave, AtOnce, TellsOnce, Asks, AsksLater, Refused, left, PutsOut, after_timeouts, after_timeouts_by, is_pinged, ticked, pace_of, gone_on_in, Taken, next_event, event_after, packet_event, last_event}
 use Rattle.enet_peer.specs.Held.{HasLimits}
 use Rattle.enet_peer.proofs.Obeying.{obeys-holds, unless-holds}
 

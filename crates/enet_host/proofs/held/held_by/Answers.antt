@@ -1,9 +1,8 @@
-use Rattle.std.proofs.Common.{◌≡◌, ℕ, length, take, List, ap, subst, arith, refl, ◌∙◌}
+use Rattle.std.proofs.Common.{length, List, ap, arith, refl, ◌∙◌}
 use Rattle.std.proofs.lemmas.List.{take_all}
-use Rattle.enet_peer.specs.Held.{most_of, IsWithin}
 use Rattle.enet_slot.specs.declared.slot.Slot.{Slot}
 use Rattle.enet_slot.specs.Slotted.{all_shown}
-use Rattle.enet_host.specs.Held.{AreLimited, held_by, times}
+use Rattle.enet_host.specs.Held.{held_by}
 use Rattle.enet_host.proofs.Adding.{held-more, little-more, within-done, within-more, nothing-within, nothing-little}
 use Rattle.enet_host.proofs.held.held_by.Goals as goal
 
