@@ -1,6 +1,6 @@
 -- What the two threads of a run did. Events are left only where the relay found its queue full: then it submitted as many orders as the queue
 -- has places.
-use Rattle.std.proofs.Common.{◌≡◌, ℕ, suc, ◌+◌, ◌<◌, ◌≤◌, ◌⊎◌, inl, inr, List, [], ◌∷◌, ◌++◌, length, Result, Ok, IfOk, refl, sym, ◌∙◌, ap, subst, arith}
+use Rattle.std.proofs.Common.{◌≡◌, ℕ, suc, ◌+◌, ◌<◌, ◌≤◌, ◌⊎◌, inl, inr, List, [], ◌∷◌, ◌++◌, length, Option, Some, Result, Ok, IfOk, refl, sym, ◌∙◌, ap, subst, arith}
 use Rattle.std.proofs.lemmas.List.{length-append, length-map}
 use Rattle.std.proofs.lemmas.Result.{IfOk-at_ok}
 use Rattle.enet_codec.specs.declared.refusal.Refusal.{Refusal}
@@ -26,7 +26,7 @@ use Rattle.enet_service.specs.declared.report.Report.{Report}
 use Rattle.enet_service.specs.declared.run_length.RunLength.{RunLength}
 use Rattle.enet_service.specs.LoneTurn.{beside}
 use Rattle.enet_service.specs.Queues.{given, accepted}
-use Rattle.enet_service.specs.Run.{all_gave, all_puts}
+use Rattle.enet_service.specs.Run.{all_gave, all_told, all_puts}
 use Rattle.enet_host.specs.Host.{Host}
 use Rattle.enet_service.specs.declared.service.Service.{Service}
 use Rattle.enet_service.specs.ServiceRuns.{HasTurned, Standing, TakesTurns}
@@ -35,7 +35,9 @@ use Rattle.enet_chat.specs.declared.relaying.RelayParts.{RelayParts}
 use Rattle.enet_chat.specs.Relaying.{AreBehind, AreFarBehind, IsThrough, Relays, SameForEach, events, noted_all, relayed_all, peers_of, backlog_of, sender_of, receiver_of}
 use Rattle.enet_serve.specs.declared.threads.Carryover.{Carryover}
 use Rattle.enet_serve.specs.declared.server.ChatServer.{ChatServer}
-use Rattle.enet_serve.specs.Serving.{Serves}
+use Rattle.enet_bridge.specs.Wires.{unless_spent}
+use Rattle.enet_serve.proofs.TurnByTurn.{told_in}
+use Rattle.enet_serve.specs.Serving.{Serves, told_of, faults_of}
 use Rattle.enet_serve.specs.Private.Threads.{IsBegun, IsLeft}
 
 numbered_length : (seat number : ℕ) (os : List Order) → length (numbered seat number os) ≡ length os
@@ -100,10 +102,10 @@ pub record IsFirst (capacity : ℕ) (from : Standing) (sender : OrderSender) (re
 
 -- the turns, the relay beside them and the settling are a run of the server
 pub serves_beside : (old new : ChatServer) (run_length : RunLength) (report : Report) (from to : Standing) (sender : OrderSender) (receiver : EventReceiver) (begun ended : Relay) (relayed : Result (Unit {0}) Refusal) (done : Unit {0}) (parts : RelayParts)
-    → HasTurned run_length from to report → from.service ≡ old.bound.service → to.service ≡ new.bound.service → Relays begun ended → relayed ≡ Ok done → IfOk relayed (λ _. IsThrough ended)
+    → HasTurned run_length from to report → from.service ≡ old.bound.service → to.service ≡ new.bound.service → from.told ≡ Some (told_of old) → to.told ≡ Some (told_of new) → from.faults ≡ faults_of old → Relays begun ended → relayed ≡ Ok done → IfOk relayed (λ _. IsThrough ended)
     → IsFirst old.queue_capacity from sender receiver → IsBegun old.kept sender receiver begun → Leaves ended parts → IsLeft parts to.drain to.poster new.kept
     → new.queue_capacity ≡ old.queue_capacity → Serves beside (old.queue_capacity + 1) old run_length new report
-serves_beside old new run_length report from to sender receiver begun ended relayed done parts t service service_after r is_done on_done first b leaves left capacity =
+serves_beside old new run_length report from to sender receiver begun ended relayed done parts t service service_after told told_after faults r is_done on_done first b leaves left capacity =
     let through : IsThrough ended = IfOk-at_ok (λ (x : Unit {0}). IsThrough ended) is_done on_done in
     let rounds = t.rounds in
     let gave : taken to.drain ≡ given (all_gave rounds) =
@@ -122,6 +124,7 @@ serves_beside old new run_length report from to sender receiver begun ended rela
       lasts = t.lasts;
       turns = subst (λ (s : Service Host). TakesTurns s rounds new.bound.service) service (subst (λ (s : Service Host). TakesTurns from.service rounds s) service_after t.spell.turns);
       sound = t.spell.sound;
+      told = told_in (told_of old) (told_of new) from.faults (all_told rounds) from.told to.told told told_after t.spell.told ∙ ap (λ (f : ℕ). told_of old ++ unless_spent f (all_told rounds)) faults;
       queue_capacity = capacity;
       totals = t.spell.totals;
       events = ap (λ (es : List Event). es ++ accepted (all_puts rounds)) (sym b.backlog) ∙ (ap (λ (es : List Event). backlog_of begun ++ es) (sym took)

@@ -1,5 +1,6 @@
 -- A run whose relay shares its service's thread: turn by turn.
-use Rattle.std.proofs.Common.{◌≡◌, ℕ, ◌+◌, ◌≤◌, ◌⊎◌, inl, inr, length, arith, List, [], ◌∷◌, ◌++◌, Bool, Option, refl, sym, ◌∙◌, ap, subst}
+use Rattle.std.proofs.Common.{◌≡◌, ℕ, ◌+◌, ◌≤◌, ◌⊎◌, inl, inr, length, arith, List, [], ◌∷◌, ◌++◌, Bool, true, false, cond, Option, Some, refl, sym, ◌∙◌, ap, subst, append_assoc}
+use Rattle.std.specs.Prelude.{unwrap_or}
 use Rattle.std.specs.List.{All, sum_by}
 use Rattle.std.proofs.lemmas.List.{append-nil, length-append}
 use Rattle.std.proofs.lemmas.List.Elements.{All-nil, All-append, All-push}
@@ -10,6 +11,8 @@ use Rattle.enet_submit.specs.declared.order.Order.{Order}
 use Rattle.enet_submit.specs.declared.order.Submission.{Submission}
 use Rattle.enet_bridge.specs.Ends.{orders}
 use Rattle.enet_bridge.specs.declared.told.Told.{Told}
+use Rattle.enet_bridge.specs.declared.told.Told.TheVariants.{Waited}
+use Rattle.enet_bridge.specs.Wires.{also, unless_spent, is_spent}
 use Rattle.enet_chat.specs.Lone.{Expands}
 use Rattle.enet_chat.specs.declared.lone.LoneRelay.{LoneRelay}
 use Rattle.enet_chat.specs.Relaying.{noted_all, relayed_all, SameForEach, AreBehind, AreFarBehind}
@@ -18,27 +21,46 @@ use Rattle.enet_service.specs.Hosting.{host_calls}
 use Rattle.enet_service.specs.LoneTurn.{LoneTurn, lone}
 use Rattle.enet_service.specs.Queues.{given, accepted}
 use Rattle.enet_service.specs.Turn.{Round}
-use Rattle.enet_service.specs.Run.{IsSound, all_gave, all_puts, total}
+use Rattle.enet_service.specs.Run.{IsSound, all_gave, all_told, all_puts, total}
 use Rattle.enet_service.specs.ServiceRuns.{Lasts}
 use Rattle.enet_service.proofs.PhaseSteps.{chain_more}
 use Rattle.enet_service.proofs.Reporting.{same_report}
 use Rattle.enet_service.specs.declared.report.Report.{Report}
 use Rattle.enet_service.specs.declared.run_length.RunLength.{RunLength}
 use Rattle.enet_serve.specs.declared.server.ChatServer.{ChatServer}
-use Rattle.enet_serve.specs.Serving.{Serves}
+use Rattle.enet_serve.specs.Serving.{Serves, told_of, faults_of}
 use Rattle.enet_serve.specs.Private.Alone.{Pair, Goes, IsOf, pair}
 use Rattle.enet_serve.specs.Private.Passing.{Passes}
 use Rattle.enet_serve.proofs.Passing.{passes_expanded, passes_on}
 
+-- what a wire told grows with the turns
+told_none : (spent : Bool) (l : List Told) → l ≡ l ++ cond spent [] []
+told_none true l = sym (append-nil l)
+told_none false l = sym (append-nil l)
+
+told_both : (spent : Bool) (l xs ys : List Told) → (l ++ cond spent [] xs) ++ cond spent [] ys ≡ l ++ cond spent [] (xs ++ ys)
+told_both true l xs ys = append-nil (l ++ [])
+told_both false l xs ys = append_assoc l xs ys
+
+told_further : (f g : ℕ) (l m n : List Told) (xs ys : List Round) → g ≡ f → m ≡ l ++ unless_spent f (all_told xs) → n ≡ m ++ unless_spent g (all_told ys) → n ≡ l ++ unless_spent f (all_told (xs ++ ys))
+told_further f g l m n xs ys same first then =
+    then ∙ ((λ i. first i ++ unless_spent (same i) (all_told ys)) ∙ (told_both (is_spent f) l (all_told xs) (all_told ys)
+    ∙ ap (λ (zs : List Told). l ++ unless_spent f zs) (sym (flat_map-append (λ (r : Round). Waited r.ms ∷ r.told) xs ys))))
+
+pub told_in : (l m : List Told) (f : ℕ) (more : List Told) (o p : Option (List Told)) → o ≡ Some l → p ≡ Some m → p ≡ also o (unless_spent f more) → m ≡ l ++ unless_spent f more
+told_in l m f more o p before after grown = ap (λ (x : Option (List Told)). unwrap_or x []) (sym after ∙ (grown ∙ ap (λ (x : Option (List Told)). also x (unless_spent f more)) before))
+
 -- no turn yet
-pub goes_nowhere : (a b : Pair) → b.service ≡ a.service → Expands a.relay b.relay → AreBehind b.relay.events b.relay.orders → AreFarBehind 256 b.relay.events b.relay.orders
+pub goes_nowhere : (a b : Pair) → b.service ≡ a.service → b.told ≡ a.told → b.faults ≡ a.faults → Expands a.relay b.relay → AreBehind b.relay.events b.relay.orders → AreFarBehind 256 b.relay.events b.relay.orders
     → Goes a [] b
-goes_nowhere a b same expands behind far_behind = record {
+goes_nowhere a b same told faults expands behind far_behind = record {
   turns = same;
   sound = All-nil IsSound;
   passes = passes_expanded a.relay b.relay expands;
   behind = behind;
   far_behind = far_behind;
+  told = told ∙ told_none (is_spent a.faults) a.told;
+  faults = faults;
 }
 
 -- turns after turns
@@ -55,18 +77,22 @@ goes_on a b c xs ys p q = record {
   passes = passes_both a.relay b.relay c.relay xs ys p.passes q.passes;
   behind = q.behind;
   far_behind = q.far_behind;
+  told = told_further a.faults b.faults a.told b.told c.told xs ys p.faults p.told q.told;
+  faults = q.faults ∙ p.faults;
 }
 
 -- one turn
 pub goes_turn : (a b : Pair) (r : Round) → LoneTurn host_calls a.service r b.service → Passes a.relay r.gave r.puts b.relay → AreBehind b.relay.events b.relay.orders
-    → AreFarBehind 256 b.relay.events b.relay.orders → Goes a (r ∷ []) b
-goes_turn a b r turn passes behind far_behind = record {
+    → AreFarBehind 256 b.relay.events b.relay.orders → Some b.told ≡ also (Some a.told) (unless_spent a.faults (Waited r.ms ∷ r.told)) → b.faults ≡ a.faults → Goes a (r ∷ []) b
+goes_turn a b r turn passes behind far_behind told faults = record {
   turns = (b.service, turn, refl);
   sound = All-push IsSound [] r (All-nil IsSound) turn.sound;
   passes = subst (λ (puts : List (Event × Bool)). Passes a.relay (r.gave ++ []) puts b.relay) (sym (append-nil r.puts))
       (subst (λ (gave : List (Option Submission)). Passes a.relay gave r.puts b.relay) (sym (append-nil r.gave)) passes);
   behind = behind;
   far_behind = far_behind;
+  told = told_in a.told b.told a.faults (Waited r.ms ∷ r.told) _ _ refl refl told ∙ ap (λ (zs : List Told). a.told ++ unless_spent a.faults zs) (sym (append-nil (Waited r.ms ∷ r.told)));
+  faults = faults;
 }
 
 -- its report is the sum of one
@@ -91,7 +117,7 @@ far_behind_more many events before waiting (inr enough) = inr (omega (arith, eno
 -- what the relay began with was kept by the server, and what it leaves is
 pub serves : (old new : ChatServer) (began ended : LoneRelay) (run_length : RunLength) (rounds : List Round) (report : Report)
     → IsOf old.kept began → IsOf new.kept ended → new.queue_capacity ≡ old.queue_capacity → Lasts run_length rounds → report ≡ total rounds
-    → Goes (pair old.bound.service began) rounds (pair new.bound.service ended) → Serves lone 256 old run_length new report
+    → Goes (pair old.bound.service began (told_of old) (faults_of old)) rounds (pair new.bound.service ended (told_of new) (faults_of new)) → Serves lone 256 old run_length new report
 serves old new began ended run_length rounds report i o capacity lasts totals g = record {
   rounds = rounds;
   expanded = g.passes.expanded;
@@ -99,6 +125,7 @@ serves old new began ended run_length rounds report i o capacity lasts totals g 
   lasts = lasts;
   turns = g.turns;
   sound = g.sound;
+  told = g.told;
   queue_capacity = capacity;
   totals = totals;
   events = ap (λ (es : List Event). es ++ accepted (all_puts rounds)) (sym i.events) ∙ (g.passes.events ∙ ap (λ (es : List Event). g.passes.expanded ++ es) o.events);

@@ -13,14 +13,17 @@ use Rattle.enet_host.specs.Host.{Host}
 use Rattle.enet_host.specs.Opening.{opened}
 use Rattle.enet_bridge.specs.Ends.{orders}
 use Rattle.enet_bridge.specs.Socket.{failures_of}
+use Rattle.enet_bridge.specs.declared.told.Told.{Told}
+use Rattle.enet_bridge.specs.Wires.{unless_spent}
 use Rattle.enet_guard.specs.Guarding.{Guarding, new_guard}
+use Rattle.enet_guard.specs.Journals.{told_of as told_at}
 use Rattle.enet_service.specs.declared.report.Report.{Report}
 use Rattle.enet_service.specs.declared.service.Service.{Service}
 use Rattle.enet_service.specs.Hosting.{host_calls}
 use Rattle.enet_service.specs.LoneTurn.{Kind, RoundsOf}
 use Rattle.enet_service.specs.Queues.{given, accepted}
 use Rattle.enet_service.specs.Turn.{Round}
-use Rattle.enet_service.specs.Run.{IsSound, all_gave, all_puts, total}
+use Rattle.enet_service.specs.Run.{IsSound, all_gave, all_told, all_puts, total}
 use Rattle.enet_chat.specs.Relaying.{noted_all, relayed_all, SameForEach, AreBehind, AreFarBehind}
 use Rattle.enet_service.specs.declared.run_length.RunLength.{RunLength}
 use Rattle.enet_service.specs.ServiceRuns.{Lasts, IsCapacity}
@@ -34,6 +37,10 @@ host_of server = server.bound.service.host
 -- how often its socket has failed
 abbrev pub faults_of : ChatServer → ℕ
 faults_of server = failures_of server.bound.wire.wire
+
+-- what its wire, the socket behind a guard, told of its calls
+abbrev pub told_of : ChatServer → List Told
+told_of server = told_at server.bound.wire
 
 -- what the guard in front of its host goes by
 abbrev pub guard_of : ChatServer → Guarding
@@ -75,13 +82,15 @@ pub record IsOpened (settings : Settings) (server : ChatServer) : Type 0 where
   pub guard : guard_of server ≡ new_guard settings.rules settings.peers
   pub waiting : waiting_of server ≡ None
   pub faults : faults_of server ≡ 0
+  pub told : told_of server ≡ []
   pub queue_capacity : queue_capacity_of server ≡ settings.queue_capacity
   pub peers : peers_of server ≡ []
   pub backlog : backlog_of server ≡ []
   pub orders : orders_of server ≡ []
 
 -- ---- a run
--- From one run to the next, by turns of this kind. In none of them the wire failed, and the report is their sums. The events that the turns put are
+-- From one run to the next, by turns of this kind. In none of them the wire failed, and the report is their sums. What the wire told goes on by
+-- just their waits, what they heard and what they sent, in order. The events that the turns put are
 -- expanded behind those that waited, once and in order, or wait. The orders that were asked for are for every peer what those events
 -- give for it, in order (SameForEach); they come behind those that waited, and were handed to the turns, once and in order, or wait.
 -- Events wait only where orders do, and where so many orders were handed to the turns or wait
@@ -92,6 +101,7 @@ pub record Serves (kind : Kind) (many : ℕ) (old : ChatServer) (run_length : Ru
   pub lasts : Lasts run_length rounds
   pub turns : RoundsOf kind host_calls old.bound.service rounds new.bound.service
   pub sound : All IsSound rounds
+  pub told : told_of new ≡ told_of old ++ unless_spent (faults_of old) (all_told rounds)
   pub queue_capacity : queue_capacity_of new ≡ queue_capacity_of old
   pub totals : report ≡ total rounds
   pub events : backlog_of old ++ accepted (all_puts rounds) ≡ expanded ++ backlog_of new

@@ -23,6 +23,7 @@ pub(crate) struct Alone<'a> {
 impl Alone<'_> {
     ghost use Rattle.std.specs.Prelude.{◌≡◌, ◌≢◌, ◌+◌, ◌⊎◌, List, length, OnOk, IfOk, IfErr};
     ghost use Rattle.enet_bridge.specs.Socket.{failures_of};
+    ghost use Rattle.enet_guard.specs.Journals.{told_of};
     ghost use Rattle.enet_chat.specs.Relaying.{AreBehind, AreFarBehind};
     ghost use Rattle.enet_service.specs.Turn.{Round};
     ghost use Rattle.enet_service.specs.Run.{total};
@@ -42,7 +43,7 @@ impl Alone<'_> {
         requires behind { AreBehind self.old.relay.events self.old.relay.orders }
         requires far_behind { AreFarBehind 256 self.old.relay.events self.old.relay.orders }
         ensures goes { IfOk result (λ report. (rounds : List Round) × Lasts run_length rounds × (report ≡ total rounds)
-            × Goes (pair bound.old.service self.old.relay) rounds (pair bound.new.service self.new.relay)) }
+            × Goes (pair bound.old.service self.old.relay (told_of bound.old.wire) (failures_of bound.old.wire.wire)) rounds (pair bound.new.service self.new.relay (told_of bound.new.wire) (failures_of bound.new.wire.wire))) }
         ensures why { IfErr result (λ why. (why ≡ Refusal.WireFault) ⊎ (why ≡ Refusal.Memory)) }
         ensures sound { OnOk result (failures_of bound.new.wire.wire ≡ failures_of bound.old.wire.wire) }
         ensures failed { IfErr result (λ why. why ≡ Refusal.WireFault → failures_of bound.new.wire.wire ≡ failures_of bound.old.wire.wire + 1) }
@@ -65,7 +66,7 @@ impl Alone<'_> {
         requires behind { AreBehind self.old.relay.events self.old.relay.orders }
         requires far_behind { AreFarBehind 256 self.old.relay.events self.old.relay.orders }
         ensures goes { IfOk result (λ report. (rounds : List Round) × LastsForTime rounds × (report ≡ total rounds)
-            × Goes (pair bound.old.service self.old.relay) rounds (pair bound.new.service self.new.relay)) }
+            × Goes (pair bound.old.service self.old.relay (told_of bound.old.wire) (failures_of bound.old.wire.wire)) rounds (pair bound.new.service self.new.relay (told_of bound.new.wire) (failures_of bound.new.wire.wire))) }
         ensures why { IfErr result (λ why. (why ≡ Refusal.WireFault) ⊎ (why ≡ Refusal.Memory)) }
         ensures sound { OnOk result (failures_of bound.new.wire.wire ≡ failures_of bound.old.wire.wire) }
         ensures failed { IfErr result (λ why. why ≡ Refusal.WireFault → failures_of bound.new.wire.wire ≡ failures_of bound.old.wire.wire + 1) }
@@ -94,7 +95,7 @@ impl Alone<'_> {
         requires behind { AreBehind self.old.relay.events self.old.relay.orders }
         requires far_behind { AreFarBehind 256 self.old.relay.events self.old.relay.orders }
         ensures goes { IfOk result (λ report. (rounds : List Round) × (length rounds ≡ turns) × (report ≡ total rounds)
-            × Goes (pair bound.old.service self.old.relay) rounds (pair bound.new.service self.new.relay)) }
+            × Goes (pair bound.old.service self.old.relay (told_of bound.old.wire) (failures_of bound.old.wire.wire)) rounds (pair bound.new.service self.new.relay (told_of bound.new.wire) (failures_of bound.new.wire.wire))) }
         ensures why { IfErr result (λ why. (why ≡ Refusal.WireFault) ⊎ (why ≡ Refusal.Memory)) }
         ensures sound { OnOk result (failures_of bound.new.wire.wire ≡ failures_of bound.old.wire.wire) }
         ensures failed { IfErr result (λ why. why ≡ Refusal.WireFault → failures_of bound.new.wire.wire ≡ failures_of bound.old.wire.wire + 1) }
@@ -122,7 +123,7 @@ impl Alone<'_> {
         requires behind { AreBehind self.old.relay.events self.old.relay.orders }
         requires far_behind { AreFarBehind 256 self.old.relay.events self.old.relay.orders }
         ensures goes { IfOk result (λ report. (rounds : List Round) × (length rounds ≡ turns) × (report ≡ total rounds)
-            × Goes (pair bound.old.service self.old.relay) rounds (pair bound.new.service self.new.relay)) }
+            × Goes (pair bound.old.service self.old.relay (told_of bound.old.wire) (failures_of bound.old.wire.wire)) rounds (pair bound.new.service self.new.relay (told_of bound.new.wire) (failures_of bound.new.wire.wire))) }
         ensures why { IfErr result (λ fault. (fault.why ≡ Refusal.WireFault) ⊎ (fault.why ≡ Refusal.Memory)) }
         ensures sound { OnOk result (failures_of bound.new.wire.wire ≡ failures_of bound.old.wire.wire) }
         ensures failed { IfErr result (λ fault. fault.why ≡ Refusal.WireFault → failures_of bound.new.wire.wire ≡ failures_of bound.old.wire.wire + 1) }
@@ -152,7 +153,7 @@ impl Alone<'_> {
         buf: &mut [u8; 4096],
     ) -> Result<Report, Fault>
         ensures goes { IfOk result (λ report. (rounds : List Round) × (length rounds ≡ 1) × (report ≡ total rounds)
-            × Goes (pair bound.old.service self.old.relay) rounds (pair bound.new.service self.new.relay)) }
+            × Goes (pair bound.old.service self.old.relay (told_of bound.old.wire) (failures_of bound.old.wire.wire)) rounds (pair bound.new.service self.new.relay (told_of bound.new.wire) (failures_of bound.new.wire.wire))) }
         ensures why { IfErr result (λ fault. (fault.why ≡ Refusal.WireFault) ⊎ (fault.why ≡ Refusal.Memory)) }
         ensures sound { OnOk result (failures_of bound.new.wire.wire ≡ failures_of bound.old.wire.wire) }
         ensures failed { IfErr result (λ fault. fault.why ≡ Refusal.WireFault → failures_of bound.new.wire.wire ≡ failures_of bound.old.wire.wire + 1) }

@@ -1,9 +1,11 @@
 //! A turn of a service whose relay shares its thread.
-ghost use Rattle.std.specs.Prelude.{◌≡◌, ◌≢◌, ◌+◌, ◌⊎◌, List, OnOk, IfOk, IfErr};
+ghost use Rattle.std.specs.Prelude.{◌≡◌, ◌≢◌, ◌+◌, ◌⊎◌, List, ◌∷◌, OnOk, IfOk, IfErr};
 ghost use Rattle.enet_chat.specs.Relaying.{AreBehind, AreFarBehind};
 ghost use Rattle.enet_service.specs.LoneTurn.{LoneTurn, Obeyed, ObeysAll, gave_in, puts_in};
 ghost use Rattle.enet_service.specs.Turn.{Round};
 ghost use Rattle.enet_service.specs.Counts.{given_in, taken_in, stopped};
+ghost use Rattle.enet_bridge.specs.declared.told.Told.TheVariants.{Waited};
+ghost use Rattle.enet_bridge.specs.Wires.{also, unless_spent};
 ghost use Rattle.enet_chat.specs.Lone.{Expands};
 ghost use Rattle.enet_serve.specs.Private.Passing.{Passes};
 
@@ -28,7 +30,8 @@ pub(crate) fn lone_turn<H: Core, W: Wire, R: Wait + Clock>(
     buf: &mut [u8; 4096],
 ) -> Result<Report, Fault>
     ensures turn { IfOk result (λ report. (round : Round) × (round.report ≡ report) × LoneTurn H.calls service.old round service.new
-        × Passes relay.old round.gave round.puts relay.new) }
+        × Passes relay.old round.gave round.puts relay.new
+        × (W.told wire.new ≡ also (W.told wire.old) (unless_spent (W.faults wire.old) (Waited round.ms ∷ round.told)))) }
     ensures behind { OnOk result (AreBehind relay.new.events relay.new.orders) }
     ensures far_behind { OnOk result (AreFarBehind 256 relay.new.events relay.new.orders) }
     ensures why { IfErr result (λ fault. (fault.why ≡ Refusal.WireFault) ⊎ (fault.why ≡ Refusal.Memory)) }

@@ -30,7 +30,7 @@ counts_one a x seat (no d) n =
     subst (λ (zs : List Submission). CountsFrom (length (of seat a)) zs) (sym (ap (λ b. cond b (x ∷ []) []) (ne_eqb x.seat seat d))) tt
 
 -- ---- the drain
-drains_none : (q : SubmitQueue) (a b : Drain) → taken b ≡ taken a → DrainsOn q a [] b
+pub drains_none : (q : SubmitQueue) (a b : Drain) → taken b ≡ taken a → DrainsOn q a [] b
 drains_none q a b e = record {
   grown = e ∙ sym (append-nil (taken a));
   in_order = λ seat. tt;
@@ -45,7 +45,7 @@ drains_one q a b (Some x) d = record {
   begins = λ h. d.2;
 }
 
-drains_more : (q : SubmitQueue) (a b c : Drain) (xs ys : List Submission) → DrainsOn q a xs b → DrainsOn q b ys c → DrainsOn q a (xs ++ ys) c
+pub drains_more : (q : SubmitQueue) (a b c : Drain) (xs ys : List Submission) → DrainsOn q a xs b → DrainsOn q b ys c → DrainsOn q a (xs ++ ys) c
 drains_more q a b c xs ys f g = record {
   grown = g.grown ∙ (ap (λ (zs : List Submission). zs ++ ys) f.grown ∙ append_assoc (taken a) xs ys);
   in_order = λ seat.

@@ -1,9 +1,10 @@
 -- Queues with one seat and one taker.
-use Rattle.std.proofs.Common.{◌≡◌, ℕ, zero, suc, ◌+◌, ◌<◌, ◌≤◌, true, false, cond, List, [], ◌∷◌, ◌++◌, Option, Some, None, IfSome, refl, sym, ap, ◌∙◌, subst, arith, append-nil, eq-eqb, ne_eqb, length}
+use Rattle.std.proofs.Common.{◌≡◌, ℕ, zero, suc, ◌+◌, ◌<◌, ◌≤◌, true, false, cond, List, [], ◌∷◌, ◌++◌, Option, Some, None, IfSome, refl, sym, ap, ◌∙◌, subst, arith, append-nil, append_assoc, eq-eqb, ne_eqb, length}
 use Rattle.std.specs.Prelude.{IsSome, slice_index_or}
 use Rattle.std.specs.List.{All, Contains}
 use Rattle.std.specs.Option.{option_to_list, option_map}
 use Rattle.crossbeam_queue.specs.Fifo.{Held}
+use Rattle.std.proofs.lemmas.List.{map-append}
 use Rattle.std.proofs.lemmas.List.Elements.{All-head, All-tail}
 use native.Mathlib.Decide.{ℕ_discrete}
 use Rattle.enet_submit.specs.declared.order.Submission.{Submission}
@@ -11,11 +12,13 @@ use Rattle.enet_submit.specs.declared.queue.SubmitQueue.{SubmitQueue}
 use Rattle.enet_submit.specs.declared.token.Drain.{Drain}
 use Rattle.enet_submit.specs.declared.token.Finished.{Finished}
 use Rattle.enet_submit.specs.declared.token.Seat.{Seat}
-use Rattle.enet_submit.specs.History.{of}
+use Rattle.enet_submit.specs.declared.order.Order.{Order}
+use Rattle.enet_submit.specs.History.{of, IsHistory}
 use Rattle.enet_submit.specs.Words.{EachFrom, IsNew, DrainSees, AllBack, sent, all_sent, taken, seat_of, seats_of}
 use Rattle.enet_events.specs.declared.numbered.Numbered.{Numbered}
 use Rattle.enet_events.specs.History.{AreWith, part}
-use Rattle.enet_events.specs.Words.{PosterState, TakerState, IsAllTaken, IsSharedOut, taken_by}
+use Rattle.enet_events.specs.Words.{QueueId, PosterState, TakerState, TakerFits, IsAllTaken, IsSharedOut, taken_by}
+use Rattle.enet_bridge.specs.Ends.{orders}
 
 pub each_is_new : (k : ℕ) (seats : List Seat) (seat : Seat) → EachFrom k IsNew (seats ++ seat ∷ []) → sent seat ≡ []
 each_is_new k [] seat new = new.0.1
@@ -93,6 +96,43 @@ taken_is_sent q d f fs is one back all held =
     let others : (seat : ℕ) → 1 ≤ seat → of seat (taken d) ≡ [] =
     λ seat least. subst (λ (xs : List Submission). of seat xs ≡ []) empty (held.2.of_these_seats seat (omega (arith, one, least))) in
     sym (of_one_seat (taken d) others) ∙ (ap (λ (k : ℕ). of k (taken d)) (sym zeroth) ∙ sent_all)
+
+-- where the queue is empty, the drain took a history of the only seat
+pub history_of_one : (q : SubmitQueue) (d : Drain) → seats_of q ≡ 1 → Held 0 (DrainSees q d) → IsHistory 1 (taken d)
+history_of_one q d one held =
+    subst (IsHistory 1) (ends_there (taken d) held.0 held.1) (subst (λ (n : ℕ). IsHistory n (taken d ++ held.0)) one held.2)
+
+-- one more is left
+pub left_more : (old a b held : List Submission) (x : Submission) (os ns : List Order) → a ≡ old ++ held → orders held ≡ os → b ≡ a ++ x ∷ [] → ns ≡ os ++ x.order ∷ []
+    → (xs : List Submission) × (b ≡ old ++ xs) × (orders xs ≡ ns)
+left_more old a b held x os ns before left one more = (
+  held ++ x ∷ [],
+  one ∙ (ap (λ (zs : List Submission). zs ++ x ∷ []) before ∙ append_assoc old held (x ∷ [])),
+  map-append (λ (y : Submission). y.order) held (x ∷ []) ∙ (ap (λ (zs : List Order). zs ++ x.order ∷ []) left ∙ sym more),
+)
+
+-- what was left goes with what the drain took
+pub left_over : (d e : Drain) (f : Finished) (held : List Submission) (left : List Order) → taken e ≡ taken d ++ held → orders held ≡ left → IsHistory 1 (taken e) → taken e ≡ all_sent f
+    → (xs : List Submission) × (orders xs ≡ left) × IsHistory 1 (taken d ++ xs) × (of 0 (taken d ++ xs) ≡ all_sent f)
+left_over d e f held left grown left_is history sent =
+    (held, left_is, subst (IsHistory 1) grown history, ap (of 0) (sym grown) ∙ (of_one_seat (taken e) history.of_these_seats ∙ sent))
+
+-- the only taker of a queue that is settled fits all that was posted
+pub fits_all : (p : PosterState) (t : TakerState) (ts : List TakerState) → ts ≡ t ∷ [] → t.queue ≡ p.queue → IsSharedOut p ts → TakerFits t p.posted []
+fits_all p t ts is same shared = (
+  record {
+    taken = p.posted;
+    who = shared.who;
+    in_order = sym (append-nil p.posted);
+    numbered = shared.numbered;
+    shared = subst (λ (n : ℕ). AreWith shared.who n p.posted) (sym (ap (λ (q : QueueId). q.takers) same)) shared.shared;
+  },
+  All-head (λ (x : TakerState). part shared.who x.index p.posted ≡ x.taken) t []
+      (subst (λ (xs : List TakerState). All (λ x. part shared.who x.index p.posted ≡ x.taken) xs) is shared.lists),
+)
+
+pub first_of_one : (p : PosterState) (t : TakerState) (ts : List TakerState) → ts ≡ t ∷ [] → p.queue.takers ≡ 1 → IsAllTaken p ts → t.index ≡ 0
+first_of_one p t ts is one all = taker_is_first t (ℕ_discrete t.index 0) (subst (λ (xs : List TakerState). IsSome (taken_by 0 xs)) is (all.0 0 (omega (arith, one))))
 
 -- where the queue isn't settled, its only seat isn't back
 pub not_back_of : (q : SubmitQueue) (d : Drain) (f : Finished) (fs : List Finished) → fs ≡ f ∷ [] → (AllBack q d fs → false ≡ true) → AllBack q d (f ∷ []) → ⊥

@@ -1,5 +1,5 @@
 -- Turns in which the wire did not fail, one run of them after another.
-use Rattle.std.proofs.Common.{◌≡◌, ◌⊎◌, inl, inr, ℕ, ◌+◌, Bool, List, [], ◌∷◌, ◌++◌, Option, refl, sym, ap, ◌∙◌, append_assoc, arith}
+use Rattle.std.proofs.Common.{◌≡◌, ◌⊎◌, inl, inr, ℕ, ◌+◌, Bool, List, [], ◌∷◌, ◌++◌, Option, refl, sym, ap, ◌∙◌, subst, append_assoc, arith}
 use Rattle.std.specs.Prelude.{map}
 use Rattle.std.specs.List.{sum_by}
 use Rattle.std.proofs.lemmas.List.{append-nil, map-append}
@@ -8,6 +8,7 @@ use Rattle.std.proofs.lemmas.List.Sums.{sum_by-append}
 use Rattle.std.proofs.lemmas.Grind.{flat_map-append}
 use Rattle.enet_codec.specs.declared.event.Event.{Event}
 use Rattle.enet_submit.specs.declared.order.Submission.{Submission}
+use Rattle.enet_submit.specs.declared.queue.SubmitQueue.{SubmitQueue}
 use Rattle.enet_submit.specs.Words.{taken}
 use Rattle.enet_events.specs.declared.numbered.Numbered.{Numbered}
 use Rattle.enet_codec.specs.declared.refusal.Refusal.TheVariants.{WireFault}
@@ -17,9 +18,10 @@ use Rattle.enet_bridge.specs.Wires.{also, unless_spent}
 use Rattle.enet_service.specs.declared.report.Fault.{Fault}
 use Rattle.enet_service.specs.declared.report.Report.{Report}
 use Rattle.enet_service.specs.Counts.{stopped}
-use Rattle.enet_service.specs.Queues.{given, accepted}
+use Rattle.enet_service.specs.Queues.{given, accepted, DrainsOn}
 use Rattle.enet_service.specs.Turn.{Round}
 use Rattle.enet_service.specs.Run.{IsSound, EndsInTurn, EndsInWait, all_gave, all_told, all_puts, total}
+use Rattle.enet_service.proofs.ManyCalls.{drains_none, drains_more}
 use Rattle.enet_service.proofs.PhaseSteps.{chain_more}
 use Rattle.enet_service.proofs.Tellings.{told_on, also_nothing}
 use Rattle.enet_service.proofs.Reporting.{same_report}
@@ -63,6 +65,8 @@ no_turn s r e = record {
   sound = All-nil IsSound;
   totals = e;
   gave = sym (append-nil (taken s.drain));
+  queue = refl;
+  drains = drains_none s.queue s.drain s.drain refl;
   put = record { same = refl; grown = sym (append-nil _) };
   told = also_nothing s.faults s.told;
   faults = refl;
@@ -76,6 +80,9 @@ further a b c xs ys t u w one two sum = record {
   sound = All-append IsSound xs ys one.sound two.sound;
   totals = total_of_both t u w xs ys one.totals two.totals sum;
   gave = two.gave ∙ (ap (λ (zs : List Submission). zs ++ given (all_gave ys)) one.gave ∙ (append_assoc (taken a.drain) (given (all_gave xs)) (given (all_gave ys)) ∙ ap (λ (zs : List Submission). taken a.drain ++ zs) (sym (given_both xs ys))));
+  queue = two.queue ∙ one.queue;
+  drains = subst (λ (zs : List Submission). DrainsOn a.queue a.drain zs c.drain) (sym (given_both xs ys))
+      (drains_more a.queue a.drain b.drain c.drain (given (all_gave xs)) (given (all_gave ys)) one.drains (subst (λ (q : SubmitQueue). DrainsOn q b.drain (given (all_gave ys)) c.drain) one.queue two.drains));
   put = record {
     same = two.put.same ∙ one.put.same;
     grown = two.put.grown ∙ (ap (λ (zs : List Event). zs ++ accepted (all_puts ys)) one.put.grown ∙ (append_assoc (events a.poster.posted) (accepted (all_puts xs)) (accepted (all_puts ys)) ∙ ap (λ (zs : List Event). events a.poster.posted ++ zs) (sym (accepted_both xs ys))));

@@ -9,19 +9,23 @@ use Rattle.enet_codec.specs.declared.refusal.Refusal.TheVariants.{Memory, BadCon
 use Rattle.enet_submit.specs.declared.order.Order.TheVariants.{Disconnect}
 use Rattle.enet_submit.specs.declared.token.Drain.{Drain}
 use Rattle.enet_submit.specs.declared.queue.SubmitQueue.{SubmitQueue}
-use Rattle.enet_submit.specs.Words.{IsSeatOf, IsDrainOf, IsFinishedOf, seats_of, sent, taken}
-use Rattle.enet_events.specs.Words.{Queue, PosterState}
+use Rattle.enet_submit.specs.declared.order.Order.{Order}
+use Rattle.enet_submit.specs.declared.order.Submission.{Submission}
+use Rattle.enet_submit.specs.History.{of, IsHistory}
+use Rattle.enet_submit.specs.Words.{IsSeatOf, IsDrainOf, IsFinishedOf, seats_of, sent, all_sent, taken}
+use Rattle.enet_events.specs.Words.{Queue, PosterState, TakerFits}
 use Rattle.enet_bridge.specs.Wires.{also, unless_spent}
 use Rattle.enet_bridge.specs.declared.told.Told.{Told}
 use Rattle.enet_bridge.specs.declared.source.QueueSource.{QueueSource}
 use Rattle.enet_bridge.specs.declared.sink.QueueSink.{QueueSink}
-use Rattle.enet_bridge.specs.Serving.{drain_of, poster_of}
+use Rattle.enet_bridge.specs.Ends.{orders}
+use Rattle.enet_bridge.specs.Serving.{queue_of, drain_of, poster_of}
 use Rattle.enet_host.specs.Host.{Host}
 use Rattle.enet_host.specs.Opening.{opened}
 use Rattle.enet_service.specs.declared.report.Report.{Report}
 use Rattle.enet_service.specs.Hosting.{host_calls, Obeys}
 use Rattle.enet_service.specs.Phases.{Chain}
-use Rattle.enet_service.specs.Queues.{given, accepted, PostsOn}
+use Rattle.enet_service.specs.Queues.{given, accepted, DrainsOn, PostsOn}
 use Rattle.enet_service.specs.Turn.{Round}
 use Rattle.enet_service.specs.Run.{Rounds, IsSound, all_gave, all_told, all_puts, total}
 use Rattle.enet_service.specs.declared.queues.Ends.{Ends}
@@ -78,24 +82,27 @@ Lasts (Time length_of_time) rounds = LastsForTime rounds
 abbrev pub TakesTurns : Service Host → List Round → Service Host → Type 0
 TakesTurns old rounds new = Rounds host_calls old rounds new
 
--- a service, its ends of the two queues, what its wire told of its calls, and how often that failed
+-- a service, its queue of orders with the drain, its end of the queue of events, what its wire told of its calls, and how often that failed
 pub record Standing : Type 0 where
   pub service : Service Host
+  pub queue : SubmitQueue
   pub drain : Drain
   pub poster : PosterState
   pub told : Option (List Told)
   pub faults : ℕ
 
 abbrev pub standing : Service Host → QueueSource → QueueSink → Option (List Told) → ℕ → Standing
-standing service source sink told faults = record { service = service; drain = drain_of source; poster = poster_of sink; told = told; faults = faults }
+standing service source sink told faults = record { service = service; queue = queue_of source; drain = drain_of source; poster = poster_of sink; told = told; faults = faults }
 
--- turns in which the wire did not fail, on what the drain took and what the wire told, each by the milliseconds of a wait; what they put is
--- what the poster posted
+-- turns in which the wire did not fail, on what the drain took and what the wire told, each by the milliseconds of a wait; each seat's orders
+-- are its next ones, in order; what the turns put is what the poster posted
 pub record Spell (old : Standing) (rounds : List Round) (new : Standing) (report : Report) : Type 0 where
   pub turns : TakesTurns old.service rounds new.service
   pub sound : All IsSound rounds
   pub totals : report ≡ total rounds
   pub gave : taken new.drain ≡ taken old.drain ++ given (all_gave rounds)
+  pub queue : new.queue ≡ old.queue
+  pub drains : DrainsOn old.queue old.drain (given (all_gave rounds)) new.drain
   pub put : PostsOn old.poster (accepted (all_puts rounds)) new.poster
   pub told : new.told ≡ also old.told (unless_spent old.faults (all_told rounds))
   pub faults : new.faults ≡ old.faults
@@ -118,3 +125,14 @@ pub record CanSettle (queue : SubmitQueue) (events : Queue) (back : Returned) : 
   pub poster : back.poster.queue ≡ events.id
   pub taker : back.taker.queue ≡ events.id
   pub one_taker : events.id.takers ≡ 1
+
+-- queues that were settled: what the drain took, and then what was left, is a history of the one seat, which submitted just that; the one taker
+-- took all that was posted
+pub record AreSettled (back : Returned) (left : List Order) : Type 0 where
+  pub held : List Submission
+  pub left_is : orders held ≡ left
+  pub history : IsHistory 1 (taken back.drain ++ held)
+  pub sent : of 0 (taken back.drain ++ held) ≡ all_sent back.seat
+  pub one_taker : back.taker.queue.takers ≡ 1
+  pub first : back.taker.index ≡ 0
+  pub fits : TakerFits back.taker back.poster.posted []

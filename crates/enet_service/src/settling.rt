@@ -1,9 +1,11 @@
 //! What is left of a run, once both its threads have ended.
-ghost use Rattle.std.specs.Prelude.{◌≡◌, [], ◌∷◌, ◌++◌, OnOk, IfOk, IfErr};
+ghost use Rattle.std.specs.Prelude.{◌≡◌, List, [], ◌∷◌, ◌++◌, OnOk, IfOk, IfErr};
+ghost use Rattle.enet_submit.specs.declared.order.Submission.{Submission};
+ghost use Rattle.enet_submit.specs.History.{of, IsHistory};
 ghost use Rattle.enet_submit.specs.Words.{IsDrainOf, IsFinishedOf, AllBack, seats_of, taken, all_sent};
-ghost use Rattle.enet_events.specs.Words.{IsAllTaken};
+ghost use Rattle.enet_events.specs.Words.{IsAllTaken, TakerFits};
 ghost use Rattle.enet_bridge.specs.Ends.{orders};
-ghost use Rattle.enet_service.specs.ServiceRuns.{CanSettle, IsNotSettled};
+ghost use Rattle.enet_service.specs.ServiceRuns.{CanSettle, AreSettled, IsNotSettled};
 
 use enet_codec::Refusal;
 use enet_events::{EventQueue, Poster, Taker};
@@ -22,7 +24,7 @@ pub struct Returned {
 }
 
 /// Settles both queues: their only taker took all that was posted. Answers the orders that the only seat submitted and the drain didn't
-/// take, in order.
+/// take, in order: with what the drain took they are all that the seat submitted, numbered without gaps.
 ///
 /// E16 where the only taker didn't take all events, or where the drain, once the queue is empty, hasn't just the orders of the only seat; E1
 /// for want of memory.
@@ -35,6 +37,7 @@ pub fn settle<R: Wait>(
 ) -> Result<VecDeque<Order>, Refusal>
     requires { CanSettle queue.now events.now back }
     ensures taken { OnOk result (back.taker.taken ≡ back.poster.posted) }
+    ensures settled { IfOk result (λ rest. AreSettled back rest.items) }
     ensures rest { IfOk result (λ rest. orders (all_sent back.seat) ≡ orders (taken back.drain) ++ rest.items) }
     ensures refused { IfErr result IsNotSettled }
 {
@@ -59,6 +62,8 @@ fn settle_events(
     requires taker { taker.queue ≡ events.now.id }
     requires one { events.now.id.takers ≡ 1 }
     ensures taken { OnOk result (taker.taken ≡ poster.posted) }
+    ensures fits { OnOk result (TakerFits taker poster.posted []) }
+    ensures first { OnOk result (taker.index ≡ 0) }
     ensures refused { IfErr result IsNotSettled }
     ensures held { IfErr result (λ why. why ≡ Refusal.StillHeld → ¬ (IsAllTaken poster (taker ∷ []))) }
 {
@@ -84,6 +89,7 @@ fn untaken<R: Wait>(
     requires seat { IsFinishedOf queue.now seat }
     requires one { seats_of queue.now ≡ 1 }
     ensures rest { IfOk result (λ rest. orders (all_sent seat) ≡ orders (taken drain) ++ rest.items) }
+    ensures history { IfOk result (λ rest. (held : List Submission) × (orders held ≡ rest.items) × IsHistory 1 (taken drain ++ held) × (of 0 (taken drain ++ held) ≡ all_sent seat)) }
     ensures refused { IfErr result IsNotSettled }
 {
     let (drain, rest) = take_rest(rt, alloc, queue, drain)?;
@@ -100,7 +106,7 @@ fn take_rest<R: Wait>(
 ) -> Result<(Drain, VecDeque<Order>), Refusal>
     requires { IsDrainOf queue.now drain }
     ensures fits { IfOk result (λ r. IsDrainOf queue.now r.0) }
-    ensures rest { IfOk result (λ r. orders (taken r.0) ≡ orders (taken drain) ++ r.1.items) }
+    ensures rest { IfOk result (λ r. (held : List Submission) × (taken r.0 ≡ taken drain ++ held) × (orders held ≡ r.1.items)) }
     ensures memory { IfErr result (λ why. why ≡ Refusal.Memory) }
 {
     let mut drain = drain;
@@ -127,6 +133,7 @@ fn settle_orders(
     requires seat { IsFinishedOf queue.now seat }
     requires one { seats_of queue.now ≡ 1 }
     ensures taken { OnOk result (taken drain ≡ all_sent seat) }
+    ensures history { OnOk result (IsHistory 1 (taken drain)) }
     ensures refused { IfErr result IsNotSettled }
     ensures held { IfErr result (λ why. why ≡ Refusal.StillHeld → ¬ (AllBack queue.now drain (seat ∷ []))) }
 {

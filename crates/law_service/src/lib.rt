@@ -12,7 +12,7 @@
 #![tactic(auto)]
 
 ghost use Rattle.law_service.specs.Law.{EachRunIsCalls, EachLifeIsCalls, EachRunTells, EachCallHappens};
-ghost use Rattle.law_service.specs.Queues.{EachHasThread};
+ghost use Rattle.law_service.specs.Queues.{EachHasThread, EachRunShows};
 ghost use Rattle.law_service.specs.EndToEnd.{EndToEnd, BetweenThreads, NeverStuck};
 
 /// Turns of a service, of either kind, are calls of its host, each by its contract (`calls`), also where its owner parts from peers between
@@ -34,10 +34,13 @@ pub fn each_call_happens()
 /// `services`: it holds of what each host accepted of the orders that its service was given, and of the events that its service told, the
 /// one that waits for room included. `threads`: so it holds of one game thread at each service, of the orders that it submitted,
 /// given yet or not, but for those that an event refuses, and of the events that it took. `queues`: such a thread is what a moment of a
-/// service's queues shows. `never_stuck`: any interleaving whose datagrams are honest goes on so; nothing else is asked of a service.
+/// service's queues shows. `shown`: there is such a moment of each run whose queues were opened for it and settled after it, by what
+/// `Queues::open`, `beside_turns` and `settle` promise. `never_stuck`: any interleaving whose datagrams are honest goes on so; nothing else
+/// is asked of a service.
 pub fn services_in_order()
     ensures services { EndToEnd }
     ensures threads { BetweenThreads }
     ensures queues { EachHasThread }
+    ensures shown { EachRunShows }
     ensures never_stuck { NeverStuck }
 {}

@@ -1,24 +1,28 @@
 -- A run whose relay shares its service's thread.
-use Rattle.std.specs.Prelude.{◌≡◌, List}
+use Rattle.std.specs.Prelude.{◌≡◌, ℕ, List, ◌++◌}
 use Rattle.std.specs.List.{All}
 use Rattle.enet_host.specs.Host.{Host}
+use Rattle.enet_bridge.specs.declared.told.Told.{Told}
+use Rattle.enet_bridge.specs.Wires.{unless_spent}
 use Rattle.enet_chat.specs.declared.lone.LoneRelay.{LoneRelay}
 use Rattle.enet_chat.specs.Relaying.{AreBehind, AreFarBehind}
 use Rattle.enet_service.specs.declared.service.Service.{Service}
 use Rattle.enet_service.specs.Hosting.{host_calls}
 use Rattle.enet_service.specs.LoneTurn.{RoundsOf, lone}
 use Rattle.enet_service.specs.Turn.{Round}
-use Rattle.enet_service.specs.Run.{IsSound, all_gave, all_puts}
+use Rattle.enet_service.specs.Run.{IsSound, all_gave, all_told, all_puts}
 use Rattle.enet_serve.specs.declared.threads.Carryover.{Carryover}
 use Rattle.enet_serve.specs.Private.Passing.{Passes}
 
--- a service, and the relay that shares its thread
+-- a service, the relay that shares its thread, what their wire told of its calls, and how often that failed
 pub record Pair : Type 0 where
   pub service : Service Host
   pub relay : LoneRelay
+  pub told : List Told
+  pub faults : ℕ
 
-abbrev pub pair : Service Host → LoneRelay → Pair
-pair service relay = record { service = service; relay = relay }
+abbrev pub pair : Service Host → LoneRelay → List Told → ℕ → Pair
+pair service relay told faults = record { service = service; relay = relay; told = told; faults = faults }
 
 -- what a relay begins with, or leaves
 pub record IsOf (kept : Carryover) (relay : LoneRelay) : Type 0 where
@@ -33,3 +37,5 @@ pub record Goes (old : Pair) (rounds : List Round) (new : Pair) : Type 0 where
   pub passes : Passes old.relay (all_gave rounds) (all_puts rounds) new.relay
   pub behind : AreBehind new.relay.events new.relay.orders
   pub far_behind : AreFarBehind 256 new.relay.events new.relay.orders
+  pub told : new.told ≡ old.told ++ unless_spent old.faults (all_told rounds)
+  pub faults : new.faults ≡ old.faults

@@ -1,8 +1,10 @@
-use Rattle.std.proofs.Common.{List, [], ◌++◌, Bool, false, refl}
+use Rattle.std.proofs.Common.{List, [], ◌∷◌, ◌++◌, Bool, false, refl, arith}
 use Rattle.enet_codec.specs.declared.event.Event.{Event}
 use Rattle.enet_bridge.specs.declared.told.Told.{Told}
+use Rattle.enet_bridge.specs.declared.told.Told.TheVariants.{Waited}
 use Rattle.enet_chat.specs.declared.lone.LoneRelay.{LoneRelay}
 use Rattle.enet_service.specs.LoneTurn.{Obeyed, gave_in, puts_in}
+use Rattle.enet_service.proofs.Tellings.{told_on}
 use Rattle.enet_serve.proofs.Passing.{passes_by, passes_on, turn_report}
 use Rattle.enet_serve.proofs.lone_turn.lone_turn.Goals as goal
 
@@ -38,4 +40,6 @@ returns-in-Ok-speak-clause-turn g c =
             begun.5 orders.3 c.and-obeyed.ensures sent.3 c.and-in-Ok-speak.ensures;
       },
       passes_on first put c.obey_all.new.relay [] (gave_in obeyed) first_puts (puts_in obeyed) (passes_by first put [] first_puts refl refl begun.4) orders.2,
+      told_on _ _ _ _ _ (Waited c.in-Ok.ms ∷ came) went (told_on _ _ _ _ _ (Waited c.in-Ok.ms ∷ []) came c.in-Ok.ensures.told c.in-Ok.ensures.faults begun.3)
+          (omega (arith, c.in_ok-heard.ensures.faults, c.in-Ok.ensures.faults)) sent.2,
     )

@@ -12,7 +12,7 @@ returns-in-Ok-clause-turns g c =
     let rounds : List Round = ran.0 in
     let turns : TakesTurns c.args.service.now rounds (record { host = c.show.new.host; waiting = c.run_between_queues.new.service.waiting }) =
     subst (λ (host : Host). TakesTurns c.args.service.now rounds (record { host = host; waiting = c.run_between_queues.new.service.waiting })) (sym c.show.ensures) ran.1 in
-    (rounds, ends.1, record { turns = turns; sound = ends.0; totals = ends.2; gave = ran.3.grown; put = ran.4; told = ran.5; faults = omega (arith, c.in-Ok.ensures.faults) })
+    (rounds, ends.1, record { turns = turns; sound = ends.0; totals = ends.2; gave = ran.3.grown; queue = ran.2; drains = ran.3; put = ran.4; told = ran.5; faults = omega (arith, c.in-Ok.ensures.faults) })
 
 pub returns-in-Err-clause-fault : goal.returns-in-Err-clause-fault
 returns-in-Err-clause-fault g c = fault_of_wire _ _ _ c.in-Err.ensures.run.6

@@ -1,6 +1,8 @@
 use Rattle.std.proofs.Common.{◌+◌, List, [], ◌++◌, refl, sym, subst, ◌∙◌, arith, rules}
 use Rattle.std.proofs.lemmas.List.{length-append}
 use Rattle.enet_chat.proofs.Expansions.{expands_none}
+use Rattle.enet_bridge.specs.Socket.{failures_of}
+use Rattle.enet_guard.specs.Journals.{told_of}
 use Rattle.enet_service.specs.Turn.{Round}
 use Rattle.enet_service.specs.ServiceRuns.{AreFew}
 use Rattle.enet_service.proofs.Spells.{total_of_both}
@@ -15,7 +17,7 @@ loop-init g c = (
   [],
   0,
   refl,
-  goes_nowhere _ _ refl (expands_none _ _ refl refl refl refl refl) c.requires.behind c.requires.far_behind,
+  goes_nowhere _ _ refl refl refl (expands_none _ _ refl refl refl refl refl) c.requires.behind c.requires.far_behind,
   c.nothing-total.ensures,
 )
 
@@ -24,9 +26,9 @@ loop-preserved g c =
     let inv = c.loop.invariant in
     let before : List Round = inv.2 in
     let more : List Round = c.in_ok-report.ensures.goes.0 in
-    let first = pair c.args.bound.now.service c.args.self.now.relay in
-    let second = pair c.loop.bound.service c.loop.self.relay in
-    let third = pair c.run_for_turns.new.bound.service c.run_for_turns.new.self.relay in (
+    let first = pair c.args.bound.now.service c.args.self.now.relay (told_of c.args.bound.now.wire) (failures_of c.args.bound.now.wire.wire) in
+    let second = pair c.loop.bound.service c.loop.self.relay (told_of c.loop.bound.wire) (failures_of c.loop.bound.wire.wire) in
+    let third = pair c.run_for_turns.new.bound.service c.run_for_turns.new.self.relay (told_of c.run_for_turns.new.bound.wire) (failures_of c.run_for_turns.new.bound.wire.wire) in (
       c.in_ok-report.ensures.sound ∙ inv.0,
       c.is_over.ensures.few (search rules),
       before ++ more,
@@ -41,9 +43,9 @@ returns-then-wants_end-clause-goes g c =
     let inv = c.loop.invariant in
     let before : List Round = inv.2 in
     let more : List Round = c.in_ok-report.ensures.goes.0 in
-    let first = pair c.args.bound.now.service c.args.self.now.relay in
-    let second = pair c.loop.bound.service c.loop.self.relay in
-    let third = pair c.run_for_turns.new.bound.service c.run_for_turns.new.self.relay in (
+    let first = pair c.args.bound.now.service c.args.self.now.relay (told_of c.args.bound.now.wire) (failures_of c.args.bound.now.wire.wire) in
+    let second = pair c.loop.bound.service c.loop.self.relay (told_of c.loop.bound.wire) (failures_of c.loop.bound.wire.wire) in
+    let third = pair c.run_for_turns.new.bound.service c.run_for_turns.new.self.relay (told_of c.run_for_turns.new.bound.wire) (failures_of c.run_for_turns.new.bound.wire.wire) in (
       before ++ more,
       record { before = before; last = more; all = refl; times = inv.3; before_are = inv.4; last_are = c.in_ok-report.ensures.goes.1; few = subst AreFew inv.6 inv.1 },
       total_of_both c.loop.total c.in_ok-report.report c.and-total.result before more inv.6 c.in_ok-report.ensures.goes.2 c.and-total.ensures,

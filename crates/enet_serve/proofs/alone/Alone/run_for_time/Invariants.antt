@@ -1,6 +1,7 @@
 use Rattle.std.proofs.Common.{◌≡◌, ℕ, ◌*◌, List}
 use Rattle.std.specs.Prelude.{length}
 use Rattle.enet_bridge.specs.Socket.{failures_of}
+use Rattle.enet_guard.specs.Journals.{told_of}
 use Rattle.enet_service.specs.Turn.{Round}
 use Rattle.enet_service.specs.Run.{total}
 use Rattle.enet_service.specs.ServiceRuns.{AreFew}
@@ -14,5 +15,5 @@ invariant-loop g l =
     × (rounds : List Round)
     × (times : ℕ)
     × (length rounds ≡ 64 * times)
-    × Goes (pair l.fn.bound.service l.fn.self.relay) rounds (pair l.bound.service l.self.relay)
+    × Goes (pair l.fn.bound.service l.fn.self.relay (told_of l.fn.bound.wire) (failures_of l.fn.bound.wire.wire)) rounds (pair l.bound.service l.self.relay (told_of l.bound.wire) (failures_of l.bound.wire.wire))
     × (l.total ≡ total rounds)

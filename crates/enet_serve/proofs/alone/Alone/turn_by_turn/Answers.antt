@@ -1,6 +1,8 @@
 use Rattle.std.proofs.Common.{List, [], ◌++◌, refl, ◌∙◌, arith}
 use Rattle.std.proofs.lemmas.List.{length-append}
 use Rattle.enet_chat.proofs.Expansions.{expands_none}
+use Rattle.enet_bridge.specs.Socket.{failures_of}
+use Rattle.enet_guard.specs.Journals.{told_of}
 use Rattle.enet_service.specs.Turn.{Round}
 use Rattle.enet_service.proofs.Spells.{total_of_both}
 use Rattle.enet_serve.specs.Private.Alone.{pair}
@@ -8,16 +10,16 @@ use Rattle.enet_serve.proofs.TurnByTurn.{goes_nowhere, goes_on}
 use Rattle.enet_serve.proofs.alone.Alone.turn_by_turn.Goals as goal
 
 pub loop-turn-init : goal.loop-turn-init
-loop-turn-init g c = (refl, [], goes_nowhere _ _ refl (expands_none _ _ refl refl refl refl refl) c.requires.behind c.requires.far_behind, refl, c.nothing-total.ensures)
+loop-turn-init g c = (refl, [], goes_nowhere _ _ refl refl refl (expands_none _ _ refl refl refl refl refl) c.requires.behind c.requires.far_behind, refl, c.nothing-total.ensures)
 
 pub loop-turn-preserved : goal.loop-turn-preserved
 loop-turn-preserved g c =
     let inv = c.loop-turn.invariant in
     let before : List Round = inv.1 in
     let more : List Round = c.in-Ok.ensures.goes.0 in
-    let first = pair c.args.bound.now.service c.args.self.now.relay in
-    let second = pair c.loop-turn.bound.service c.loop-turn.self.relay in
-    let third = pair c.take_turn.new.bound.service c.take_turn.new.self.relay in (
+    let first = pair c.args.bound.now.service c.args.self.now.relay (told_of c.args.bound.now.wire) (failures_of c.args.bound.now.wire.wire) in
+    let second = pair c.loop-turn.bound.service c.loop-turn.self.relay (told_of c.loop-turn.bound.wire) (failures_of c.loop-turn.bound.wire.wire) in
+    let third = pair c.take_turn.new.bound.service c.take_turn.new.self.relay (told_of c.take_turn.new.bound.wire) (failures_of c.take_turn.new.bound.wire.wire) in (
       c.in-Ok.ensures.sound ∙ inv.0,
       before ++ more,
       goes_on first second third before more inv.2 c.in-Ok.ensures.goes.3,

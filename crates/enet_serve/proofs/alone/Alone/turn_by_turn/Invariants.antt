@@ -1,6 +1,7 @@
 use Rattle.std.proofs.Common.{◌≡◌, List}
 use Rattle.std.specs.Prelude.{length}
 use Rattle.enet_bridge.specs.Socket.{failures_of}
+use Rattle.enet_guard.specs.Journals.{told_of}
 use Rattle.enet_service.specs.Turn.{Round}
 use Rattle.enet_service.specs.Run.{total}
 use Rattle.enet_serve.specs.Private.Alone.{Goes, pair}
@@ -10,6 +11,6 @@ abbrev pub invariant-loop-turn : goal.invariant-loop-turn
 invariant-loop-turn g l =
     (failures_of l.bound.wire.wire ≡ failures_of l.fn.bound.wire.wire)
     × (rounds : List Round)
-    × Goes (pair l.fn.bound.service l.fn.self.relay) rounds (pair l.bound.service l.self.relay)
+    × Goes (pair l.fn.bound.service l.fn.self.relay (told_of l.fn.bound.wire) (failures_of l.fn.bound.wire.wire)) rounds (pair l.bound.service l.self.relay (told_of l.bound.wire) (failures_of l.bound.wire.wire))
     × (length rounds ≡ l._turn)
     × (l.total ≡ total rounds)

@@ -1,4 +1,7 @@
 use Rattle.std.proofs.Common.{[], refl, subst}
+use Rattle.enet_bridge.specs.Socket.{failures_of}
+use Rattle.enet_guard.specs.Journals.{told_of as told_at}
+use Rattle.enet_serve.specs.Serving.{told_of, faults_of}
 use Rattle.enet_serve.specs.declared.threads.Carryover.{Carryover}
 use Rattle.enet_serve.specs.Private.Alone.{IsOf, pair}
 use Rattle.enet_serve.proofs.TurnByTurn.{goes_nowhere, goes_on, serves}
@@ -12,5 +15,5 @@ returns-clause-serves g c =
     let ran = c.in_ok-report.ensures.goes in
     let kept : IsOf old.kept began = subst (λ (kept : Carryover). IsOf kept began) c.replace-kept.ensures.value c.begin_alone.ensures in
     serves old _ began ended c.args.run_length ran.0 c.in_ok-report.report kept c.end_alone.ensures refl ran.1 ran.2
-    (goes_on (pair old.bound.service began) (pair old.bound.service c.expand.new.self) (pair c.run.new.bound.service ended) [] ran.0
-    (goes_nowhere (pair old.bound.service began) (pair old.bound.service c.expand.new.self) refl c.expand.ensures.expands c.in_ok-expand.ensures.behind c.in_ok-expand.ensures.far_behind) ran.3)
+    (goes_on (pair old.bound.service began (told_of old) (faults_of old)) (pair old.bound.service c.expand.new.self (told_of old) (faults_of old)) (pair c.run.new.bound.service ended (told_at c.run.new.bound.wire) (failures_of c.run.new.bound.wire.wire)) [] ran.0
+    (goes_nowhere (pair old.bound.service began (told_of old) (faults_of old)) (pair old.bound.service c.expand.new.self (told_of old) (faults_of old)) refl refl refl c.expand.ensures.expands c.in_ok-expand.ensures.behind c.in_ok-expand.ensures.far_behind) ran.3)
