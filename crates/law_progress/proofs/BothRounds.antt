@@ -25,16 +25,19 @@ use Rattle.law_connection.specs.Connection.{End, Connection, is_acknowledgement}
 use Rattle.law_connection.specs.Steps.{Emit, Tick, Happens}
 use Rattle.law_connection.specs.Invariant.{Invariant}
 use Rattle.law_connection.specs.Linked.{sends_in, dispatches_in, sender_in}
-use Rattle.law_progress.specs.Exchanges.{PutsOne, PutsMany, PutsAll, IsOpen, RoundOfBoth, outstanding_over, OnlyWaits, ProgressesBoth, AllOver, RoundsOfBoth, BothThrough}
+use Rattle.law_progress.specs.Exchanges.{PutsOne, PutsMany, PutsAll, IsOpen, RoundOfBoth, outstanding_over, OnlyWaits, ProgressesBoth, HasSent, AllAcknowledged, AllOver, RoundsOfBoth, BothThrough}
 use Rattle.law_progress.specs.Outboxes.{AllFit, AreQuiet, NothingMayGo}
 use Rattle.law_progress.proofs.Delivered.{delivered-forth, delivered-back}
 use Rattle.law_progress.proofs.Blocked.{some-sent, idle-senders}
-use Rattle.law_progress.proofs.Emitted.{AreSound, Went, Emitted, emitted, Waits, emitted-waits}
-use Rattle.law_progress.proofs.Exchanges.{Joint, joint-swap, joint-event, same-peer, sound-of, low-channel, as_read, reads-itself, same-message, no-acknowledgement, put_out, Gone, gone, Came, all-came, all-joint, came-answers, came-less}
+use Rattle.law_progress.proofs.Emitted.{AreSound, Went, Emitted, emitted, Waits, emitted-waits, emitted-from}
+use Rattle.law_progress.proofs.Carried.{nums, Has-nums}
+use Rattle.law_progress.proofs.Exchanges.{Joint, joint-swap, joint-event, same-peer, sound-of, low-channel, as_read, reads-itself, same-message, no-acknowledgement, put_out, Gone, gone, Came, all-came, all-joint, came-answers, came-less, came-none}
 use Rattle.law_progress.proofs.Found.{sender-rests}
 use Rattle.law_progress.proofs.Kept.{go-or-stay}
 use Rattle.law_progress.proofs.Obeyed.{Kept, kept-self, kept-least, kept-then}
-use Rattle.law_progress.proofs.Waiting.{or-both, none-of}
+use Rattle.law_progress.proofs.Rounds.{from-marked}
+use Rattle.law_progress.proofs.Waiting.{or-both, none-of, Has-at, Has-mapped}
+use Rattle.law_connection.proofs.Runs.{get-map}
 
 -- a command of the one end waits, and its acknowledgement is on its way: it waits to go at the other
 record Coming (other : End) (p : Peering) : Type 0 where
@@ -45,8 +48,15 @@ record Coming (other : End) (p : Peering) : Type 0 where
   is : other.peer ≡ Some peer
   there : Has peer.outbox.acknowledgements answer
 
--- an end puts out all that it may, and all of it comes
-record Sending (joined : Bool) (p0 q0 : Peering) (from to : End) : Type 0 where
+-- the acknowledgement of a command of this number waits to go at an end, or at a peer
+abbrev OnItsWay : End → ℕ → ℕ → Type 0
+OnItsWay other channel number = (time : ℕ) × (q : Peering) × (other.peer ≡ Some q) × Has q.outbox.acknowledgements (record { channel = channel; number = number; time = time })
+
+abbrev AnswersAt : Peering → ℕ → ℕ → Type 0
+AnswersAt q channel number = (time : ℕ) × Has q.outbox.acknowledgements (record { channel = channel; number = number; time = time })
+
+-- an end puts out all that it may, and all of it comes. Of what waits each command has this property, or its acknowledgement is on its way
+record Sending (joined : Bool) (D : ℕ → Sent → Type 0) (p0 q0 : Peering) (from to : End) : Type 0 where
   joint : Joint joined from to
   peer : Peering
   is : from.peer ≡ Some peer
@@ -58,13 +68,15 @@ record Sending (joined : Bool) (p0 q0 : Peering) (from to : End) : Type 0 where
   other_kept : Kept q0 other
   least : outstanding_over peer.outbox.senders ≤ outstanding_over p0.outbox.senders
   how : (peer.outbox.senders ≡ p0.outbox.senders) ⊎ ((outstanding_over peer.outbox.senders < outstanding_over p0.outbox.senders) ⊎ Coming to peer)
+  all : (channel : ℕ) (t : Sent) → HasSent peer.outbox.senders channel t → D channel t ⊎ OnItsWay to channel t.command.number
 
-sending-start : (joined : Bool) (p0 q0 : Peering) (from to : End) → Joint joined from to → from.peer ≡ Some p0 → p0.state ≡ state.Connected → to.peer ≡ Some q0 → q0.state ≡ state.Connected → Sending joined p0 q0 from to
-sending-start joined p0 q0 from to j is on other_is other_on =
-    record { joint = j; peer = p0; is = is; connected = on; mtu = refl; other = q0; other_is = other_is; other_connected = other_on; other_kept = kept-self q0; least = omega arith; how = inl refl }
+sending-start : (joined : Bool) (D : ℕ → Sent → Type 0) (p0 q0 : Peering) (from to : End) → Joint joined from to → from.peer ≡ Some p0 → p0.state ≡ state.Connected → to.peer ≡ Some q0 → q0.state ≡ state.Connected
+    → ((channel : ℕ) (t : Sent) → HasSent p0.outbox.senders channel t → D channel t ⊎ OnItsWay to channel t.command.number) → Sending joined D p0 q0 from to
+sending-start joined D p0 q0 from to j is on other_is other_on all =
+    record { joint = j; peer = p0; is = is; connected = on; mtu = refl; other = q0; other_is = other_is; other_connected = other_on; other_kept = kept-self q0; least = omega arith; how = inl refl; all = all }
 
-sending-one : (joined : Bool) (now there : ℕ) (p0 q0 : Peering) (from to from' to' : End) → PutsOne now there from to from' to' → Sending joined p0 q0 from to → Sending joined p0 q0 from' to'
-sending-one joined now there p0 q0 from to from' to' o k = record {
+sending-one : (joined : Bool) (D : ℕ → Sent → Type 0) (now there : ℕ) (p0 q0 : Peering) (from to from' to' : End) → PutsOne now there from to from' to' → Sending joined D p0 q0 from to → Sending joined D p0 q0 from' to'
+sending-one joined D now there p0 q0 from to from' to' o k = record {
   joint = all-joint joined there (now % 65536) from' o.new to to' o.come out;
   peer = p;
   is = g.peer;
@@ -76,6 +88,7 @@ sending-one joined now there p0 q0 from to from' to' o k = record {
   other_kept = kept-then q0 k.other came.peer k.other_kept came.kept;
   least = (let a = e.least in let b = k.least in omega arith);
   how = by k.how;
+  all = all;
 }
   where
     p : Peering
@@ -96,16 +109,39 @@ sending-one joined now there p0 q0 from to from' to' o k = record {
     e : Emitted k.peer.outbox.senders (filled (pace_of k.peer now) k.peer.outbox).messages p.outbox.senders
     e = emitted (pace_of k.peer now) k.peer.outbox sound
 
+    -- what was put in and waits is acknowledged
+    goes : (channel : ℕ) (c : DataCommand) → c.reliable ≡ true → Has (filled (pace_of k.peer now) k.peer.outbox).messages (message_of channel c) → Waits p.outbox.senders channel c.number → OnItsWay to' channel c.number
+    goes channel c reliable has waits =
+        let m : Message = message_of channel c in
+        let read : m ≡ message_of channel (as_read c) = same-message channel c reliable in
+        let put = g.put m has in
+        let low = low-channel joined from' to p channel c.number out g.peer waits in
+        let marked = put.4 (ap (λ (x : Message). is_acknowledgement x.body) read ∙ no-acknowledgement channel c) in
+        let r = came-answers joined there (now % 65536) from' o.new to to' p put.0 channel (as_read c) o.come put.1 out g.peer k.connected low waits refl (put.3 ∙ read) (reads-itself channel c) put.2 marked in
+        (now % 65536, r.0, r.1, r.2)
+
     answer : Went (filled (pace_of k.peer now) k.peer.outbox).messages p.outbox.senders → Coming to' p
     answer w =
-        let m : Message = message_of w.channel w.command in
-        let read : m ≡ message_of w.channel (as_read w.command) = same-message w.channel w.command w.reliable in
-        let put = g.put m w.put in
         let waits : Waits p.outbox.senders w.channel w.command.number = (w.end, w.there, w.waits) in
-        let low = low-channel joined from' to p w.channel w.command.number out g.peer waits in
-        let marked = put.4 (ap (λ (x : Message). is_acknowledgement x.body) read ∙ no-acknowledgement w.channel w.command) in
-        let r = came-answers joined there (now % 65536) from' o.new to to' p put.0 w.channel (as_read w.command) o.come put.1 out g.peer k.connected low waits refl (put.3 ∙ read) (reads-itself w.channel w.command) put.2 marked in
-        record { answer = record { channel = w.channel; number = w.command.number; time = now % 65536 }; low = low; waits = waits; peer = r.0; is = r.1; there = r.2 }
+        let way = goes w.channel w.command w.reliable w.put waits in
+        record { answer = record { channel = w.channel; number = w.command.number; time = way.0 }; low = low-channel joined from' to p w.channel w.command.number out g.peer waits; waits = waits; peer = way.1; is = way.2; there = way.3 }
+
+    all : (channel : ℕ) (t : Sent) → HasSent p.outbox.senders channel t → D channel t ⊎ OnItsWay to' channel t.command.number
+    all channel t h = elim (emitted-from (pace_of k.peer now) k.peer.outbox sound channel t h) [
+      | inl old ↦ elim (k.all channel t old) [
+        | inl d ↦ inl d
+        | inr w ↦ inr (
+          w.0,
+          came.peer,
+          came.is,
+          came.kept.acknowledgements (record { channel = channel; number = t.command.number; time = w.0 })
+              (subst (λ (x : Peering). Has x.outbox.acknowledgements (record { channel = channel; number = t.command.number; time = w.0 })) (same-peer to w.1 k.other w.2 k.other_is) w.3),
+        )
+      ]
+      | inr put ↦
+          let waits : Waits p.outbox.senders channel put.0.number = (h.0, h.1, subst (λ n. Has (nums h.0.sender.sent) n) (sym put.2) (Has-nums h.0.sender.sent t h.2)) in
+          inr (subst (λ n. OnItsWay to' channel n) put.2 (goes channel put.0 put.1 put.3 waits))
+    ]
 
     by : (k.peer.outbox.senders ≡ p0.outbox.senders) ⊎ ((outstanding_over k.peer.outbox.senders < outstanding_over p0.outbox.senders) ⊎ Coming to k.peer)
         → (p.outbox.senders ≡ p0.outbox.senders) ⊎ ((outstanding_over p.outbox.senders < outstanding_over p0.outbox.senders) ⊎ Coming to' p)
@@ -126,9 +162,9 @@ sending-one joined now there p0 q0 from to from' to' o k = record {
       ]
     ]
 
-sending-many : (joined : Bool) (now there n : ℕ) (p0 q0 : Peering) (from to from' to' : End) → PutsMany now there n from to from' to' → Sending joined p0 q0 from to → Sending joined p0 q0 from' to'
-sending-many joined now there zero p0 q0 from to from' to' m k = subst (λ (x : End). Sending joined p0 q0 x to') (sym m.0) (subst (λ (x : End). Sending joined p0 q0 from x) (sym m.1) k)
-sending-many joined now there (suc n) p0 q0 from to from' to' m k = sending-many joined now there n p0 q0 m.0 m.1 from' to' m.3 (sending-one joined now there p0 q0 from to m.0 m.1 m.2 k)
+sending-many : (joined : Bool) (D : ℕ → Sent → Type 0) (now there n : ℕ) (p0 q0 : Peering) (from to from' to' : End) → PutsMany now there n from to from' to' → Sending joined D p0 q0 from to → Sending joined D p0 q0 from' to'
+sending-many joined D now there zero p0 q0 from to from' to' m k = subst (λ (x : End). Sending joined D p0 q0 x to') (sym m.0) (subst (λ (x : End). Sending joined D p0 q0 from x) (sym m.1) k)
+sending-many joined D now there (suc n) p0 q0 from to from' to' m k = sending-many joined D now there n p0 q0 m.0 m.1 from' to' m.3 (sending-one joined D now there p0 q0 from to m.0 m.1 m.2 k)
 
 -- an acknowledgement that waits goes and comes, or waits still
 answers-many : (joined : Bool) (now there n : ℕ) (from to from' to' : End) (q p : Peering) (a : Acknowledgement) → PutsMany now there n from to from' to' → Joint joined from to → from.peer ≡ Some q → q.state ≡ state.Connected
@@ -166,34 +202,111 @@ answers-many joined now there (suc n) from to from' to' q p a m j is on other_is
     came : Came to m.1 p
     came = all-came there (now % 65536) m.0 o.new to m.1 p o.come other_is other_on
 
-    rest : Sending joined (put_out q now) came.peer from' to'
-    rest = sending-many joined now there n (put_out q now) came.peer m.0 m.1 from' to' m.3 (sending-start joined (put_out q now) came.peer m.0 m.1 next g.peer on came.is came.connected)
+    rest : Sending joined (HasSent (put_out q now).outbox.senders) (put_out q now) came.peer from' to'
+    rest = sending-many joined (HasSent (put_out q now).outbox.senders) now there n (put_out q now) came.peer m.0 m.1 from' to' m.3
+        (sending-start joined (HasSent (put_out q now).outbox.senders) (put_out q now) came.peer m.0 m.1 next g.peer on came.is came.connected (λ channel t h. inl h))
+
+-- all acknowledgements that wait go and come, or wait still; what comes takes its command away
+answers-all : (joined : Bool) (D : ℕ → Sent → Type 0) (now there n : ℕ) (from to from' to' : End) (q p : Peering) → PutsMany now there n from to from' to' → Joint joined from to → from.peer ≡ Some q → q.state ≡ state.Connected
+    → to.peer ≡ Some p → p.state ≡ state.Connected → ((channel : ℕ) (t : Sent) → HasSent p.outbox.senders channel t → D channel t ⊎ AnswersAt q channel t.command.number)
+    → (r : Peering) × (to'.peer ≡ Some r) × (s : Peering) × (from'.peer ≡ Some s) × ((channel : ℕ) (t : Sent) → HasSent r.outbox.senders channel t → D channel t ⊎ AnswersAt s channel t.command.number)
+answers-all joined D now there zero from to from' to' q p m j is on other_is other_on all =
+    (p, ap (λ (x : End). x.peer) m.1 ∙ other_is, q, ap (λ (x : End). x.peer) m.0 ∙ is, all)
+answers-all joined D now there (suc n) from to from' to' q p m j is on other_is other_on all =
+    answers-all joined D now there n m.0 m.1 from' to' (put_out q now) came.peer m.3 next g.peer on came.is came.connected left
+  where
+    o : PutsOne now there from to m.0 m.1
+    o = m.2
+
+    g : Gone now from to m.0 q o.new
+    g = gone now from to m.0 q o.new o.goes is on o.logged
+
+    out : Joint joined m.0 to
+    out = joint-event joined from to m.0 (Emit now) o.goes j
+
+    next : Joint joined m.0 m.1
+    next = all-joint joined there (now % 65536) m.0 o.new to m.1 o.come out
+
+    came : Came to m.1 p
+    came = all-came there (now % 65536) m.0 o.new to m.1 p o.come other_is other_on
+
+    left : (channel : ℕ) (t : Sent) → HasSent came.peer.outbox.senders channel t → D channel t ⊎ AnswersAt (put_out q now) channel t.command.number
+    left channel t h = by (all channel t old)
+      where
+        old : HasSent p.outbox.senders channel t
+        old = came.kept.sent channel t h
+
+        by : D channel t ⊎ AnswersAt q channel t.command.number → D channel t ⊎ AnswersAt (put_out q now) channel t.command.number
+        by (inl d) = inl d
+        by (inr w) = elim ((go-or-stay (pace_of q now) q.outbox).acknowledgements a w.1) [
+          | inl stays ↦ inr (w.0, stays)
+          | inr went ↦
+              let put = g.put (acknowledgement_of a) went in
+              let low = low-channel joined to from p channel t.command.number (joint-swap joined from to j) other_is (old.0, old.1, Has-nums old.0.sender.sent t old.2) in
+              let none = came-none joined there (now % 65536) m.0 o.new to m.1 p put.0 a o.come put.1 out other_is other_on low put.3 put.2 (put.5 refl) in
+              let it : none.0 ≡ came.peer = same-peer m.1 none.0 came.peer none.1 came.is in
+              absurd (none.2 t (subst (λ (y : Peering). HasSent y.outbox.senders channel t) (sym it) h) refl)
+        ]
+          where
+            a : Acknowledgement
+            a = record { channel = channel; number = t.command.number; time = w.0 }
 
 -- the one end puts out all that it may, and then the other does
-record Exchanged (joined : Bool) (now : ℕ) (p0 q0 : Peering) (from1 to1 to2 from2 : End) : Type 0 where
-  first : Sending joined p0 q0 from1 to1
-  then' : Sending joined first.other first.peer to2 from2
+record Exchanged (joined : Bool) (D : ℕ → Sent → Type 0) (now : ℕ) (p0 q0 : Peering) (from1 to1 to2 from2 : End) : Type 0 where
+  first : Sending joined D p0 q0 from1 to1
+  then' : Sending joined (HasSent first.other.outbox.senders) first.other first.peer to2 from2
+  -- nothing waits any more whose acknowledgement was on its way
+  none : (channel : ℕ) (t : Sent) → HasSent then'.other.outbox.senders channel t → D channel t
+  due : (channel : ℕ) (t : Sent) → HasSent then'.other.outbox.senders channel t → t.transmission.due ≡ false
   least : outstanding_over then'.other.outbox.senders ≤ outstanding_over p0.outbox.senders
   how : (outstanding_over then'.other.outbox.senders < outstanding_over p0.outbox.senders)
       ⊎ ((then'.other.outbox.senders ≡ p0.outbox.senders) × (first.peer.outbox.senders ≡ p0.outbox.senders) × NothingMayGo (pace_of first.peer now) first.peer.outbox)
 
-exchanged : (joined : Bool) (now there : ℕ) (p0 q0 : Peering) (from to from1 to1 to2 from2 : End) → Joint joined from to → from.peer ≡ Some p0 → p0.state ≡ state.Connected → to.peer ≡ Some q0 → q0.state ≡ state.Connected
-    → PutsAll now there from to from1 to1 → PutsAll there now to1 from1 to2 from2 → Exchanged joined now p0 q0 from1 to1 to2 from2
-exchanged joined now there p0 q0 from to from1 to1 to2 from2 j is on other_is other_on forth back = record {
+exchanged : (joined : Bool) (D : ℕ → Sent → Type 0) (now there : ℕ) (p0 q0 : Peering) (from to from1 to1 to2 from2 : End) → Joint joined from to → from.peer ≡ Some p0 → p0.state ≡ state.Connected → to.peer ≡ Some q0 → q0.state ≡ state.Connected
+    → PutsAll now there from to from1 to1 → PutsAll there now to1 from1 to2 from2 → ((channel : ℕ) (t : Sent) → HasSent p0.outbox.senders channel t → D channel t ⊎ OnItsWay to channel t.command.number)
+    → Exchanged joined D now p0 q0 from1 to1 to2 from2
+exchanged joined D now there p0 q0 from to from1 to1 to2 from2 j is on other_is other_on forth back all = record {
   first = s;
   then' = t;
+  none = none;
+  due = due;
   least = (let a = s.least in let b = kept-least s.peer t.other t.other_kept in omega arith);
   how = by s.how;
 }
   where
-    s : Sending joined p0 q0 from1 to1
-    s = sending-many joined now there forth.datagrams p0 q0 from to from1 to1 forth.puts (sending-start joined p0 q0 from to j is on other_is other_on)
+    s : Sending joined D p0 q0 from1 to1
+    s = sending-many joined D now there forth.datagrams p0 q0 from to from1 to1 forth.puts (sending-start joined D p0 q0 from to j is on other_is other_on all)
 
-    t : Sending joined s.other s.peer to2 from2
-    t = sending-many joined there now back.datagrams s.other s.peer to1 from1 to2 from2 back.puts (sending-start joined s.other s.peer to1 from1 (joint-swap joined from1 to1 s.joint) s.other_is s.other_connected s.is s.connected)
+    E : ℕ → Sent → Type 0
+    E = HasSent s.other.outbox.senders
+
+    t : Sending joined E s.other s.peer to2 from2
+    t = sending-many joined E there now back.datagrams s.other s.peer to1 from1 to2 from2 back.puts (sending-start joined E s.other s.peer to1 from1 (joint-swap joined from1 to1 s.joint) s.other_is s.other_connected s.is s.connected (λ channel x h. inl h))
 
     u : Peering
     u = t.other
+
+    at : (channel : ℕ) (x : Sent) → HasSent s.peer.outbox.senders channel x → D channel x ⊎ AnswersAt s.other channel x.command.number
+    at channel x h = elim (s.all channel x h) [
+      | inl d ↦ inl d
+      | inr w ↦ inr (w.0, subst (λ (y : Peering). Has y.outbox.acknowledgements (record { channel = channel; number = x.command.number; time = w.0 })) (same-peer to1 w.1 s.other w.2 s.other_is) w.3)
+    ]
+
+    none : (channel : ℕ) (x : Sent) → HasSent u.outbox.senders channel x → D channel x
+    none channel x h =
+        let r = answers-all joined D there now back.datagrams to1 from1 to2 from2 s.other s.peer back.puts (joint-swap joined from1 to1 s.joint) s.other_is s.other_connected s.is s.connected at in
+        let it : r.0 ≡ u = same-peer from2 r.0 u r.1 t.other_is in
+        let rests = back.spent r.2 r.3 in
+        elim (r.4 channel x (subst (λ (y : Peering). HasSent y.outbox.senders channel x) (sym it) h)) [
+          | inl d ↦ d
+          | inr w ↦ absurd (subst (λ (l : List Acknowledgement). Has l (record { channel = channel; number = x.command.number; time = w.0 })) rests.acknowledgements w.1)
+        ]
+
+    due : (channel : ℕ) (x : Sent) → HasSent u.outbox.senders channel x → x.transmission.due ≡ false
+    due channel x h =
+        let before : HasSent s.peer.outbox.senders channel x = t.other_kept.sent channel x h in
+        let rests = forth.spent s.peer s.is in
+        sender-rests (occasion (pace_of s.peer now) s.peer.outbox) before.0.sender (rests.channels channel before.0 before.1) x before.2
 
     by : (s.peer.outbox.senders ≡ p0.outbox.senders) ⊎ ((outstanding_over s.peer.outbox.senders < outstanding_over p0.outbox.senders) ⊎ Coming to1 s.peer)
         → (outstanding_over u.outbox.senders < outstanding_over p0.outbox.senders) ⊎ ((u.outbox.senders ≡ p0.outbox.senders) × (s.peer.outbox.senders ≡ p0.outbox.senders) × NothingMayGo (pace_of s.peer now) s.peer.outbox)
@@ -222,6 +335,9 @@ record Ticked (now : ℕ) (p q : Peering) : Type 0 where
   over : outstanding_over q.outbox.senders ≡ outstanding_over p.outbox.senders
   mtu : q.terms.mtu ≡ p.terms.mtu
   idle : NoneDue q.outbox.senders → (q.outbox.senders ≡ p.outbox.senders) × NoneLate now p.outbox.senders
+  from : (channel : ℕ) (t : Sent) → HasSent q.outbox.senders channel t → t.transmission.due ≡ false → HasSent p.outbox.senders channel t × (has_waited_out now t ≡ false)
+  was : (channel : ℕ) (t : Sent) → HasSent q.outbox.senders channel t → (x : Sent) × HasSent p.outbox.senders channel x × (x.command.number ≡ t.command.number)
+  acknowledgements : q.outbox.acknowledgements ≡ p.outbox.acknowledgements
 
 over-marked : (bound now : ℕ) (xs : List SendingEnd) → outstanding_over (map (marked_sender bound now) xs) ≡ outstanding_over xs
 over-marked bound now [] = refl
@@ -260,12 +376,18 @@ all-marks-none bound now (x ∷ xs) h =
       ]),
     )
 
+-- what is sent after the marks
+sent-marked : (bound now : ℕ) (xs : List SendingEnd) (channel : ℕ) (t : Sent) → HasSent (map (marked_sender bound now) xs) channel t → (x : SendingEnd) × (slice_get xs channel ≡ Some x) × Has (map (marked bound now) x.sender.sent) t
+sent-marked bound now xs channel t h =
+    let m = get-map (marked_sender bound now) xs channel h.0 h.1 in
+    (m.0, m.1, subst (λ (y : SendingEnd). Has y.sender.sent t) (sym m.2) h.2)
+
 state-pinged : (q : Peering) (now : ℕ) → (pinged q now).state ≡ q.state
 state-pinged q now = elim (is_pinged q now) as (λ b. (cond b (record q { outbox = with_control q.outbox control.Ping }) q).state ≡ q.state) [ true ↦ refl | false ↦ refl ]
 
 ticked-pinged : (p q : Peering) (now : ℕ) → Ticked now p q → Ticked now p (pinged q now)
 ticked-pinged p q now k = elim (is_pinged q now) as (λ b. Ticked now p (cond b (record q { outbox = with_control q.outbox control.Ping }) q)) [
-  | true ↦ record { over = k.over; mtu = k.mtu; idle = k.idle }
+  | true ↦ record { over = k.over; mtu = k.mtu; idle = k.idle; from = k.from; was = k.was; acknowledgements = k.acknowledgements }
   | false ↦ k
 ]
 
@@ -289,6 +411,9 @@ ticked-so p now stays = by (has_ended p.outbox now p.patience p.heard) (has_late
           over = over-marked (growth_bound p) now p.outbox.senders;
           mtu = refl;
           idle = λ h. all-marks-none (growth_bound p) now p.outbox.senders h;
+          from = λ channel t h due. (let m = sent-marked (growth_bound p) now p.outbox.senders channel t h in let k = from-marked (growth_bound p) now m.0.sender.sent t m.2 due in ((m.0, m.1, k.0), k.1));
+          was = λ channel t h. (let m = sent-marked (growth_bound p) now p.outbox.senders channel t h in let k = Has-mapped (marked (growth_bound p) now) m.0.sender.sent t m.2 in (k.0, (m.0, m.1, k.1), ap (λ (y : Sent). y.command.number) k.2));
+          acknowledgements = refl;
         }))
     by false false e f =
         let is : ticked p now ≡ pinged (after false false) now = (λ i. pinged (after_timeouts_by (cond (e i) Ends (cond (f i) Resend No)) p now) now) in
@@ -296,6 +421,9 @@ ticked-so p now stays = by (has_ended p.outbox now p.patience p.heard) (has_late
           over = refl;
           mtu = refl;
           idle = λ h. (refl, λ s k t m. none-of (has_waited_out now) s.sender.sent t (none-of (λ (y : SendingEnd). list_any (has_waited_out now) y.sender.sent) p.outbox.senders s (or-both _ _ f).1 k) m);
+          from = λ channel t h due. (h, none-of (has_waited_out now) h.0.sender.sent t (none-of (λ (y : SendingEnd). list_any (has_waited_out now) y.sender.sent) p.outbox.senders h.0 (or-both _ _ f).1 (Has-at p.outbox.senders channel h.0 h.1)) h.2);
+          was = λ channel t h. (t, h, refl);
+          acknowledgements = refl;
         }))
 
 -- ---- nothing went
@@ -356,15 +484,32 @@ only-waits now p p0 v u t fit at_v mtu at_u rests = record {
 tick-peer : (own other new : End) (now : ℕ) (p : Peering) → Happens own other (Tick now) new → own.peer ≡ Some p → new.peer ≡ Some (ticked p now)
 tick-peer own other new now p h is = ap (λ (e : End). e.peer) h.2 ∙ ap (λ (x : Peering). Some (ticked x now)) (same-peer own h.0 p h.1 is)
 
--- the round's end
-pub record Rounded (joined : Bool) (now there : ℕ) (p q : Peering) {c d : Connection} (r : RoundOfBoth now there c d) : Type 0 where
+-- by a round's moments no patience is over
+one-ticks : (now there : ℕ) (c d : Connection) (p : Peering) → IsOpen c.one p → RoundOfBoth now there c d → Ticked now p (ticked p now)
+one-ticks now there c d p o r = ticked-so p now (r.patient_one (ticked p now) (tick-peer c.one c.two r.one now p r.ticks_one o.is))
+
+two-ticks : (now there : ℕ) (c d : Connection) (q : Peering) → IsOpen c.two q → RoundOfBoth now there c d → Ticked there q (ticked q there)
+two-ticks now there c d q o r = ticked-so q there (r.patient_two (ticked q there) (tick-peer c.two r.one r.two there q r.ticks_two o.is))
+
+-- the round's end, where of what waits at the one end each command has a property, or its acknowledgement is on its way, and of what waits
+-- at the other each has one
+pub record Rounded (joined : Bool) (D E : ℕ → Sent → Type 0) (now there : ℕ) (p q : Peering) {c d : Connection} (r : RoundOfBoth now there c d) : Type 0 where
   pub progresses : ProgressesBoth now there p q r
   pub joint : Joint joined d.one d.two
   pub on_one : progresses.one.state ≡ state.Connected
   pub on_two : progresses.two.state ≡ state.Connected
+  pub between : Peering
+  pub is_between : r.one_in.peer ≡ Some between
+  pub none_one : (channel : ℕ) (t : Sent) → HasSent between.outbox.senders channel t → D channel t
+  pub due_one : (channel : ℕ) (t : Sent) → HasSent between.outbox.senders channel t → t.transmission.due ≡ false
+  pub none_two : (channel : ℕ) (t : Sent) → HasSent progresses.two.outbox.senders channel t → E channel t
+  pub due_two : (channel : ℕ) (t : Sent) → HasSent progresses.two.outbox.senders channel t → t.transmission.due ≡ false
+  pub way : (channel : ℕ) (t : Sent) → HasSent progresses.one.outbox.senders channel t → HasSent between.outbox.senders channel t ⊎ OnItsWay d.two channel t.command.number
 
-pub rounded : (joined : Bool) (now there : ℕ) (c d : Connection) (p q : Peering) → Invariant joined c → IsOpen c.one p → IsOpen c.two q → (r : RoundOfBoth now there c d) → Rounded joined now there p q r
-rounded joined now there c d p q i open_one open_two r = record {
+rounded : (joined : Bool) (D E : ℕ → Sent → Type 0) (now there : ℕ) (c d : Connection) (p q : Peering) → Invariant joined c → IsOpen c.one p → IsOpen c.two q → (r : RoundOfBoth now there c d)
+    → ((channel : ℕ) (t : Sent) → HasSent (ticked p now).outbox.senders channel t → D channel t ⊎ OnItsWay c.two channel t.command.number)
+    → ((channel : ℕ) (t : Sent) → HasSent (ticked q there).outbox.senders channel t → E channel t) → Rounded joined D E now there p q r
+rounded joined D E now there c d p q i open_one open_two r waits_one waits_two = record {
   progresses = record {
     one = b.then'.peer;
     is_one = b.then'.is;
@@ -375,6 +520,13 @@ rounded joined now there c d p q i open_one open_two r = record {
   joint = b.then'.joint;
   on_one = b.then'.connected;
   on_two = b.then'.other_connected;
+  between = u;
+  is_between = a.then'.other_is;
+  none_one = a.none;
+  due_one = a.due;
+  none_two = b.none;
+  due_two = b.due;
+  way = λ channel t h. elim (b.then'.all channel t h) [ inl old ↦ inl (subst (λ (x : Peering). HasSent x.outbox.senders channel t) (same-peer r.one_in b.first.other u b.first.other_is a.then'.other_is) old) | inr w ↦ inr w ];
 }
   where
     p0 : Peering
@@ -396,10 +548,22 @@ rounded joined now there c d p q i open_one open_two r = record {
     two_on = r.patient_two q0 two_is
 
     tick_one : Ticked now p p0
-    tick_one = ticked-so p now one_on
+    tick_one = one-ticks now there c d p open_one r
 
     tick_two : Ticked there q q0
-    tick_two = ticked-so q there two_on
+    tick_two = two-ticks now there c d q open_two r
+
+    waits : (channel : ℕ) (t : Sent) → HasSent p0.outbox.senders channel t → D channel t ⊎ OnItsWay r.two channel t.command.number
+    waits channel t h = elim (waits_one channel t h) [
+      | inl x ↦ inl x
+      | inr w ↦ inr (
+        w.0,
+        q0,
+        two_is,
+        subst (λ (l : List Acknowledgement). Has l (record { channel = channel; number = t.command.number; time = w.0 })) (sym tick_two.acknowledgements)
+            (subst (λ (x : Peering). Has x.outbox.acknowledgements (record { channel = channel; number = t.command.number; time = w.0 })) (same-peer c.two w.1 q w.2 open_two.is) w.3),
+      )
+    ]
 
     joint_one : Joint joined r.one c.two
     joint_one = joint-event joined c.one c.two r.one (Tick now) r.ticks_one i
@@ -407,14 +571,15 @@ rounded joined now there c d p q i open_one open_two r = record {
     joint : Joint joined r.one r.two
     joint = joint-swap joined r.two r.one (joint-event joined c.two r.one r.two (Tick there) r.ticks_two (joint-swap joined r.one c.two joint_one))
 
-    a : Exchanged joined now p0 q0 r.one_out r.two_in r.two_out r.one_in
-    a = exchanged joined now there p0 q0 r.one r.two r.one_out r.two_in r.two_out r.one_in joint one_is one_on two_is two_on r.forth r.back
+    a : Exchanged joined D now p0 q0 r.one_out r.two_in r.two_out r.one_in
+    a = exchanged joined D now there p0 q0 r.one r.two r.one_out r.two_in r.two_out r.one_in joint one_is one_on two_is two_on r.forth r.back waits
 
     q1 : Peering
     q1 = a.first.other
 
-    b : Exchanged joined there q1 a.first.peer r.two_out r.one_in d.one d.two
-    b = exchanged joined there now q1 a.first.peer r.two_in r.one_out r.two_out r.one_in d.one d.two (joint-swap joined r.one_out r.two_in a.first.joint) a.first.other_is a.first.other_connected a.first.is a.first.connected r.back r.answers
+    b : Exchanged joined E there q1 a.first.peer r.two_out r.one_in d.one d.two
+    b = exchanged joined E there now q1 a.first.peer r.two_in r.one_out r.two_out r.one_in d.one d.two (joint-swap joined r.one_out r.two_in a.first.joint) a.first.other_is a.first.other_connected a.first.is a.first.connected r.back r.answers
+        (λ channel t h. inl (waits_two channel t (a.first.other_kept.sent channel t h)))
 
     u : Peering
     u = a.then'.other
@@ -438,27 +603,68 @@ rounded joined now there c d p q i open_one open_two r = record {
       only-waits there q q0 b.first.peer b.then'.other tick_two open_two.fit (y.1 ∙ z) (b.first.mtu ∙ a.first.other_kept.mtu) (y.0 ∙ z) y.2,
     )
 
+-- of what waited before
+as-before : (joined : Bool) (now there : ℕ) (c d : Connection) (p q : Peering) → Invariant joined c → IsOpen c.one p → IsOpen c.two q → (r : RoundOfBoth now there c d)
+    → Rounded joined (HasSent (ticked p now).outbox.senders) (HasSent (ticked q there).outbox.senders) now there p q r
+as-before joined now there c d p q i open_one open_two r =
+    rounded joined (HasSent (ticked p now).outbox.senders) (HasSent (ticked q there).outbox.senders) now there c d p q i open_one open_two r (λ channel t h. inl h) (λ channel t h. h)
+
 pub round-progresses : (joined : Bool) (now there : ℕ) (c d : Connection) (p q : Peering) → Invariant joined c → IsOpen c.one p → IsOpen c.two q → (r : RoundOfBoth now there c d) → ProgressesBoth now there p q r
-round-progresses joined now there c d p q i open_one open_two r = (let k = rounded joined now there c d p q i open_one open_two r in k.progresses)
+round-progresses joined now there c d p q i open_one open_two r = (let k = as-before joined now there c d p q i open_one open_two r in k.progresses)
+
+pub round-acknowledges : (joined : Bool) (now there : ℕ) (c d : Connection) (p q : Peering) → Invariant joined c → IsOpen c.one p → IsOpen c.two q → (r : RoundOfBoth now there c d) → AllAcknowledged now there p q r
+round-acknowledges joined now there c d p q i open_one open_two r = record {
+  one = k.between;
+  is_one = k.is_between;
+  old_one = λ channel t h. (let f = (one-ticks now there c d p open_one r).from channel t (k.none_one channel t h) (k.due_one channel t h) in (f.0, k.due_one channel t h, f.1));
+  two = k.progresses.two;
+  is_two = k.progresses.is_two;
+  old_two = λ channel t h. (let f = (two-ticks now there c d q open_two r).from channel t (k.none_two channel t h) (k.due_two channel t h) in (f.0, k.due_two channel t h, f.1));
+}
+  where
+    k : Rounded joined (HasSent (ticked p now).outbox.senders) (HasSent (ticked q there).outbox.senders) now there p q r
+    k = as-before joined now there c d p q i open_one open_two r
 
 -- ---- rounds, one after another
 abbrev total : Peering → Peering → ℕ
 total p q = outstanding_over p.outbox.senders + outstanding_over q.outbox.senders
 
--- where time alone passed though all timeouts were over, nothing is outstanding
-none-waits : (now : ℕ) (p u : Peering) → OnlyWaits now p u → AllOver now p → (outstanding_over p.outbox.senders ≡ 0) × (outstanding_over u.outbox.senders ≡ 0)
-none-waits now p u o over = (sym (ap outstanding_over o.same) ∙ none, none)
+abbrev NothingSent : Peering → Type 0
+NothingSent p = (channel : ℕ) (t : Sent) → HasSent p.outbox.senders channel t → ⊥
+
+-- where time alone passed and nothing waits, nothing is outstanding
+none-waits : (now : ℕ) (p u : Peering) → OnlyWaits now p u → NothingSent u → (outstanding_over p.outbox.senders ≡ 0) × (outstanding_over u.outbox.senders ≡ 0)
+none-waits now p u o nothing = (sym (ap outstanding_over o.same) ∙ none, none)
   where
     none : outstanding_over u.outbox.senders ≡ 0
     none = elim o.waits [
       | inl z ↦ z
-      | inr w ↦
-          let fresh = o.fresh w.0 w.1 w.2 w.3 in
-          absurd (elim (over w.0 (subst (λ (l : List SendingEnd). Has l w.0) o.same w.1) w.2 w.3) [
-            | inl due ↦ (let z : true ≡ false = sym due ∙ fresh.0 in cc)
-            | inr late ↦ (let z : true ≡ false = sym late ∙ fresh.1 in cc)
-          ])
+      | inr w ↦ (let i = has-place u.outbox.senders w.0 w.1 in absurd (nothing i.0 w.2 (w.0, i.1, w.3)))
     ]
+
+-- where nothing waits between the one end's turns, nor at the other end at last, fewer are outstanding, or none
+less-or-none : (joined : Bool) (D E : ℕ → Sent → Type 0) (now there : ℕ) (p q : Peering) (c d : Connection) (r : RoundOfBoth now there c d) (k : Rounded joined D E now there p q r) → NothingSent k.between → NothingSent k.progresses.two
+    → (total k.progresses.one k.progresses.two < total p q) ⊎ (total k.progresses.one k.progresses.two ≡ 0)
+less-or-none joined D E now there p q c d r k none_one none_two = elim k.progresses.less [
+  | inl less ↦ inl less
+  | inr w ↦
+      let same : k.between ≡ w.1.0 = same-peer r.one_in k.between w.1.0 k.is_between w.1.1 in
+      let x = none-waits now p w.1.0 w.1.2 (subst NothingSent same none_one) in
+      let y = none-waits there q k.progresses.two w.2 none_two in
+      inr (let a = w.0 in let z = x.0 in let t = y.1 in omega arith)
+]
+
+-- all that waits at the one end was acknowledged, by what waits to go at the other, where nothing waits
+record Fresh (c : Connection) (p q : Peering) : Type 0 where
+  one : (channel : ℕ) (t : Sent) → HasSent p.outbox.senders channel t → OnItsWay c.two channel t.command.number
+  two : NothingSent q
+
+fresh-after : (joined : Bool) (D E : ℕ → Sent → Type 0) (now there : ℕ) (p q : Peering) (c d : Connection) (r : RoundOfBoth now there c d) (k : Rounded joined D E now there p q r) → NothingSent k.between → NothingSent k.progresses.two
+    → Fresh d k.progresses.one k.progresses.two
+fresh-after joined D E now there p q c d r k none_one none_two = record {
+  one = λ channel t h. elim (k.way channel t h) [ inl old ↦ absurd (none_one channel t old) | inr w ↦ w ];
+  two = none_two;
+}
 
 -- of what is nowhere outstanding, nothing is left on any channel
 nothing-left : (xs : List SendingEnd) (channel : ℕ) → outstanding_over xs ≡ 0 → (left (sender_in (slice_get xs channel))).reliable ≡ false
@@ -487,20 +693,49 @@ both-through joined d p q i is_one is_two on_one on_two none = record {
   back = λ channel low. delivered-back joined d channel i low q p (record { from_is = is_two; to_is = is_one; sends = ap sends_in on_two; dispatches = ap dispatches_in on_one; none = nothing-left q.outbox.senders channel (omega arith) });
 }
 
-pub all-get-through : (joined : Bool) (moments : List (ℕ × ℕ)) (c d : Connection) (p q : Peering) → Invariant joined c → c.one.peer ≡ Some p → c.two.peer ≡ Some q → p.state ≡ state.Connected → q.state ≡ state.Connected
+-- rounds from there on
+fresh-rounds : (joined : Bool) (moments : List (ℕ × ℕ)) (c d : Connection) (p q : Peering) → Invariant joined c → c.one.peer ≡ Some p → c.two.peer ≡ Some q → p.state ≡ state.Connected → q.state ≡ state.Connected → Fresh c p q
     → RoundsOfBoth moments c d → total p q ≤ length moments → BothThrough d
-all-get-through joined [] c d p q i is_one is_two on_one on_two r few = subst BothThrough (sym r) (both-through joined c p q i is_one is_two on_one on_two (omega arith))
-all-get-through joined (m ∷ moments) c d p q i is_one is_two on_one on_two r few =
-    let b : Connection = r.6 in
-    let k = rounded joined m.0 m.1 c b r.0 r.1 i r.2 r.3 r.7 in
-    let g = k.progresses in
-    let same_one : r.0 ≡ p = same-peer c.one r.0 p r.2.is is_one in
-    let same_two : r.1 ≡ q = same-peer c.two r.1 q r.3.is is_two in
-    let was : total r.0 r.1 ≡ total p q = (λ j. total (same_one j) (same_two j)) in
-    all-get-through joined moments b d g.one g.two k.joint g.is_one g.is_two k.on_one k.on_two r.8 (elim g.less [
-      | inl less ↦ (let w = was in omega arith)
-      | inr w ↦
-          let x = none-waits m.0 r.0 w.1.0 w.1.2 r.4 in
-          let y = none-waits m.1 r.1 g.two w.2 r.5 in
-          (let a = w.0 in let z = x.0 in let t = y.1 in omega arith)
-    ])
+fresh-rounds joined [] c d p q i is_one is_two on_one on_two f r few = subst BothThrough (sym r) (both-through joined c p q i is_one is_two on_one on_two (omega arith))
+fresh-rounds joined (m ∷ moments) c d p q i is_one is_two on_one on_two f r few =
+    fresh-rounds joined moments r.4 d k.progresses.one k.progresses.two k.joint k.progresses.is_one k.progresses.is_two k.on_one k.on_two (fresh-after joined None' None' m.0 m.1 r.0 r.1 c r.4 r.5 k k.none_one k.none_two) r.6
+    (elim (less-or-none joined None' None' m.0 m.1 r.0 r.1 c r.4 r.5 k k.none_one k.none_two) [ inl less ↦ (let w = was in omega arith) | inr none ↦ omega arith ])
+  where
+    None' : ℕ → Sent → Type 0
+    None' channel t = ⊥
+
+    same_one : r.0 ≡ p
+    same_one = same-peer c.one r.0 p r.2.is is_one
+
+    same_two : r.1 ≡ q
+    same_two = same-peer c.two r.1 q r.3.is is_two
+
+    was : total r.0 r.1 ≡ total p q
+    was = λ j. total (same_one j) (same_two j)
+
+    k : Rounded joined None' None' m.0 m.1 r.0 r.1 r.5
+    k = rounded joined None' None' m.0 m.1 c r.4 r.0 r.1 i r.2 r.3 r.5
+        (λ channel t h. (let w = (one-ticks m.0 m.1 c r.4 r.0 r.2 r.5).was channel t h in
+        inr (subst (λ n. OnItsWay c.two channel n) w.2 (f.one channel w.0 (subst (λ (x : Peering). HasSent x.outbox.senders channel w.0) same_one w.1)))))
+        (λ channel t h. (let w = (two-ticks m.0 m.1 c r.4 r.1 r.3 r.5).was channel t h in f.two channel w.0 (subst (λ (x : Peering). HasSent x.outbox.senders channel w.0) same_two w.1)))
+
+pub all-get-through : (joined : Bool) (now there : ℕ) (moments : List (ℕ × ℕ)) (c b d : Connection) (p q : Peering) → Invariant joined c → IsOpen c.one p → IsOpen c.two q → AllOver now p → AllOver there q
+    → RoundOfBoth now there c b → RoundsOfBoth moments b d → total p q ≤ length moments → BothThrough d
+all-get-through joined now there moments c b d p q i open_one open_two over_one over_two r rest few =
+    fresh-rounds joined moments b d k.progresses.one k.progresses.two k.joint k.progresses.is_one k.progresses.is_two k.on_one k.on_two (fresh-after joined _ _ now there p q c b r k none_one none_two) rest
+    (elim (less-or-none joined _ _ now there p q c b r k none_one none_two) [ inl less ↦ omega arith | inr none ↦ omega arith ])
+  where
+    k : Rounded joined (HasSent (ticked p now).outbox.senders) (HasSent (ticked q there).outbox.senders) now there p q r
+    k = as-before joined now there c b p q i open_one open_two r
+
+    gone : (when : ℕ) (x : Peering) (channel : ℕ) (t : Sent) → AllOver when x → HasSent x.outbox.senders channel t → t.transmission.due ≡ false → has_waited_out when t ≡ false → ⊥
+    gone when x channel t over h due late = elim (over h.0 (Has-at x.outbox.senders channel h.0 h.1) t h.2) [
+      | inl e ↦ (let z : true ≡ false = sym e ∙ due in cc)
+      | inr e ↦ (let z : true ≡ false = sym e ∙ late in cc)
+    ]
+
+    none_one : NothingSent k.between
+    none_one channel t h = (let f = (one-ticks now there c b p open_one r).from channel t (k.none_one channel t h) (k.due_one channel t h) in gone now p channel t over_one f.0 (k.due_one channel t h) f.1)
+
+    none_two : NothingSent k.progresses.two
+    none_two channel t h = (let f = (two-ticks now there c b q open_two r).from channel t (k.none_two channel t h) (k.due_two channel t h) in gone there q channel t over_two f.0 (k.due_two channel t h) f.1)

@@ -386,7 +386,7 @@ waits-in_time mtu u p s sending h =
     ap (λ z. is_late u.greatest u.greatest z) number ∙ fresh-in_time u.greatest im.0 (omega arith) (omega arith)
 
 -- once the first command of a number is gone, none has that number
-none-left : (mtu last x : ℕ) (cs : List _) (ns : List ℕ) (sent : List Sent) → IsRising ns → ((m : ℕ) → Has ns m → (m ≤ last) × (last < m + 8192)) → Images mtu cs ns sent
+pub none-left : (mtu last x : ℕ) (cs : List _) (ns : List ℕ) (sent : List Sent) → IsRising ns → ((m : ℕ) → Has ns m → (m ≤ last) × (last < m + 8192)) → Images mtu cs ns sent
     → (p : Sent) → Has (drop_first (λ (q : Sent). q.command.number == x) sent) p → p.command.number ≡ x → ⊥
 none-left mtu last x cs [] [] rising near im p h e = h
 none-left mtu last x cs [] (q ∷ sent) rising near im p h e = im

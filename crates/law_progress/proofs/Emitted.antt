@@ -14,7 +14,7 @@ use Rattle.enet_outbox.proofs.Filled.{by-filling}
 use Rattle.enet_receiver.specs.Members.{Has}
 use Rattle.law_connection.proofs.Lists.{Has-push, Has-push_left}
 use Rattle.law_progress.specs.Links.{outstanding_at}
-use Rattle.law_progress.specs.Exchanges.{outstanding_over}
+use Rattle.law_progress.specs.Exchanges.{outstanding_over, HasSent}
 use Rattle.law_progress.proofs.Carried.{nums, set-nums, set-length, Has-nums, Has-more}
 use Rattle.law_progress.proofs.SomethingGoes.{get-set, set-other, set-same, same-number, skipped-length}
 use Rattle.law_progress.proofs.Spent.{Goes, First, Again, goes-of}
@@ -39,6 +39,7 @@ record Stepped (s : Sender) (n : Next) : Type 0 where
   kept : (x : ℕ) → Has (nums s.sent) x → Has (nums n.sender.sent) x
   reliable : AreReliable n.sender.sent
   unreliable : n.command.reliable ≡ false → outstanding_at n.sender < outstanding_at s
+  from : (t : Sent) → Has n.sender.sent t → Has s.sent t ⊎ ((n.command.reliable ≡ true) × (n.command.number ≡ t.command.number))
 
 stepped : (o : Occasion) (s : Sender) (n : Next) → AreReliable s.sent → Goes o s n → Stepped s n
 stepped o s n all (First c rest q may is) = subst (λ (x : Next). Stepped s x) is (by c.reliable refl)
@@ -63,6 +64,7 @@ stepped o s n all (First c rest q may is) = subst (λ (x : Next). Stepped s x) i
       kept = λ x h. Has-more s.sent (p ∷ []) x h;
       reliable = λ t h. elim (Has-pushed s.sent p t h) [ inl same ↦ subst (λ (y : Sent). y.command.reliable ≡ true) same e | inr old ↦ all t old ];
       unreliable = λ f. absurd (let z : true ≡ false = sym e ∙ f in cc);
+      from = λ t h. elim (Has-pushed s.sent p t h) [ inl same ↦ inr (e, ap (λ (y : Sent). y.command.number) same) | inr old ↦ inl old ];
     })
     by false e = subst (λ b. Stepped s (first b)) (sym e) (record {
       least = (let k : length (cond false (s.sent ++ p ∷ []) s.sent) ≡ length s.sent = refl in let f : length s.queued ≡ suc (length rest) = fewer in omega arith);
@@ -70,6 +72,7 @@ stepped o s n all (First c rest q may is) = subst (λ (x : Next). Stepped s x) i
       kept = λ x h. h;
       reliable = all;
       unreliable = λ z. (let k : length (cond false (s.sent ++ p ∷ []) s.sent) ≡ length s.sent = refl in let f : length s.queued ≡ suc (length rest) = fewer in omega arith);
+      from = λ t h. inl h;
     })
 stepped o s n all (Again i p there due is) = subst (λ (x : Next). Stepped s x) is (record {
   least = (let k = set-length s.sent i (again o.now p) in omega arith);
@@ -77,6 +80,7 @@ stepped o s n all (Again i p there due is) = subst (λ (x : Next). Stepped s x) 
   kept = λ x h. subst (λ (l : List ℕ). Has l x) (sym same) h;
   reliable = λ t h. elim (Has-set s.sent i (again o.now p) t h) [ inl now ↦ subst (λ (y : Sent). y.command.reliable ≡ true) now (all p has) | inr old ↦ all t old ];
   unreliable = λ f. absurd (let z : true ≡ false = sym (all p has) ∙ f in cc);
+  from = λ t h. elim (Has-set s.sent i (again o.now p) t h) [ inl now ↦ inr (all p has, ap (λ (y : Sent). y.command.number) now) | inr old ↦ inl old ];
 })
   where
     has : Has s.sent p
@@ -201,3 +205,50 @@ emitted-waits pace o channel number all w = (by-filling pace o (λ f. Emitted o.
   drops_data = λ f k s n t there due kind e. (let p = stepped _ s.sender n (e.0.sound k s there).1 (goes-of _ s.sender n due) in
       (drops o.senders f.messages f.outbox.senders k s n there kind e.0 p, waits-set f.outbox.senders k s (record s { sender = with_skipped n.sender }) channel number there p.kept e.1));
 }) (record { least = omega arith; sound = all; how = inl refl }, w)).1
+
+-- a reliable command of this number was put in
+abbrev pub PutIn : List Message → ℕ → ℕ → Type 0
+PutIn ms channel number = (c : DataCommand) × (c.reliable ≡ true) × (c.number ≡ number) × Has ms (message_of channel c)
+
+-- all that waits waited before, or was put in
+abbrev AllFrom : List SendingEnd → List Message → List SendingEnd → Type 0
+AllFrom xs ms ys = (channel : ℕ) (t : Sent) → HasSent ys channel t → HasSent xs channel t ⊎ PutIn ms channel t.command.number
+
+more-from : (xs : List SendingEnd) (ms : List Message) (ys : List SendingEnd) (m : Message) → AllFrom xs ms ys → AllFrom xs (ms ++ m ∷ []) ys
+more-from xs ms ys m all channel t h = elim (all channel t h) [ inl old ↦ inl old | inr w ↦ inr (w.0, w.1, w.2, Has-push_left ms m (message_of channel w.0) w.3) ]
+
+set-from : (xs : List SendingEnd) (ms : List Message) (ys : List SendingEnd) (k : ℕ) (s new : SendingEnd) (more : List Message) → slice_get ys k ≡ Some s → AllFrom xs ms ys → ((m : Message) → Has ms m → Has more m)
+    → ((t : Sent) → Has new.sender.sent t → Has s.sender.sent t ⊎ PutIn more k t.command.number) → AllFrom xs more (slice_set ys k new)
+set-from xs ms ys k s new more there all grows from channel t h = elim (get-set ys k channel new h.0 h.1) [
+  | inl w ↦ elim (from t (subst (λ (y : SendingEnd). Has y.sender.sent t) (sym w.1) h.2)) [
+    | inl old ↦ was (all channel t (s, subst (λ j. slice_get ys j ≡ Some s) w.0 there, old))
+    | inr put ↦ inr (subst (λ j. PutIn more j t.command.number) w.0 put)
+  ]
+  | inr w ↦ was (all channel t (h.0, w.1, h.2))
+]
+  where
+    was : HasSent xs channel t ⊎ PutIn ms channel t.command.number → HasSent xs channel t ⊎ PutIn more channel t.command.number
+    was (inl old) = inl old
+    was (inr w) = inr (w.0, w.1, w.2, grows (message_of channel w.0) w.3)
+
+pub emitted-from : (pace : Pace) (o : Outbox) → AreSound o.senders → AllFrom o.senders (filled pace o).messages (filled pace o).outbox.senders
+emitted-from pace o all = (by-filling pace o (λ f. Emitted o.senders f.messages f.outbox.senders × AllFrom o.senders f.messages f.outbox.senders) (record {
+  closes = λ f e. e;
+  acknowledges = λ f a rest t e. (more o.senders f.messages f.outbox.senders _ e.0, more-from o.senders f.messages f.outbox.senders _ e.1);
+  controls = λ f n t e. (more o.senders f.messages f.outbox.senders _ e.0, more-from o.senders f.messages f.outbox.senders _ e.1);
+  puts_unsequenced = λ f u rest t is e. (more o.senders f.messages f.outbox.senders _ e.0, more-from o.senders f.messages f.outbox.senders _ e.1);
+  drops_unsequenced = λ f u rest t is e. e;
+  puts_data = λ f k s n t there due e. (let p = stepped _ s.sender n (e.0.sound k s there).1 (goes-of _ s.sender n due) in (
+    puts o.senders f.messages f.outbox.senders k s n there e.0 p,
+    set-from o.senders f.messages f.outbox.senders k s (record s { sender = n.sender }) (f.messages ++ message_of s.channel n.command ∷ []) there e.1 (λ m h. Has-push_left f.messages (message_of s.channel n.command) m h)
+        (λ x h. elim (p.from x h) [
+          | inl old ↦ inl old
+          | inr w ↦ inr (n.command, w.0, w.1, subst (λ j. Has (f.messages ++ message_of s.channel n.command ∷ []) (message_of j n.command)) (e.0.sound k s there).0 (Has-push f.messages (message_of s.channel n.command)))
+        ]),
+  ));
+  drops_data = λ f k s n t there due kind e. (let p = stepped _ s.sender n (e.0.sound k s there).1 (goes-of _ s.sender n due) in (
+    drops o.senders f.messages f.outbox.senders k s n there kind e.0 p,
+    set-from o.senders f.messages f.outbox.senders k s (record s { sender = with_skipped n.sender }) f.messages there e.1 (λ m h. h)
+        (λ x h. elim (p.from x h) [ inl old ↦ inl old | inr w ↦ absurd (let z : true ≡ false = sym w.0 ∙ kind in cc) ]),
+  ));
+}) (record { least = omega arith; sound = all; how = inl refl }, λ channel t h. inl h)).1

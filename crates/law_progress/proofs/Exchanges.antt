@@ -1,5 +1,5 @@
 -- What two connected ends make of each other's commands where nothing is lost: what goes is acknowledged, over all channels.
-use Rattle.std.proofs.Common.{◌≡◌, ℕ, ◌<◌, Bool, true, false, cond, List, [], ◌∷◌, ◌++◌, length, map, refl, sym, ap, subst, ◌∙◌, inl, inr, arith, Option, Some, None, ◌&&◌}
+use Rattle.std.proofs.Common.{◌≡◌, ℕ, ◌<◌, Bool, true, false, cond, List, [], ◌∷◌, ◌++◌, length, map, refl, sym, ap, subst, ◌∙◌, inl, inr, ◌⊎◌, ◌==◌, arith, Option, Some, None, ◌&&◌}
 use Rattle.std.specs.List.{slice_get}
 use Rattle.enet_codec.specs.declared.command.Fragment.{Fragment}
 use Rattle.enet_codec.specs.Message.{Message, acknowledge}
@@ -14,7 +14,7 @@ use Rattle.enet_outbox.specs.Emission.{filled, acknowledgement_of}
 use Rattle.enet_peer.specs.declared.parts.PeerState.TheVariants as state
 use Rattle.enet_peer.specs.Endings.{is_later, disconnecting}
 use Rattle.enet_peer.specs.Peering.{Peering}
-use Rattle.enet_peer.specs.CommandEffect.{obeyed}
+use Rattle.enet_peer.specs.CommandEffect.{Outcome, obeyed}
 use Rattle.enet_peer.specs.Calls.{pace_of, gone_on, gone_on_in}
 use Rattle.law_connection.specs.Link.{is_late}
 use Rattle.law_connection.specs.LinkSteps.{fresh_link}
@@ -23,19 +23,20 @@ use Rattle.law_connection.specs.Connection.{Put, End, is_acknowledgement, messag
 use Rattle.law_connection.specs.Steps.{Event, Emit, Come, Happens, InTime, One, with_peer, with_emission}
 use Rattle.law_connection.specs.Invariant.{Invariant, IsTidy}
 use Rattle.law_connection.specs.Linked.{ShowsSending, sends_in, sender_in}
+use Rattle.law_connection.proofs.Firsts.{drop_first, without-first}
 use Rattle.law_connection.proofs.FitEnds.{fit-peer}
 use Rattle.law_connection.proofs.Laws.{kept-at}
 use Rattle.law_connection.proofs.LinkRuns.{Sound-runs, Sound-fresh}
 use Rattle.law_connection.proofs.Shown.{Sound}
-use Rattle.law_progress.specs.Exchanges.{Comes, AllCome, outstanding_over}
+use Rattle.law_progress.specs.Exchanges.{Comes, AllCome, outstanding_over, HasSent}
 use Rattle.law_progress.specs.Peers.{Awaits, IsAnswered, IsRemoved}
-use Rattle.law_progress.proofs.Carried.{nums, waits-in_time}
+use Rattle.law_progress.proofs.Carried.{nums, Has-nums, waits-in_time, none-left}
 use Rattle.law_progress.proofs.Emitted.{AreReliable, AreSound, Waits}
 use Rattle.law_progress.proofs.Filling.{Has-push}
 use Rattle.law_progress.proofs.Obeyed.{Kept, kept-self, kept-least, kept-then, hears-kept}
 use Rattle.law_progress.proofs.PeerAnswers.{answers-forth}
 use Rattle.law_progress.proofs.Removed.{removed}
-use Rattle.law_progress.proofs.SomethingGoes.{below-length}
+use Rattle.law_progress.proofs.SomethingGoes.{below-length, same-number}
 use Rattle.law_progress.proofs.Trips.{Has-map, Images-has}
 use Rattle.law_progress.proofs.Waiting.{Has-mapped}
 
@@ -310,6 +311,25 @@ came-answers joined now time from (x ∷ puts) to new p put channel c come (inl 
     answered : IsAnswered q channel time c (obeyed q now (Some time) put.message)
     answered = answers-forth joined (record { one = from; two = to }) p q put channel c now time j low awaits
 
+-- an acknowledgement that waits is in time
+acknowledged-in-time : (joined : Bool) (from to : End) (p : Peering) (put : Put) (a : Acknowledgement) → Joint joined from to → to.peer ≡ Some p → p.state ≡ state.Connected → a.channel < 255 → Waits p.outbox.senders a.channel a.number
+    → put.message ≡ acknowledgement_of a → Has from.log put → put.sent_then ≡ sent_on a.channel to → InTime to from put
+acknowledged-in-time joined from to p put a j is connected low w message logged marked = record {
+  logged = logged;
+  of_data = λ small d e. absurd (let z : None ≡ Some d = ap data_of (sym message) ∙ e in cc);
+  of_acknowledgement = λ small number time e. (let z : number ≡ a.number = one-number (sym e ∙ ap (λ (m : Message). m.body) message) in
+      subst (λ n. is_late (sent_on put.message.head.channel to) put.sent_then n ≡ false) (sym z) (subst (λ n. is_late (sent_on n to) put.sent_then a.number ≡ false) (sym on) fresh));
+}
+  where
+    on : put.message.head.channel ≡ a.channel
+    on = ap (λ (m : Message). m.head.channel) message
+
+    fresh : is_late (sent_on a.channel to) put.sent_then a.number ≡ false
+    fresh = ap (λ g. is_late (sent_on a.channel to) g a.number) marked ∙ timely joined to from p a.channel a.number (joint-swap joined from to j) is connected low w
+
+    one-number : {m n t u : ℕ} → acknowledge m t ≡ acknowledge n u → m ≡ n
+    one-number {m} {n} {t} {u} e = cc
+
 -- an acknowledgement that comes takes its command away
 pub came-less : (joined : Bool) (now time : ℕ) (from : End) (puts : List Put) (to new : End) (p : Peering) (put : Put) (a : Acknowledgement) → AllCome now time from puts to new → Has puts put → Joint joined from to
     → to.peer ≡ Some p → p.state ≡ state.Connected → a.channel < 255 → Waits p.outbox.senders a.channel a.number → put.message ≡ acknowledgement_of a → Has from.log put → put.sent_then ≡ sent_on a.channel to
@@ -346,22 +366,70 @@ came-less joined now time from (x ∷ puts) to new p put a come (inl same) j is 
             absurd (omega arith)
         | inr less ↦ (rest.peer, rest.is, omega arith)
       ]
-  | inr late ↦ absurd (late.0 (subst (λ (y : Put). InTime to from y) (sym same) in-time))
+  | inr late ↦ absurd (late.0 (subst (λ (y : Put). InTime to from y) (sym same) (acknowledged-in-time joined from to p put a j is connected low w message logged marked)))
 ]
+
+-- whether a command of this number waits
+waits-or-not : (sent : List Sent) (number : ℕ) → Has (nums sent) number ⊎ (Has (nums sent) number → ⊥)
+waits-or-not [] number = inr (λ h. h)
+waits-or-not (x ∷ xs) number = elim (same-number x.command.number number) [
+  | inl is ↦ inl (inl is)
+  | inr apart ↦ elim (waits-or-not xs number) [ inl h ↦ inl (inr h) | inr none ↦ inr (λ h. elim h [ inl is ↦ apart is | inr k ↦ none k ]) ]
+]
+
+abbrev NoneOf : List SendingEnd → ℕ → ℕ → Type 0
+NoneOf senders channel number = (t : Sent) → HasSent senders channel t → t.command.number ≡ number → ⊥
+
+-- an acknowledgement that comes takes its command away: the only one of its number
+away-none : (joined : Bool) (from to : End) (p : Peering) (a : Acknowledgement) (w : Waits p.outbox.senders a.channel a.number) (o : Outcome) → Joint joined from to → to.peer ≡ Some p → p.state ≡ state.Connected → a.channel < 255
+    → IsRemoved p a.channel a.number w.0 o → NoneOf o.after.outbox.senders a.channel a.number
+away-none joined from to p a w o j is connected low away t h e =
+    let k = linked joined to from p a.channel (joint-swap joined from to j) is connected low in
+    let here : k.link.outgoing ≡ w.0.sender = k.outgoing ∙ ap sender_in w.1 in
+    let one : Some away.after ≡ Some h.0 = sym away.there ∙ h.1 in
+    let left : Has away.after.sender.sent t = subst (λ (y : SendingEnd). Has y.sender.sent t) (sym (some-is one)) h.2 in
+    let gone : away.after.sender.sent ≡ drop_first (λ (q : Sent). q.command.number == a.number) w.0.sender.sent = ap (λ o. o.sent) away.is ∙ without-first (λ (q : Sent). q.command.number == a.number) w.0.sender.sent in
+    let there : Has (drop_first (λ (q : Sent). q.command.number == a.number) k.link.outgoing.sent) t = subst (λ o. Has (drop_first (λ (q : Sent). q.command.number == a.number) o.sent) t) (sym here) (subst (λ (l : List Sent). Has l t) gone left) in
+    let near = k.sound.numbers.unacked in
+    none-left k.mtu k.sound.link.sent a.number k.sound.link.carried k.sound.link.unacked k.link.outgoing.sent k.sound.shows.rising (λ m i. (let n = near m i in (n.1, n.2))) (k.sound.shows.images k.sending) t there e
+
+pub came-none : (joined : Bool) (now time : ℕ) (from : End) (puts : List Put) (to new : End) (p : Peering) (put : Put) (a : Acknowledgement) → AllCome now time from puts to new → Has puts put → Joint joined from to
+    → to.peer ≡ Some p → p.state ≡ state.Connected → a.channel < 255 → put.message ≡ acknowledgement_of a → Has from.log put → put.sent_then ≡ sent_on a.channel to
+    → (q : Peering) × (new.peer ≡ Some q) × NoneOf q.outbox.senders a.channel a.number
+came-none joined now time from [] to new p put a come has j is connected low message logged marked = absurd has
+came-none joined now time from (x ∷ puts) to new p put a come (inr has) j is connected low message logged marked =
+    let k = one-came now time from x to come.0 p come.1 is in
+    came-none joined now time from puts come.0 new k.peer put a come.2 has (one-joint joined now time from x to come.0 come.1 j) k.is k.connected low message logged (marked ∙ ap (λ (l : List Put). reached a.channel 0 (messages_of l)) (sym k.log))
+came-none joined now time from (x ∷ puts) to new p put a come (inl same) j is connected low message logged marked = by (slice_get p.outbox.senders a.channel) refl
   where
-    on : put.message.head.channel ≡ a.channel
-    on = ap (λ (m : Message). m.head.channel) message
+    k : Came to come.0 p
+    k = one-came now time from x to come.0 p come.1 is
 
-    fresh : is_late (sent_on a.channel to) put.sent_then a.number ≡ false
-    fresh = ap (λ g. is_late (sent_on a.channel to) g a.number) marked ∙ timely joined to from p a.channel a.number (joint-swap joined from to j) is connected low w
+    rest : Came come.0 new k.peer
+    rest = all-came now time from puts come.0 new k.peer come.2 k.is k.connected
 
-    in-time : InTime to from put
-    in-time = record {
-      logged = logged;
-      of_data = λ small d e. absurd (let z : None ≡ Some d = ap data_of (sym message) ∙ e in cc);
-      of_acknowledgement = λ small number t e. (let z : number ≡ a.number = same-number (sym e ∙ ap (λ (m : Message). m.body) message) in
-          subst (λ n. is_late (sent_on put.message.head.channel to) put.sent_then n ≡ false) (sym z) (subst (λ n. is_late (sent_on n to) put.sent_then a.number ≡ false) (sym on) fresh));
-    }
-      where
-        same-number : {m n t u : ℕ} → acknowledge m t ≡ acknowledge n u → m ≡ n
-        same-number {m} {n} {t} {u} e = cc
+    -- where it is none then, it is none at last
+    last : NoneOf k.peer.outbox.senders a.channel a.number → (q : Peering) × (new.peer ≡ Some q) × NoneOf q.outbox.senders a.channel a.number
+    last none = (rest.peer, rest.is, λ t h e. none t (rest.kept.sent a.channel t h) e)
+
+    none-before : NoneOf p.outbox.senders a.channel a.number → (q : Peering) × (new.peer ≡ Some q) × NoneOf q.outbox.senders a.channel a.number
+    none-before none = last (λ t h e. none t (k.kept.sent a.channel t h) e)
+
+    waited : Waits p.outbox.senders a.channel a.number → (q : Peering) × (new.peer ≡ Some q) × NoneOf q.outbox.senders a.channel a.number
+    waited w = elim come.1.after [
+      | inl h ↦
+          let it : h.0 ≡ p = same-peer to h.0 p h.1 is in
+          let after : come.0 ≡ with_peer to (obeyed p now (Some time) x.message).after = subst (λ (y : Peering). come.0 ≡ with_peer to (obeyed y now (Some time) x.message).after) it h.3 in
+          let peer : k.peer ≡ (obeyed p now (Some time) x.message).after = same-peer come.0 k.peer (obeyed p now (Some time) x.message).after k.is (ap (λ (e : End). e.peer) after) in
+          let away : IsRemoved p a.channel a.number w.0 (obeyed p now (Some time) x.message) = subst (λ (m : Message). IsRemoved p a.channel a.number w.0 (obeyed p now (Some time) m)) (sym (ap (λ (y : Put). y.message) same ∙ message))
+          (removed p now (Some time) (acknowledgement_of a) a.number a.time w.0 connected refl refl low w.1 w.2) in
+          last (subst (λ (y : Peering). NoneOf y.outbox.senders a.channel a.number) (sym peer) (away-none joined from to p a w (obeyed p now (Some time) x.message) j is connected low away))
+      | inr late ↦ absurd (late.0 (subst (λ (y : Put). InTime to from y) (sym same) (acknowledged-in-time joined from to p put a j is connected low w message logged marked)))
+    ]
+
+    by : (o : Option SendingEnd) → slice_get p.outbox.senders a.channel ≡ o → (q : Peering) × (new.peer ≡ Some q) × NoneOf q.outbox.senders a.channel a.number
+    by None e = none-before (λ t h f. absurd (let z : Some h.0 ≡ None = sym h.1 ∙ e in cc))
+    by (Some s) e = elim (waits-or-not s.sender.sent a.number) [
+      | inl h ↦ waited (s, e, h)
+      | inr none ↦ none-before (λ t h f. none (subst (λ n. Has (nums s.sender.sent) n) f (Has-nums s.sender.sent t (subst (λ (y : SendingEnd). Has y.sender.sent t) (some-is (sym h.1 ∙ e)) h.2))))
+    ]

@@ -22,24 +22,26 @@ use Rattle.enet_peer.specs.CommandEffect.{obeyed, unless_crowded_out, stopped, i
 use Rattle.enet_peer.specs.CommandEffect as effect
 use Rattle.enet_peer.proofs.Obeying.{unless-holds}
 use Rattle.enet_receiver.specs.Members.{Has}
-use Rattle.law_connection.proofs.Firsts.{drop_first, without-first}
+use Rattle.law_connection.proofs.Firsts.{drop_first, without-first, Has-from_drop}
 use Rattle.law_connection.proofs.Lists.{Has-push_left}
-use Rattle.law_progress.specs.Exchanges.{outstanding_over}
+use Rattle.law_progress.specs.Exchanges.{outstanding_over, HasSent}
 use Rattle.law_progress.proofs.Emitted.{over-set}
+use Rattle.law_progress.proofs.SomethingGoes.{get-set}
 
 pub record Kept (p q : Peering) : Type 0 where
   pub senders : (q.outbox.senders ≡ p.outbox.senders) ⊎ (outstanding_over q.outbox.senders < outstanding_over p.outbox.senders)
   pub mtu : q.terms.mtu ≡ p.terms.mtu
   pub acknowledgements : (a : Acknowledgement) → Has p.outbox.acknowledgements a → Has q.outbox.acknowledgements a
+  pub sent : (channel : ℕ) (t : Sent) → HasSent q.outbox.senders channel t → HasSent p.outbox.senders channel t
 
 pub kept-self : (p : Peering) → Kept p p
-kept-self p = record { senders = inl refl; mtu = refl; acknowledgements = λ a h. h }
+kept-self p = record { senders = inl refl; mtu = refl; acknowledgements = λ a h. h; sent = λ channel t h. h }
 
 pub kept-least : (p q : Peering) → Kept p q → outstanding_over q.outbox.senders ≤ outstanding_over p.outbox.senders
 kept-least p q k = elim k.senders [ inl same ↦ (let e : outstanding_over q.outbox.senders ≡ outstanding_over p.outbox.senders = ap outstanding_over same in omega arith) | inr less ↦ omega arith ]
 
 pub kept-then : (p q r : Peering) → Kept p q → Kept q r → Kept p r
-kept-then p q r a b = record { senders = by a.senders b.senders; mtu = b.mtu ∙ a.mtu; acknowledgements = λ x h. b.acknowledgements x (a.acknowledgements x h) }
+kept-then p q r a b = record { senders = by a.senders b.senders; mtu = b.mtu ∙ a.mtu; acknowledgements = λ x h. b.acknowledgements x (a.acknowledgements x h); sent = λ channel t h. a.sent channel t (b.sent channel t h) }
   where
     by : (q.outbox.senders ≡ p.outbox.senders) ⊎ (outstanding_over q.outbox.senders < outstanding_over p.outbox.senders)
         → (r.outbox.senders ≡ q.outbox.senders) ⊎ (outstanding_over r.outbox.senders < outstanding_over q.outbox.senders)
@@ -57,7 +59,7 @@ answered-stays p e m sent may h = go (m.head.acknowledge && may && is_answered_i
     go : (b : Bool) (o : Option ℕ) → Stays p (cond b (answered_at e m.head o) (record { stop = None; after = e })).after
     go false o = h
     go true None = h
-    go true (Some time) = λ k. (let r = h k in record { senders = r.senders; mtu = r.mtu; acknowledgements = λ a j. Has-push_left e.outbox.acknowledgements _ a (r.acknowledgements a j) })
+    go true (Some time) = λ k. (let r = h k in record { senders = r.senders; mtu = r.mtu; acknowledgements = λ a j. Has-push_left e.outbox.acknowledgements _ a (r.acknowledgements a j); sent = r.sent })
 
 -- an acknowledgement takes one away, if any
 drop-either : (n : ℕ) (xs : List Sent) → (drop_first (λ (q : Sent). q.command.number == n) xs ≡ xs) ⊎ (length (drop_first (λ (q : Sent). q.command.number == n) xs) + 1 ≡ length xs)
@@ -79,14 +81,25 @@ gone-kept p now channel number time = by (channel == 0xFF)
     after o = effect.sampled (record p { outbox = o }) now time
 
     on : (x : Option SendingEnd) → slice_get p.outbox.senders channel ≡ x → Kept p (after (outbox.acknowledged_on p.outbox channel number x))
-    on None e = record { senders = inl refl; mtu = refl; acknowledgements = λ a h. h }
-    on (Some s) e = record { senders = elim (drop-either number s.sender.sent) [ inl a ↦ inl (as-before a) | inr a ↦ inr (fewer a) ]; mtu = refl; acknowledgements = λ a h. h }
+    on None e = record { senders = inl refl; mtu = refl; acknowledgements = λ a h. h; sent = λ k t h. h }
+    on (Some s) e = record { senders = elim (drop-either number s.sender.sent) [ inl a ↦ inl (as-before a) | inr a ↦ inr (fewer a) ]; mtu = refl; acknowledgements = λ a h. h; sent = from }
       where
         new : SendingEnd
         new = record s { sender = sender.after_acknowledgement s.sender number }
 
         is : new.sender.sent ≡ drop_first (λ (q : Sent). q.command.number == number) s.sender.sent
         is = without-first (λ (q : Sent). q.command.number == number) s.sender.sent
+
+        from : (k : ℕ) (t : Sent) → HasSent (slice_set p.outbox.senders channel new) k t → HasSent p.outbox.senders k t
+        from k t h = elim (get-set p.outbox.senders channel k new h.0 h.1) [
+          | inl w ↦ (
+            s,
+            subst (λ j. slice_get p.outbox.senders j ≡ Some s) w.0 e,
+            Has-from_drop (λ (q : Sent). q.command.number == number) s.sender.sent t
+                (subst (λ (l : List Sent). Has l t) is (subst (λ (y : SendingEnd). Has y.sender.sent t) (sym w.1) h.2)),
+          )
+          | inr w ↦ (h.0, w.1, h.2)
+        ]
 
         with_sent : List Sent → SendingEnd
         with_sent l = record s { sender = record s.sender { sent = l } }
@@ -103,14 +116,19 @@ gone-kept p now channel number time = by (channel == 0xFF)
             omega arith
 
     by : (b : Bool) → Kept p (after (cond b (record p.outbox { control = controlling.after_acknowledgement p.outbox.control number }) (outbox.acknowledged_on p.outbox channel number (slice_get p.outbox.senders channel))))
-    by true = record { senders = inl refl; mtu = refl; acknowledgements = λ a h. h }
+    by true = record { senders = inl refl; mtu = refl; acknowledgements = λ a h. h; sent = λ k t h. h }
     by false = on (slice_get p.outbox.senders channel) refl
 
 abbrev connected : Peering → Peering
 connected p = record p { state = state.Connected }
 
 same-stays : (p q : Peering) → q.outbox.senders ≡ p.outbox.senders → q.terms.mtu ≡ p.terms.mtu → q.outbox.acknowledgements ≡ p.outbox.acknowledgements → Stays p q
-same-stays p q senders mtu acks k = record { senders = inl senders; mtu = mtu; acknowledgements = λ a h. subst (λ (l : List Acknowledgement). Has l a) (sym acks) h }
+same-stays p q senders mtu acks k = record {
+  senders = inl senders;
+  mtu = mtu;
+  acknowledgements = λ a h. subst (λ (l : List Acknowledgement). Has l a) (sym acks) h;
+  sent = λ channel t h. subst (λ (l : List SendingEnd). HasSent l channel t) senders h;
+}
 
 acknowledge-stays : (p : Peering) (now channel number time : ℕ) → Stays p (on_acknowledge (connected p) now channel number time)
 acknowledge-stays p now channel number time = by (matched_by p.outbox channel number)
@@ -122,7 +140,7 @@ acknowledge-stays p now channel number time = by (matched_by p.outbox channel nu
     gone = acknowledged old now channel number time
 
     less : Kept p gone
-    less = (let k = gone-kept old now channel number time in record { senders = k.senders; mtu = k.mtu; acknowledgements = k.acknowledgements })
+    less = (let k = gone-kept old now channel number time in record { senders = k.senders; mtu = k.mtu; acknowledgements = k.acknowledgements; sent = k.sent })
 
     by : (x : Matched) → Stays p (on_match x old gone)
     by matched.Nothing = same-stays p old refl refl refl

@@ -21,7 +21,7 @@ use Rattle.law_progress.proofs.SomethingGoes.{head-due}
 use Rattle.law_progress.proofs.Trips.{Has-map}
 
 -- what the clock didn't make due is as before
-from-marked : (bound now : ℕ) (sent : List Sent) (p : Sent) → Has (map (marked bound now) sent) p → p.transmission.due ≡ false → Has sent p × (has_waited_out now p ≡ false)
+pub from-marked : (bound now : ℕ) (sent : List Sent) (p : Sent) → Has (map (marked bound now) sent) p → p.transmission.due ≡ false → Has sent p × (has_waited_out now p ≡ false)
 from-marked bound now [] p h due = absurd h
 from-marked bound now (x ∷ xs) p (inr h) due = let k = from-marked bound now xs p h due in (inr k.0, k.1)
 from-marked bound now (x ∷ xs) p (inl is) due = by (transmission.is_late now x.transmission) refl is

@@ -104,15 +104,31 @@ pub record ProgressesBoth (now there : ℕ) (p q : Peering) {c d : Connection} (
   pub less : (outstanding_over one.outbox.senders + outstanding_over two.outbox.senders < outstanding_over p.outbox.senders + outstanding_over q.outbox.senders)
       ⊎ ((outstanding_over one.outbox.senders ≤ outstanding_over p.outbox.senders) × ((u : Peering) × (r.one_in.peer ≡ Some u) × OnlyWaits now p u) × OnlyWaits there q two)
 
+-- a command that was sent on a channel waits for its acknowledgement
+abbrev pub HasSent : List SendingEnd → ℕ → Sent → Type 0
+HasSent senders channel t = (s : SendingEnd) × (slice_get senders channel ≡ Some s) × Has s.sender.sent t
+
+-- all that waits at the peer u waited at p, as it is, and isn't due to go again, nor has it waited out its timeout
+abbrev pub HasWaited : ℕ → Peering → Peering → Type 0
+HasWaited now p u = (channel : ℕ) (t : Sent) → HasSent u.outbox.senders channel t → HasSent p.outbox.senders channel t × (t.transmission.due ≡ false) × (has_waited_out now t ≡ false)
+
+-- whatever went in a round is acknowledged in it, but for what the one end put out in its second turn
+pub record AllAcknowledged (now there : ℕ) (p q : Peering) {c d : Connection} (r : RoundOfBoth now there c d) : Type 0 where
+  pub one : Peering
+  pub is_one : r.one_in.peer ≡ Some one
+  pub old_one : HasWaited now p one
+  pub two : Peering
+  pub is_two : d.two.peer ≡ Some two
+  pub old_two : HasWaited there q two
+
 -- by this moment all that a peer sent on its channels is due to go again, or has waited out its timeout
 abbrev pub AllOver : ℕ → Peering → Type 0
 AllOver now p = (s : SendingEnd) → Has p.outbox.senders s → AreOver now s.sender.sent
 
--- rounds at these moments, one after another: at the beginning of each both ends are open, and all timeouts will be over by its moments
+-- rounds at these moments, one after another, at the beginning of each of which both ends are open
 abbrev pub RoundsOfBoth : List (ℕ × ℕ) → Connection → Connection → Type 0
 RoundsOfBoth [] c d = d ≡ c
-RoundsOfBoth (m ∷ moments) c d =
-    (p q : Peering) × IsOpen c.one p × IsOpen c.two q × AllOver m.0 p × AllOver m.1 q × (b : Connection) × RoundOfBoth m.0 m.1 c b × RoundsOfBoth moments b d
+RoundsOfBoth (m ∷ moments) c d = (p q : Peering) × IsOpen c.one p × IsOpen c.two q × (b : Connection) × RoundOfBoth m.0 m.1 c b × RoundsOfBoth moments b d
 
 -- what the user of an end submitted reliably on a channel was dispatched at the other end, taken or not, in order
 abbrev pub IsThrough : End → End → Peering → ℕ → Type 0

@@ -57,7 +57,7 @@ ghost use Rattle.law_progress.specs.Attempts.{LastsAtMost, LastsFor, TellsWhenLe
 ghost use Rattle.law_progress.specs.Waits.{NoneWaitsLonger};
 ghost use Rattle.law_progress.specs.Fits.{StaysFit};
 ghost use Rattle.law_progress.specs.Later.{DisconnectsLater, LeavesOrTells};
-ghost use Rattle.law_progress.specs.Exchanges.{IsOpen, RoundOfBoth, ProgressesBoth, RoundsOfBoth, outstanding_over, BothThrough, SomeRound};
+ghost use Rattle.law_progress.specs.Exchanges.{IsOpen, RoundOfBoth, ProgressesBoth, AllAcknowledged, AllOver, RoundsOfBoth, outstanding_over, BothThrough, SomeRound};
 ghost use Rattle.law_progress.specs.Rounds.{Round, Rounds, Progresses, AreOver, HasAllThrough, HasARound};
 
 /// One channel of one connection, after any list of events, whatever was lost, repeated, reordered or late by then, while both ends go on.
@@ -236,14 +236,17 @@ pub fn no_leave_is_put_off()
 ///
 /// `progresses`: a round makes fewer the commands that are outstanding at the two together, on all channels; or nothing went on any channel
 /// before the one end's second turn, and time alone passed: what is outstanding is as it was, no timeout was over, and if anything is
-/// outstanding at an end, something waits there for its acknowledgement. `through`: so where all timeouts of what waits are over by each round's moments, as many rounds as commands are
-/// outstanding bring all through: nothing is outstanding, and each reliable packet that either user submitted was dispatched at the other
-/// end, in order, taken or not. `happens`: there is a round in which a reliable packet goes and is acknowledged, so this speaks of something.
+/// outstanding at an end, something waits there for its acknowledgement. `acknowledged`: whatever goes before that turn is acknowledged in
+/// the round: what still waits has waited before, as it is, and its timeout isn't over. `through`: so a round by which all timeouts of what
+/// waited are over, and after it as many rounds as commands were outstanding, whatever their moments, bring all through: nothing is
+/// outstanding, and each reliable packet that either user submitted was dispatched at the other end, in order, taken or not. `happens`: there
+/// is a round in which a reliable packet goes and is acknowledged, so this speaks of something.
 /// `either`: what is asked of a reached connection holds of it with its ends exchanged, too, so either end may begin.
 pub fn both_get_through()
     ensures progresses { (joined : Bool) (now there : ℕ) (c d : Connection) (p q : Peering) → Invariant joined c → IsOpen c.one p → IsOpen c.two q → (r : RoundOfBoth now there c d) → ProgressesBoth now there p q r }
-    ensures through { (joined : Bool) (moments : List (ℕ × ℕ)) (c d : Connection) (p q : Peering) → Invariant joined c → c.one.peer ≡ Some p → c.two.peer ≡ Some q → p.state ≡ state.Connected → q.state ≡ state.Connected
-        → RoundsOfBoth moments c d → outstanding_over p.outbox.senders + outstanding_over q.outbox.senders ≤ length moments → BothThrough d }
+    ensures acknowledged { (joined : Bool) (now there : ℕ) (c d : Connection) (p q : Peering) → Invariant joined c → IsOpen c.one p → IsOpen c.two q → (r : RoundOfBoth now there c d) → AllAcknowledged now there p q r }
+    ensures through { (joined : Bool) (now there : ℕ) (moments : List (ℕ × ℕ)) (c b d : Connection) (p q : Peering) → Invariant joined c → IsOpen c.one p → IsOpen c.two q → AllOver now p → AllOver there q
+        → RoundOfBoth now there c b → RoundsOfBoth moments b d → outstanding_over p.outbox.senders + outstanding_over q.outbox.senders ≤ length moments → BothThrough d }
     ensures happens { SomeRound }
     ensures either { (joined : Bool) (a b : End) → Invariant joined (record { one = a; two = b }) → Invariant joined (record { one = b; two = a }) }
 {}

@@ -1,4 +1,4 @@
-use Rattle.law_progress.proofs.BothRounds.{round-progresses, all-get-through}
+use Rattle.law_progress.proofs.BothRounds.{round-progresses, round-acknowledges, all-get-through}
 use Rattle.law_progress.proofs.Exchanges.{joint-swap}
 use Rattle.law_progress.proofs.RoundOfAPair.{some-round}
 use Rattle.law_progress.proofs.both_get_through.Goals as goal
@@ -14,3 +14,6 @@ returns-clause-happens c = some-round
 
 pub returns-clause-either : goal.returns-clause-either
 returns-clause-either c = joint-swap
+
+pub returns-clause-acknowledged : goal.returns-clause-acknowledged
+returns-clause-acknowledged c = round-acknowledges
