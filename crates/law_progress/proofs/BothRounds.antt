@@ -31,7 +31,7 @@ use Rattle.law_progress.proofs.Delivered.{delivered-forth, delivered-back}
 use Rattle.law_progress.proofs.Blocked.{some-sent, idle-senders}
 use Rattle.law_progress.proofs.Emitted.{AreSound, Went, Emitted, emitted, Waits, emitted-waits, emitted-from}
 use Rattle.law_progress.proofs.Carried.{nums, Has-nums}
-use Rattle.law_progress.proofs.Exchanges.{Joint, joint-swap, joint-event, same-peer, sound-of, low-channel, as_read, reads-itself, same-message, no-acknowledgement, put_out, Gone, gone, Came, all-came, all-joint, came-answers, came-less, came-none}
+use Rattle.law_progress.proofs.Exchanges.{Joint, joint-swap, joint-event, same-peer, sound-of, low-channel, as_read, reads-itself, same-message, no-acknowledgement, put_out, Gone, gone, Came, all-came, all-joint, came-answers, came-less, came-none, then-came, took-all, takes-joint}
 use Rattle.law_progress.proofs.Found.{sender-rests}
 use Rattle.law_progress.proofs.Kept.{go-or-stay}
 use Rattle.law_progress.proofs.Obeyed.{Kept, kept-self, kept-least, kept-then}
@@ -77,7 +77,7 @@ sending-start joined D p0 q0 from to j is on other_is other_on all =
 
 sending-one : (joined : Bool) (D : ℕ → Sent → Type 0) (now there : ℕ) (p0 q0 : Peering) (from to from' to' : End) → PutsOne now there from to from' to' → Sending joined D p0 q0 from to → Sending joined D p0 q0 from' to'
 sending-one joined D now there p0 q0 from to from' to' o k = record {
-  joint = all-joint joined there (now % 65536) from' o.new to to' o.come out;
+  joint = joint-swap joined to' from' (takes-joint joined o.events o.arrived from' to' o.takes (joint-swap joined from' o.arrived (all-joint joined there (now % 65536) from' o.new to o.arrived o.come out)));
   peer = p;
   is = g.peer;
   connected = k.connected;
@@ -100,8 +100,14 @@ sending-one joined D now there p0 q0 from to from' to' o k = record {
     out : Joint joined from' to
     out = joint-event joined from to from' (Emit now) o.goes k.joint
 
+    arrives : Came to o.arrived k.other
+    arrives = all-came there (now % 65536) from' o.new to o.arrived k.other o.come k.other_is k.other_connected
+
+    takes : Came o.arrived to' arrives.peer
+    takes = took-all o.events o.arrived from' to' arrives.peer o.takes arrives.is arrives.connected
+
     came : Came to to' k.other
-    came = all-came there (now % 65536) from' o.new to to' k.other o.come k.other_is k.other_connected
+    came = then-came to o.arrived to' k.other arrives takes
 
     sound : AreSound k.peer.outbox.senders
     sound = sound-of joined from to k.peer k.joint k.is k.connected
@@ -117,8 +123,9 @@ sending-one joined D now there p0 q0 from to from' to' o k = record {
         let put = g.put m has in
         let low = low-channel joined from' to p channel c.number out g.peer waits in
         let marked = put.4 (ap (λ (x : Message). is_acknowledgement x.body) read ∙ no-acknowledgement channel c) in
-        let r = came-answers joined there (now % 65536) from' o.new to to' p put.0 channel (as_read c) o.come put.1 out g.peer k.connected low waits refl (put.3 ∙ read) (reads-itself channel c) put.2 marked in
-        (now % 65536, r.0, r.1, r.2)
+        let r = came-answers joined there (now % 65536) from' o.new to o.arrived p put.0 channel (as_read c) o.come put.1 out g.peer k.connected low waits refl (put.3 ∙ read) (reads-itself channel c) put.2 marked in
+        let ack : Acknowledgement = record { channel = channel; number = c.number; time = now % 65536 } in
+        (now % 65536, takes.peer, takes.is, takes.kept.acknowledgements ack (subst (λ (x : Peering). Has x.outbox.acknowledgements ack) (same-peer o.arrived r.0 arrives.peer r.1 arrives.is) r.2))
 
     answer : Went (filled (pace_of k.peer now) k.peer.outbox).messages p.outbox.senders → Coming to' p
     answer w =
@@ -181,9 +188,11 @@ answers-many joined now there (suc n) from to from' to' q p a m j is on other_is
   ]
   | inr went ↦
       let put = g.put (acknowledgement_of a) went in
-      let less = came-less joined there (now % 65536) m.0 o.new to m.1 p put.0 a o.come put.1 out other_is other_on low w put.3 put.2 (put.5 refl) in
-      let it : less.0 ≡ came.peer = same-peer m.1 less.0 came.peer less.1 came.is in
-      let fewer : outstanding_over came.peer.outbox.senders < outstanding_over p.outbox.senders = subst (λ (x : Peering). outstanding_over x.outbox.senders < outstanding_over p.outbox.senders) it less.2 in
+      let less = came-less joined there (now % 65536) m.0 o.new to o.arrived p put.0 a o.come put.1 out other_is other_on low w put.3 put.2 (put.5 refl) in
+      let it : less.0 ≡ arrives.peer = same-peer o.arrived less.0 arrives.peer less.1 arrives.is in
+      let sooner : outstanding_over arrives.peer.outbox.senders < outstanding_over p.outbox.senders = subst (λ (x : Peering). outstanding_over x.outbox.senders < outstanding_over p.outbox.senders) it less.2 in
+      let taken = kept-least arrives.peer takes.peer takes.kept in
+      let fewer : outstanding_over came.peer.outbox.senders < outstanding_over p.outbox.senders = omega arith in
       (rest.other, rest.other_is, inl (let l = kept-least came.peer rest.other rest.other_kept in omega arith))
 ]
   where
@@ -197,10 +206,16 @@ answers-many joined now there (suc n) from to from' to' q p a m j is on other_is
     out = joint-event joined from to m.0 (Emit now) o.goes j
 
     next : Joint joined m.0 m.1
-    next = all-joint joined there (now % 65536) m.0 o.new to m.1 o.come out
+    next = joint-swap joined m.1 m.0 (takes-joint joined o.events o.arrived m.0 m.1 o.takes (joint-swap joined m.0 o.arrived (all-joint joined there (now % 65536) m.0 o.new to o.arrived o.come out)))
+
+    arrives : Came to o.arrived p
+    arrives = all-came there (now % 65536) m.0 o.new to o.arrived p o.come other_is other_on
+
+    takes : Came o.arrived m.1 arrives.peer
+    takes = took-all o.events o.arrived m.0 m.1 arrives.peer o.takes arrives.is arrives.connected
 
     came : Came to m.1 p
-    came = all-came there (now % 65536) m.0 o.new to m.1 p o.come other_is other_on
+    came = then-came to o.arrived m.1 p arrives takes
 
     rest : Sending joined (HasSent (put_out q now).outbox.senders) (put_out q now) came.peer from' to'
     rest = sending-many joined (HasSent (put_out q now).outbox.senders) now there n (put_out q now) came.peer m.0 m.1 from' to' m.3
@@ -225,10 +240,16 @@ answers-all joined D now there (suc n) from to from' to' q p m j is on other_is 
     out = joint-event joined from to m.0 (Emit now) o.goes j
 
     next : Joint joined m.0 m.1
-    next = all-joint joined there (now % 65536) m.0 o.new to m.1 o.come out
+    next = joint-swap joined m.1 m.0 (takes-joint joined o.events o.arrived m.0 m.1 o.takes (joint-swap joined m.0 o.arrived (all-joint joined there (now % 65536) m.0 o.new to o.arrived o.come out)))
+
+    arrives : Came to o.arrived p
+    arrives = all-came there (now % 65536) m.0 o.new to o.arrived p o.come other_is other_on
+
+    takes : Came o.arrived m.1 arrives.peer
+    takes = took-all o.events o.arrived m.0 m.1 arrives.peer o.takes arrives.is arrives.connected
 
     came : Came to m.1 p
-    came = all-came there (now % 65536) m.0 o.new to m.1 p o.come other_is other_on
+    came = then-came to o.arrived m.1 p arrives takes
 
     left : (channel : ℕ) (t : Sent) → HasSent came.peer.outbox.senders channel t → D channel t ⊎ AnswersAt (put_out q now) channel t.command.number
     left channel t h = by (all channel t old)
@@ -243,9 +264,9 @@ answers-all joined D now there (suc n) from to from' to' q p m j is on other_is 
           | inr went ↦
               let put = g.put (acknowledgement_of a) went in
               let low = low-channel joined to from p channel t.command.number (joint-swap joined from to j) other_is (old.0, old.1, Has-nums old.0.sender.sent t old.2) in
-              let none = came-none joined there (now % 65536) m.0 o.new to m.1 p put.0 a o.come put.1 out other_is other_on low put.3 put.2 (put.5 refl) in
-              let it : none.0 ≡ came.peer = same-peer m.1 none.0 came.peer none.1 came.is in
-              absurd (none.2 t (subst (λ (y : Peering). HasSent y.outbox.senders channel t) (sym it) h) refl)
+              let none = came-none joined there (now % 65536) m.0 o.new to o.arrived p put.0 a o.come put.1 out other_is other_on low put.3 put.2 (put.5 refl) in
+              let it : none.0 ≡ arrives.peer = same-peer o.arrived none.0 arrives.peer none.1 arrives.is in
+              absurd (none.2 t (subst (λ (y : Peering). HasSent y.outbox.senders channel t) (sym it) (takes.kept.sent channel t h)) refl)
         ]
           where
             a : Acknowledgement

@@ -1,7 +1,8 @@
 -- What two connected ends make of each other's commands where nothing is lost: what goes is acknowledged, over all channels.
-use Rattle.std.proofs.Common.{◌≡◌, ℕ, ◌<◌, Bool, true, false, cond, List, [], ◌∷◌, ◌++◌, length, map, refl, sym, ap, subst, ◌∙◌, inl, inr, ◌⊎◌, ◌==◌, arith, Option, Some, None, ◌&&◌}
+use Rattle.std.proofs.Common.{◌≡◌, ℕ, zero, suc, ◌<◌, Bool, true, false, cond, List, [], ◌∷◌, ◌++◌, length, map, refl, sym, ap, subst, ◌∙◌, inl, inr, ◌⊎◌, ◌==◌, arith, Option, Some, None, ◌&&◌}
 use Rattle.std.specs.List.{slice_get}
 use Rattle.enet_codec.specs.declared.command.Fragment.{Fragment}
+use Rattle.enet_codec.specs.declared.packet.Packet.{Packet}
 use Rattle.enet_codec.specs.Message.{Message, acknowledge}
 use Rattle.enet_fragment.specs.declared.data.DataCommand.{DataCommand}
 use Rattle.enet_fragment.specs.DataCommand.{data_of, message_of, read_of, wire_body}
@@ -9,18 +10,18 @@ use Rattle.enet_receiver.specs.Members.{Has}
 use Rattle.enet_sender.specs.declared.sent.Sent.{Sent}
 use Rattle.enet_sender.specs.Due.{SendingEnd}
 use Rattle.enet_outbox.specs.declared.parts.Acknowledgement.{Acknowledgement}
-use Rattle.enet_outbox.specs.Outbox.{is_done}
+use Rattle.enet_outbox.specs.Outbox.{Outbox, is_done}
 use Rattle.enet_outbox.specs.Emission.{filled, acknowledgement_of}
 use Rattle.enet_peer.specs.declared.parts.PeerState.TheVariants as state
 use Rattle.enet_peer.specs.Endings.{is_later, disconnecting}
 use Rattle.enet_peer.specs.Peering.{Peering}
 use Rattle.enet_peer.specs.CommandEffect.{Outcome, obeyed}
-use Rattle.enet_peer.specs.Calls.{pace_of, gone_on, gone_on_in}
+use Rattle.enet_peer.specs.Calls.{Taken, pace_of, gone_on, gone_on_in, next_event, event_after, packet_event, last_event}
 use Rattle.law_connection.specs.Link.{is_late}
 use Rattle.law_connection.specs.LinkSteps.{fresh_link}
 use Rattle.law_connection.specs.WireLink.{WireLink}
 use Rattle.law_connection.specs.Connection.{Put, End, is_acknowledgement, messages_of, reached, sent_on, put_by}
-use Rattle.law_connection.specs.Steps.{Event, Emit, Come, Happens, InTime, One, with_peer, with_emission}
+use Rattle.law_connection.specs.Steps.{Event, Emit, Come, Happens, InTime, One, with_peer, with_emission, Take}
 use Rattle.law_connection.specs.Invariant.{Invariant, IsTidy}
 use Rattle.law_connection.specs.Linked.{ShowsSending, sends_in, sender_in}
 use Rattle.law_connection.proofs.Firsts.{drop_first, without-first}
@@ -28,7 +29,7 @@ use Rattle.law_connection.proofs.FitEnds.{fit-peer}
 use Rattle.law_connection.proofs.Laws.{kept-at}
 use Rattle.law_connection.proofs.LinkRuns.{Sound-runs, Sound-fresh}
 use Rattle.law_connection.proofs.Shown.{Sound}
-use Rattle.law_progress.specs.Exchanges.{Comes, AllCome, outstanding_over, HasSent}
+use Rattle.law_progress.specs.Exchanges.{Comes, AllCome, outstanding_over, HasSent, Takes}
 use Rattle.law_progress.specs.Peers.{Awaits, IsAnswered, IsRemoved}
 use Rattle.law_progress.proofs.Carried.{nums, Has-nums, waits-in_time, none-left}
 use Rattle.law_progress.proofs.Emitted.{AreReliable, AreSound, Waits}
@@ -229,6 +230,50 @@ all-came now time from (put ∷ puts) to new q c is connected =
     let a = one-came now time from put to c.0 q c.1 is in
     let b = all-came now time from puts c.0 new a.peer c.2 a.is a.connected in
     record { peer = b.peer; is = b.is; connected = b.connected; kept = kept-then q a.peer b.peer a.kept b.kept; log = b.log ∙ a.log }
+
+-- what is taken changes nothing of what is sent
+took-one : (own other new : End) (p : Peering) → Happens own other Take new → own.peer ≡ Some p → p.state ≡ state.Connected → Came own new p
+took-one own other new p h is on = record {
+  peer = h.1;
+  is = ap (λ (e : End). e.peer) h.5;
+  connected = left.1 ∙ on;
+  kept = record { senders = inl (ap (λ (o : Outbox). o.senders) left.0); mtu = left.2; acknowledgements = λ a k. subst (λ (o : Outbox). Has o.acknowledgements a) (sym left.0) k; sent = λ channel t k. subst (λ (o : Outbox). HasSent o.senders channel t) left.0 k };
+  log = ap (λ (e : End). e.log) h.5;
+}
+  where
+    it : h.0 ≡ p
+    it = same-peer own h.0 p h.3 is
+
+    gives : next_event p ≡ Some (record { event = h.2; after = h.1 })
+    gives = subst (λ (x : Peering). next_event x ≡ Some (record { event = h.2; after = h.1 })) it h.4
+
+    left : (h.1.outbox ≡ p.outbox) × (h.1.state ≡ p.state) × (h.1.terms.mtu ≡ p.terms.mtu)
+    left = by p.greeting gives
+      where
+        after : Taken → Peering
+        after t = t.after
+
+        same : (q : Peering) → q ≡ h.1 → q.outbox ≡ p.outbox → q.state ≡ p.state → q.terms.mtu ≡ p.terms.mtu → (h.1.outbox ≡ p.outbox) × (h.1.state ≡ p.state) × (h.1.terms.mtu ≡ p.terms.mtu)
+        same q e a b c = subst (λ (x : Peering). (x.outbox ≡ p.outbox) × (x.state ≡ p.state) × (x.terms.mtu ≡ p.terms.mtu)) e (a, b, c)
+
+        packets : (untaken : List Packet) → packet_event p untaken ≡ Some (record { event = h.2; after = h.1 }) → (h.1.outbox ≡ p.outbox) × (h.1.state ≡ p.state) × (h.1.terms.mtu ≡ p.terms.mtu)
+        packets [] e = absurd (let z : None ≡ Some (record { event = h.2; after = h.1 }) = sym (ap (λ s. last_event s p) on) ∙ e in cc)
+        packets (x ∷ rest) e = same (record p { inbox = record p.inbox { untaken = rest } }) (ap after (some-is e)) refl refl refl
+
+        by : (greeting : Option ℕ) → event_after p greeting ≡ Some (record { event = h.2; after = h.1 }) → (h.1.outbox ≡ p.outbox) × (h.1.state ≡ p.state) × (h.1.terms.mtu ≡ p.terms.mtu)
+        by (Some info) e = same (record p { greeting = None }) (ap after (some-is e)) refl refl refl
+        by None e = packets p.inbox.untaken e
+
+abbrev pub then-came : (to mid new : End) (q : Peering) → (a : Came to mid q) → Came mid new a.peer → Came to new q
+then-came to mid new q a b = record { peer = b.peer; is = b.is; connected = b.connected; kept = kept-then q a.peer b.peer a.kept b.kept; log = b.log ∙ a.log }
+
+pub took-all : (n : ℕ) (own other new : End) (p : Peering) → Takes n own other new → own.peer ≡ Some p → p.state ≡ state.Connected → Came own new p
+took-all zero own other new p t is on = record { peer = p; is = ap (λ (e : End). e.peer) t ∙ is; connected = on; kept = kept-self p; log = ap (λ (e : End). e.log) t }
+took-all (suc n) own other new p t is on = (let a = took-one own other t.0 p t.1 is on in then-came own t.0 new p a (took-all n t.0 other new a.peer t.2 a.is a.connected))
+
+pub takes-joint : (joined : Bool) (n : ℕ) (own other new : End) → Takes n own other new → Joint joined own other → Joint joined new other
+takes-joint joined zero own other new t j = subst (λ (e : End). Joint joined e other) (sym t) j
+takes-joint joined (suc n) own other new t j = takes-joint joined n t.0 other new t.2 (joint-event joined own other t.0 Take t.1 j)
 
 one-joint : (joined : Bool) (now time : ℕ) (from : End) (put : Put) (to new : End) → Comes now time from put to new → Joint joined from to → Joint joined from new
 one-joint joined now time from put to new c j = elim c.after [

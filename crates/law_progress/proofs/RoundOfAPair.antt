@@ -111,7 +111,7 @@ emitted-rests = record {
 forth : PutsAll 0 0 submitted pair.two emitted arrived
 forth = record {
   datagrams = 1;
-  puts = (emitted, arrived, record { goes = (sender, refl, refl); new = put ∷ []; logged = emitted-log; come = (arrived, forth-comes, refl) }, (refl, refl));
+  puts = (emitted, arrived, record { goes = (sender, refl, refl); new = put ∷ []; logged = emitted-log; arrived = arrived; come = (arrived, forth-comes, refl); events = 0; takes = refl }, (refl, refl));
   spent = λ p e. subst (λ (x : Peering). NothingMayGo (pace_of x 0) x.outbox) (some-is e) emitted-rests;
 }
 
@@ -166,7 +166,7 @@ answered-rests = record {
 back : PutsAll 0 0 arrived emitted answered heard
 back = record {
   datagrams = 1;
-  puts = (answered, heard, record { goes = (taker, refl, refl); new = answer ∷ []; logged = answered-log; come = (heard, back-comes, refl) }, (refl, refl));
+  puts = (answered, heard, record { goes = (taker, refl, refl); new = answer ∷ []; logged = answered-log; arrived = heard; come = (heard, back-comes, refl); events = 0; takes = refl }, (refl, refl));
   spent = λ p e. subst (λ (x : Peering). NothingMayGo (pace_of x 0) x.outbox) (some-is e) answered-rests;
 }
 

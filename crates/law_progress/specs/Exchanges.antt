@@ -19,7 +19,7 @@ use Rattle.law_connection.specs.Examples.{example_packet}
 use Rattle.law_connection.specs.Invariant.{Invariant}
 use Rattle.law_connection.specs.Law.{mtu_of}
 use Rattle.law_connection.specs.Linked.{dispatched_on}
-use Rattle.law_connection.specs.Steps.{Emit, Come, Tick, Happens, InTime}
+use Rattle.law_connection.specs.Steps.{Emit, Come, Tick, Take, Happens, InTime}
 use Rattle.law_progress.specs.Links.{AllDispatched, outstanding_at}
 use Rattle.law_progress.specs.Outboxes.{AllFit, NothingMayGo}
 use Rattle.law_progress.specs.Rounds.{AreOver}
@@ -41,13 +41,21 @@ abbrev pub AllCome : ℕ → ℕ → End → List Put → End → End → Type 0
 AllCome now time from [] to new = new ≡ to
 AllCome now time from (put ∷ puts) to new = (between : End) × Comes now time from put to between × AllCome now time from puts between new
 
+-- the user of an end takes so many events
+abbrev pub Takes : ℕ → End → End → End → Type 0
+Takes zero own other new = new ≡ own
+Takes (suc n) own other new = (between : End) × Happens own other Take between × Takes n between other new
+
 -- an end puts out a datagram, and each of its commands comes at once at the other, in order, with the sent time that the datagram tells;
--- `now` and `there` are what the clocks of the two show
+-- and then the other's user takes what it likes. `now` and `there` are what the clocks of the two show
 pub record PutsOne (now there : ℕ) (from to from' to' : End) : Type 0 where
   pub goes : Happens from to (Emit now) from'
   pub new : List Put
   pub logged : from'.log ≡ from.log ++ new
-  pub come : AllCome there (now % 65536) from' new to to'
+  pub arrived : End
+  pub come : AllCome there (now % 65536) from' new to arrived
+  pub events : ℕ
+  pub takes : Takes events arrived from' to'
 
 abbrev pub PutsMany : ℕ → ℕ → ℕ → End → End → End → End → Type 0
 PutsMany now there zero from to from' to' = (from' ≡ from) × (to' ≡ to)

@@ -232,7 +232,7 @@ pub fn no_leave_is_put_off()
 /// then, and then rounds in which nothing is lost. In each both clocks go on to any moments by which neither's patience is over; the one end
 /// puts out all that it may, the other does, and the one does again; each command comes at once to the other end, which has room for it and
 /// for its acknowledgement, has its channel, and takes in packets of the lengths that were submitted, and by none a peer ceases to be
-/// connected.
+/// connected; and after each datagram the user there takes what it likes.
 ///
 /// `progresses`: a round makes fewer the commands that are outstanding at the two together, on all channels; or nothing went on any channel
 /// before the one end's second turn, and time alone passed: what is outstanding is as it was, no timeout was over, and if anything is
