@@ -16,7 +16,7 @@ pub struct Bell {
     // The waiting thread sleeps, or is about to.
     asleep: AtomicBool,
     // The waiting thread found no order lately. It may still be true where orders were handed over while it looked.
-    idle: AtomicBool,
+    without_orders: AtomicBool,
     // Orders are likely to come soon, since this was last asked.
     expects: AtomicBool,
     waker: Waker,
@@ -27,7 +27,7 @@ impl Bell {
         Ok(Bell {
             rung: AtomicBool::new(false),
             asleep: AtomicBool::new(false),
-            idle: AtomicBool::new(true),
+            without_orders: AtomicBool::new(true),
             expects: AtomicBool::new(false),
             waker: Waker::new(registry, WAKER)?,
         })
@@ -43,14 +43,14 @@ impl Bell {
     }
 
     // Whether it was rung since this was last asked.
-    pub(crate) fn hear(&self) -> bool {
+    pub(crate) fn was_rung(&self) -> bool {
         self.rung.swap(false, SeqCst)
     }
 
     // Announces a sleep. True where it was rung before, and then there is to be none.
     pub(crate) fn lie_down(&self) -> bool {
         self.asleep.store(true, SeqCst);
-        self.hear()
+        self.was_rung()
     }
 
     pub(crate) fn get_up(&self) {
@@ -58,8 +58,8 @@ impl Bell {
     }
 
     // Orders are about to be handed over, or none was found.
-    pub(crate) fn set_idle(&self, idle: bool) {
-        self.idle.store(idle, SeqCst);
+    pub(crate) fn set_without_orders(&self, without_orders: bool) {
+        self.without_orders.store(without_orders, SeqCst);
     }
 
     pub(crate) fn expect(&self) {
@@ -71,7 +71,7 @@ impl Bell {
         self.expects.swap(false, SeqCst)
     }
 
-    pub(crate) fn is_idle(&self) -> bool {
-        self.idle.load(SeqCst)
+    pub(crate) fn is_without_orders(&self) -> bool {
+        self.without_orders.load(SeqCst)
     }
 }

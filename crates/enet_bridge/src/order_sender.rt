@@ -89,7 +89,7 @@ impl<'a> OrderSender<'a> {
         ensures queue { sender_queue self.new ≡ sender_queue self.old }
     {
         if !self.waiting.is_empty() {
-            self.bell.set_idle(false);
+            self.bell.set_without_orders(false);
         }
         pump(rt, self.queue, &mut self.seat, &mut self.waiting)
     }
@@ -134,7 +134,7 @@ impl<'a> OrderSender<'a> {
         ensures spent { IfErr result (λ e. e.0 ≡ Refusal.SeatSpent → limit_of (sender_queue self.new) < length (asked self.new) + length broadcast) }
         ensures queue { sender_queue self.new ≡ sender_queue self.old }
     {
-        self.bell.set_idle(false);
+        self.bell.set_without_orders(false);
         match self.queue.submit_each(rt, &mut self.seat, broadcast) {
             Ok(_ticket) => Ok(()),
             Err(back) => Err(back),
@@ -143,8 +143,8 @@ impl<'a> OrderSender<'a> {
 
     /// Whether the service has lately found no order. It may answer true though an order has just been submitted, until the next
     /// `submit`; with a new bell it answers true.
-    pub fn is_service_idle(&self) -> bool {
-        self.bell.is_idle()
+    pub fn is_service_without_orders(&self) -> bool {
+        self.bell.is_without_orders()
     }
 
     /// Tells the service that there are orders: it ends the wait of its wire.

@@ -196,7 +196,7 @@ impl MioWire {
         let more = !self.drained || self.lost || self.sent >= MOST_PER_TURN;
         self.lost = false;
         self.sent = 0;
-        more || self.bell.hear()
+        more || self.bell.was_rung()
     }
 
     // Sleeps until a datagram comes, the bell is rung or the time is over. An error where the system can't wait.
@@ -241,7 +241,7 @@ impl MioWire {
         };
         for _ in 0..LOOKS {
             thread::yield_now();
-            if self.bell.hear() {
+            if self.bell.was_rung() {
                 return true;
             }
             match start.elapsed(rt) {

@@ -114,7 +114,7 @@ impl<'a> Source for QueueSource<'a> {
         self.in_a_row = if item.is_some() {
             self.in_a_row.saturating_add(1)
         } else {
-            self.bell.set_idle(true);
+            self.bell.set_without_orders(true);
             0
         };
         if self.in_a_row >= MOST_PER_TURN {

@@ -238,7 +238,7 @@ impl<'a> Relay<'a> {
     {
         self.tell_new(bell);
         bell.want();
-        if !self.sender.is_service_idle() && !pace.looks_again() {
+        if !self.sender.is_service_without_orders() && !pace.looks_again() {
             pace.rest(rt, bell);
         }
     }
@@ -349,7 +349,7 @@ impl<'a> Relay<'a> {
     // Whether the events that were taken are kept for a while: they are few, each gives many orders, and the service has some left.
     fn keeps(&self, over: bool) -> bool {
         let few = !self.backlog.is_empty() && self.backlog.len() < ENOUGH;
-        few && self.table.len() > MANY_PEERS && !over && !self.sender.is_service_idle()
+        few && self.table.len() > MANY_PEERS && !over && !self.sender.is_service_without_orders()
     }
 
     // Takes some events beside those that are kept.

@@ -5,7 +5,7 @@ use Rattle.enet_codec.specs.declared.stop.Stop.TheVariants.{Short}
 use Rattle.enet_codec.specs.Message.{Message}
 use Rattle.enet_peer.specs.declared.parts.PeerEvent.TheVariants as told
 use Rattle.enet_peer.specs.Peering.{Peering}
-use Rattle.enet_slot.specs.Hearing.{stopped}
+use Rattle.enet_slot.specs.Receiving.{stopped}
 use Rattle.enet_host.specs.Receiving.{handled_one}
 use Rattle.law_connection.specs.Examples.{example_packet}
 use Rattle.law_connection.proofs.FirstPacket.{with_untaken, rest, first_message}

@@ -5,13 +5,13 @@ use Rattle.enet_codec.specs.declared.address.Addr.{Addr}
 use Rattle.enet_codec.specs.declared.event.Received.{Received}
 use Rattle.enet_codec.specs.declared.refusal.Refusal.{Refusal}
 use Rattle.law_connection.specs.LinkSteps.{Has}
-use Rattle.enet_slot.specs.Hearing.{is_same_address}
+use Rattle.enet_slot.specs.Receiving.{is_same_address}
 use Rattle.law_network.specs.Calls.{Call}
 use Rattle.law_network.specs.Calls as call
 use Rattle.enet_fleet.specs.declared.answer.Answer.{Answer}
 use Rattle.enet_fleet.specs.declared.answer.Answer.TheVariants as answers
 use Rattle.law_network.specs.Log.{Logged}
-use Rattle.law_network.specs.Steps.{Happening, Calls, Hears}
+use Rattle.law_network.specs.Steps.{Happening, Calls, Delivers}
 use Rattle.law_network.proofs.Addresses.{equal-address}
 use Rattle.law_network.proofs.Submitting.{same-some}
 use Rattle.law_network.proofs.Running.{runs-keep}
@@ -68,7 +68,7 @@ went to p k (Some (Of n)) h d is =
     let same : g.0 ≡ d = same-some g.0 d (sym g.1 ∙ ap (slice_get p.site.log) g.2 ∙ is) in
     ap (λ (z : Logged). z.to) (sym same) ∙ g.3
 
-brought : (f : Fleet) (to from : Node) (k n : ℕ) (answer : Received) → brings to (place_of f from) k ≡ Some n → IsAllowed f to from (Hears n answer)
+brought : (f : Fleet) (to from : Node) (k n : ℕ) (answer : Received) → brings to (place_of f from) k ≡ Some n → IsAllowed f to from (Delivers n answer)
 brought f to from k n answer h p there d is =
     went (address_of to) p n (slice_get p.sent k) (ap (λ (o : Option Place). brings to o k) (sym there) ∙ h) d is
 

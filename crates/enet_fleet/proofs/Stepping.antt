@@ -24,7 +24,7 @@ use Rattle.law_network.specs.Calls as call
 use Rattle.enet_fleet.specs.declared.answer.Answer.{Answer}
 use Rattle.enet_fleet.specs.declared.answer.Answer.TheVariants as answers
 use Rattle.law_network.specs.Network.{Site}
-use Rattle.law_network.specs.Steps.{Happening, Calls, Hears, Happens, HappensAmong, Called}
+use Rattle.law_network.specs.Steps.{Happening, Calls, Delivers, Happens, HappensAmong, Called}
 use Rattle.law_network.specs.World.{IsRefusedFor, RefusesCall, RefusesTake}
 use Rattle.law_network.proofs.Names.{there-slot}
 use Rattle.enet_site.specs.declared.put_out.Sent.TheVariants.{Of, Away}
@@ -83,7 +83,7 @@ no-connect Server c asked h = refl
 no-connect (Client i) (call.Connect address channels info word answer) asked h = absurd (let e : true ≡ false = h in cc)
 no-connect (Client i) c asked h = refl
 
-pub no-more : (n : Node) (k : ℕ) (answer : _) (asked : List ℕ) → asked_after n (Hears k answer) asked ≡ asked
+pub no-more : (n : Node) (k : ℕ) (answer : _) (asked : List ℕ) → asked_after n (Delivers k answer) asked ≡ asked
 no-more Server k answer asked = refl
 no-more (Client i) k answer asked = refl
 
@@ -202,19 +202,19 @@ ask-refused f i was new asked channels info word why there at r same none =
 -- the network brings a datagram
 
 pub brings-it : (r : Result Received Refusal) (to : Addr) (p : Place) (k n : ℕ) (from old new : Site) → logged_to to p k ≡ Some n → from ≡ p.site
-    → IfOk r (λ answer. (next : ℕ) → Happens next from (Hears n answer) old new)
-    → IfOk r (λ answer. (m : ℕ) × (logged_to to p k ≡ Some m) × ((next : ℕ) → Happens next p.site (Hears m answer) old new))
+    → IfOk r (λ answer. (next : ℕ) → Happens next from (Delivers n answer) old new)
+    → IfOk r (λ answer. (m : ℕ) × (logged_to to p k ≡ Some m) × ((next : ℕ) → Happens next p.site (Delivers m answer) old new))
 brings-it r to p k n from old new found same h =
-    IfOk-weaker r (λ answer. (next : ℕ) → Happens next from (Hears n answer) old new) (λ answer. (m : ℕ) × (logged_to to p k ≡ Some m) × ((next : ℕ) → Happens next p.site (Hears m answer) old new))
-    (λ answer g. (n, found, λ next. subst (λ (s : Site). Happens next s (Hears n answer) old new) same (g next))) h
+    IfOk-weaker r (λ answer. (next : ℕ) → Happens next from (Delivers n answer) old new) (λ answer. (m : ℕ) × (logged_to to p k ≡ Some m) × ((next : ℕ) → Happens next p.site (Delivers m answer) old new))
+    (λ answer g. (n, found, λ next. subst (λ (s : Site). Happens next s (Delivers n answer) old new) same (g next))) h
 
 pub delivered : (f : Fleet) (to from : Node) (k n : ℕ) (was sender : Place) (new : Site) (answer : Received) → place_of f to ≡ Some was → place_of f from ≡ Some sender
-    → logged_to (address_of to) sender k ≡ Some n → ((next : ℕ) → Happens next sender.site (Hears n answer) was.site new)
+    → logged_to (address_of to) sender k ≡ Some n → ((next : ℕ) → Happens next sender.site (Delivers n answer) was.site new)
     → Steps f (happen.Deliver to from k) (Ok (answers.Received answer)) (with_place f to (record was { site = new }))
 delivered f to from k n was sender new answer there sends found h = (
-  Hears n answer,
+  Delivers n answer,
   (n, ap (λ (o : Option Place). brings to o k) sends ∙ found, refl),
-  done to from (Hears n answer) f was sender (record was { site = new }) (no-more to n answer f.asked) there sends (h 0) refl,
+  done to from (Delivers n answer) f was sender (record was { site = new }) (no-more to n answer f.asked) there sends (h 0) refl,
 )
 
 pub undelivered : (f : Fleet) (to from : Node) (k : ℕ) (was sender : Place) (new : Site) (why : Refusal) → place_of f to ≡ Some was → place_of f from ≡ Some sender

@@ -18,7 +18,7 @@ use Rattle.law_network.specs.Calls as call
 use Rattle.enet_fleet.specs.declared.answer.Answer.{Answer}
 use Rattle.enet_fleet.specs.declared.answer.Answer.TheVariants as answers
 use Rattle.law_network.specs.Network.{HostEnd, Site, fresh_end, is_same_name}
-use Rattle.law_network.specs.Steps.{Around, Happening, Calls, Hears, HappensAmong}
+use Rattle.law_network.specs.Steps.{Around, Happening, Calls, Delivers, HappensAmong}
 use Rattle.law_network.proofs.Growing.{Grows, grows, more_of, stays-there}
 use Rattle.law_network.proofs.Lists.{same-or, get-set, get-set_other, get-within}
 use Rattle.law_network.proofs.Owned.{are-ends, none-held}

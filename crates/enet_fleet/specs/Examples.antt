@@ -6,7 +6,7 @@ use Rattle.enet_codec.specs.declared.refusal.Refusal.{Refusal}
 use Rattle.enet_codec.specs.declared.refusal.Refusal.TheVariants.{NoSuchDatagram, NoSuchHost}
 use Rattle.enet_codec.specs.declared.stop.Stop.TheVariants.{Short}
 use Rattle.law_connection.specs.Examples.{example_packet}
-use Rattle.enet_slot.specs.Hearing.{stopped}
+use Rattle.enet_slot.specs.Receiving.{stopped}
 use Rattle.enet_host.specs.Receiving.{handled_one}
 use Rattle.enet_fleet.specs.declared.answer.Answer.{Answer}
 use Rattle.enet_fleet.specs.declared.answer.Answer.TheVariants as answers

@@ -7,7 +7,7 @@ use Rattle.enet_codec.specs.declared.event.Event.{Event}
 use Rattle.enet_codec.specs.declared.event.PeerRef.{PeerRef}
 use Rattle.enet_codec.specs.declared.refusal.Refusal.{Refusal}
 use Rattle.enet_codec.specs.declared.refusal.Refusal.TheVariants.{Memory, NoSuchDatagram, NoSuchHost}
-use Rattle.enet_slot.specs.Hearing.{is_same_address}
+use Rattle.enet_slot.specs.Receiving.{is_same_address}
 use Rattle.enet_host.specs.Calls.{address_named}
 use Rattle.enet_host.specs.Foretelling.{teller_of}
 use Rattle.law_network.specs.Calls.{Call}
@@ -17,7 +17,7 @@ use Rattle.enet_fleet.specs.declared.answer.Answer.TheVariants as answers
 use Rattle.law_network.specs.Log.{Logged}
 use Rattle.law_network.specs.Network.{Site, numbers_of, delivery_refusal}
 use Rattle.law_network.specs.Running.{RunsBy}
-use Rattle.law_network.specs.Steps.{Around, Happening, Calls, Hears, HappensAmong}
+use Rattle.law_network.specs.Steps.{Around, Happening, Calls, Delivers, HappensAmong}
 use Rattle.law_network.specs.World.{IsRefusedFor, RefusesCall, RefusesTake}
 use Rattle.enet_site.specs.declared.put_out.Sent.{Sent}
 use Rattle.enet_site.specs.declared.put_out.Sent.TheVariants.{Of, Away}
@@ -120,7 +120,7 @@ IsFrom (Some p) event from = option_and_then (address_named p.site.host.slots) (
 abbrev pub Makes : Fleet → FleetEvent → Answer → Happening → Type 0
 Makes f (happen.Connect client channels info word) (answers.Peer name) e = e ≡ Calls (call.Connect (address_of Server) channels info word (Ok name))
 Makes f (happen.Submit node peer channel flags body) answers.Done e = e ≡ Calls (call.Submit peer channel (record { flags = flags; body = body }) (Ok tt))
-Makes f (happen.Deliver to from k) (answers.Received answer) e = (n : ℕ) × (brings to (place_of f from) k ≡ Some n) × (e ≡ Hears n answer)
+Makes f (happen.Deliver to from k) (answers.Received answer) e = (n : ℕ) × (brings to (place_of f from) k ≡ Some n) × (e ≡ Delivers n answer)
 Makes f (happen.Stranger to addr bytes) (answers.Received answer) e = e ≡ Calls (call.Receive addr bytes answer)
 Makes f (happen.Turn node) (answers.Sent None) e = (buf : List ℕ) × (e ≡ Calls (call.Service None buf))
 Makes f (happen.Turn node) (answers.Sent (Some k)) e =

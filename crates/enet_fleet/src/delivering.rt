@@ -1,7 +1,7 @@
 //! The network brings a host a datagram of another.
 
 ghost use Rattle.std.specs.Prelude.{◌≡◌, ℕ, Some, IfOk, IfErr, OnErr};
-ghost use Rattle.law_network.specs.Steps.{Hears, Happens};
+ghost use Rattle.law_network.specs.Steps.{Delivers, Happens};
 ghost use Rattle.law_network.specs.World.{IsRefusedFor};
 ghost use Rattle.enet_fleet.specs.declared.event.FleetEvent.TheVariants as happen;
 ghost use Rattle.law_headline.specs.declared.node.Node.TheVariants as node;
@@ -40,7 +40,7 @@ fn bring(
 ) -> Result<Received, Refusal>
     ensures refused { IfErr result (λ why. IsRefusedFor why (refused_there from.now.site here.old (logged_to address from.now k))) }
     ensures unchanged { OnErr result (here.new ≡ here.old) }
-    ensures brings { IfOk result (λ answer. (n : ℕ) × (logged_to address from.now k ≡ Some n) × ((next : ℕ) → Happens next from.now.site (Hears n answer) here.old here.new)) }
+    ensures brings { IfOk result (λ answer. (n : ℕ) × (logged_to address from.now k ≡ Some n) × ((next : ℕ) → Happens next from.now.site (Delivers n answer) here.old here.new)) }
 {
     let Some(n) = logged_to(from, address, k) else {
         return Err(Refusal::NoSuchDatagram);

@@ -36,7 +36,7 @@ fn submit(
 }
 
 /// A stranger's datagram comes to a host.
-fn hear(hosts: &mut Hosts, to: Node, addr: Addr, bytes: &Bytes) -> Result<Answer, Refusal>
+fn receive(hosts: &mut Hosts, to: Node, addr: Addr, bytes: &Bytes) -> Result<Answer, Refusal>
     ensures { Steps hosts.old (happen.Stranger to addr bytes.now) result hosts.new }
 {
     if is_host(hosts.clients.len(), addr) {
@@ -45,7 +45,7 @@ fn hear(hosts: &mut Hosts, to: Node, addr: Addr, bytes: &Bytes) -> Result<Answer
     let Some(here) = hosts.place_mut(to) else {
         return Err(Refusal::NoSuchHost);
     };
-    let received = here.site.hear(addr, bytes);
+    let received = here.site.receive(addr, bytes);
     Ok(Answer::Received(received))
 }
 
@@ -120,7 +120,7 @@ pub(crate) fn happen(
             body,
         } => submit(hosts, *node, *peer, *channel, *flags, body),
         FleetEvent::Deliver { to, from, k } => deliver(hosts, alloc, *to, *from, *k),
-        FleetEvent::Stranger { to, addr, bytes } => hear(hosts, *to, *addr, bytes),
+        FleetEvent::Stranger { to, addr, bytes } => receive(hosts, *to, *addr, bytes),
         FleetEvent::Turn { node } => turn(hosts, alloc, *node),
         FleetEvent::Tick { node, ms } => tick(hosts, *node, *ms),
         FleetEvent::Take { node } => take(hosts, *node),

@@ -7,14 +7,14 @@ use Rattle.std.proofs.lemmas.Option.{slice_get_within, slice_get_read, slice_get
 use Rattle.enet_codec.specs.declared.event.PeerRef.{PeerRef}
 use Rattle.enet_slot.specs.Slot.{SlotState, name_of}
 use Rattle.enet_host.specs.Turns.{turn_of, IsFirst, HoldsNowhere}
-use Rattle.enet_slot.specs.Serving.{Passes, Gives}
+use Rattle.enet_slot.specs.Emitting.{Passes, PeerEmits}
 use Rattle.enet_slot.specs.Calls.{tells}
 use Rattle.enet_slot.proofs.Waiting.{passes-waiting, mute-waiting}
 use Rattle.enet_sleepers.specs.Sleeping.{Noted, KeepsSleepers}
 use Rattle.enet_sleepers.proofs.Keeping.{some-same, get-set-other, sleeps-waits}
 use Rattle.enet_host.specs.Private.Sleeping.{PassesTurns}
-use Rattle.enet_host.specs.Serving.{Served, InTurn, GivesInTurn, AllPass}
-use Rattle.enet_host.specs.Private.Shown.{SlotGives, SlotPasses}
+use Rattle.enet_host.specs.Serving.{Served, InTurn, EmitsInTurn, AllPass}
+use Rattle.enet_host.specs.Private.Shown.{SlotEmits, SlotPasses}
 use Rattle.enet_host.proofs.Turning.{turn-below, same-turn}
 
 -- reading a list in which one element was replaced
@@ -94,7 +94,7 @@ all-pass now n from k old new f count same past asked = record {
 }
 
 in-turn : (now n from k i number : ℕ) (gave : Served) (old new after : List SlotState) (s t slot left : SlotState) → from < n → length old ≡ n → number < n
-    → turn_of n from number ≡ k → AllAsked now n from k old new → slice_get new number ≡ Some slot → Gives now gave.len gave.buf slot left → gave.name.slot ≡ number → number < length new
+    → turn_of n from number ≡ k → AllAsked now n from k old new → slice_get new number ≡ Some slot → PeerEmits now gave.len gave.buf slot left → gave.name.slot ≡ number → number < length new
     → after ≡ slice_set new number left → slice_get old i ≡ Some s → slice_get after i ≡ Some t → (b : Bool) → nat_eq i number ≡ b
     → InTurn (record { now = now; turn = turn_of n from; gave = gave }) i s t
 in-turn now n from k i number gave old new after s t slot left f count inside place asked there gives slot_is within is a b true e =
@@ -108,7 +108,7 @@ in-turn now n from k i number gave old new after s t slot left f count inside pl
     let now_is : left ≡ t = some-same (slice_get (slice_set new number left) i) left t put here in
     record {
       before = λ less. absurd (omega (arith, less, turn, given));
-      here = λ at. subst (λ (u : SlotState). Gives now gave.len gave.buf u t) was (subst (λ (u : SlotState). Gives now gave.len gave.buf slot u) now_is gives);
+      here = λ at. subst (λ (u : SlotState). PeerEmits now gave.len gave.buf u t) was (subst (λ (u : SlotState). PeerEmits now gave.len gave.buf slot u) now_is gives);
       after = λ past. absurd (omega (arith, past, turn, given));
     }
 in-turn now n from k i number gave old new after s t slot left f count inside place asked there gives slot_is within is a b false e =
@@ -124,8 +124,8 @@ in-turn now n from k i number gave old new after s t slot left f count inside pl
 
 -- slot `number` gave a datagram after k turns
 pub gives-in-turn : (now n from k number : ℕ) (gave : Served) (old new after : List SlotState) → from < n → length old ≡ n → number < n → turn_of n from number ≡ k
-    → AllAsked now n from k old new → length after ≡ length old → SlotGives now new number gave after → slice_get old number ≡ slice_get new number → gave.name.slot ≡ number
-    → GivesInTurn now from old gave after
+    → AllAsked now n from k old new → length after ≡ length old → SlotEmits now new number gave after → slice_get old number ≡ slice_get new number → gave.name.slot ≡ number
+    → EmitsInTurn now from old gave after
 gives-in-turn now n from k number gave old new after f count inside place asked same g unchanged slot_is = record {
   slot = g.slot;
   there = subst (λ (j : ℕ). slice_get old j ≡ Some g.slot) (sym slot_is) (unchanged ∙ g.there);

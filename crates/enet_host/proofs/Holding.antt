@@ -35,8 +35,8 @@ use Rattle.enet_host.specs.Host.{Host, HoldsNoFree, with_generation}
 use Rattle.enet_host.specs.Opening.{joined, Connects, no_channel, no_slot, no_memory, asks}
 use Rattle.enet_host.specs.Receiving as receiving
 use Rattle.enet_host.specs.Receiving.{Offers, Arrives}
-use Rattle.enet_slot.specs.Serving.{Gives, passes_by}
-use Rattle.enet_host.specs.Serving.{InTurn, Served, GivesInTurn, AllPass}
+use Rattle.enet_slot.specs.Emitting.{PeerEmits, passes_by}
+use Rattle.enet_host.specs.Serving.{InTurn, Served, EmitsInTurn, AllPass}
 use Rattle.enet_host.specs.Turns.{turn_of}
 use Rattle.enet_slot.specs.Sharing.{is_standing, limit_for, with_limit, shared}
 use Rattle.enet_host.specs.Ticking.{clock_after, with_time, is_due, ticked}
@@ -199,7 +199,7 @@ arrives-held basis slots new from bytes answer old (receiving.heard header comma
     set-held slots header.peer t old (subst IsHeld (sym hears.left) (peer-held s hears.after))
 
 -- slots are asked for a datagram
-gives-held : (now len : ℕ) (buf : List ℕ) (s t : SlotState) → Gives now len buf s t → IsHeld t
+gives-held : (now len : ℕ) (buf : List ℕ) (s t : SlotState) → PeerEmits now len buf s t → IsHeld t
 gives-held now len buf s t g = subst IsHeld (sym g.left) (peer-held _ g.after)
 
 passes-held : (now : ℕ) (s t : SlotState) (o : Option Peering) → IsHeld s → passes_by now s t o → IsHeld t
@@ -217,7 +217,7 @@ turned-held now from count gave i s t within given old x = by (nat_lt (turn i) (
     by false true e f = subst IsHeld (sym (x.after (grind (arith, nat_tests)))) old
     by false false e f = gives-held now gave.len gave.buf s t (x.here (turns-apart count from i gave.name.slot within given (grind (arith, nat_tests))))
 
-pub served-held : (now from : ℕ) (old new : List SlotState) (gave : Served) → HoldsNoFree old → GivesInTurn now from old gave new → HoldsNoFree new
+pub served-held : (now from : ℕ) (old new : List SlotState) (gave : Served) → HoldsNoFree old → EmitsInTurn now from old gave new → HoldsNoFree new
 served-held now from old new gave held x i t p there =
     let within : i < length new = slice_get_within new i t there in
     let same : length new ≡ length old = x.count in

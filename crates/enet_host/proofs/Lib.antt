@@ -1,6 +1,6 @@
 pub mod Slots
 pub mod Offering
-pub mod Hearing
+pub mod Receptions
 pub mod Turning
 pub mod Asking
 pub mod Broadcasting

@@ -24,7 +24,7 @@ use Rattle.enet_peer.proofs.Limited.{handled-limited, left-limited, put-out-limi
 use Rattle.enet_slot.specs.Slot.{SlotState, with_peer, with_peer_in, with_changed, changed}
 use Rattle.enet_slot.specs.Giving.{limits_of, unused_slot, joined_terms, given, Basis, asking, answering}
 use Rattle.enet_slot.specs.declared.giving.Question.{Question}
-use Rattle.enet_slot.specs.Serving.{Gives, passes_by}
+use Rattle.enet_slot.specs.Emitting.{PeerEmits, passes_by}
 use Rattle.enet_slot.specs.Sharing.{is_standing, limit_for, with_limit, shared}
 use Rattle.enet_slot.specs.Calls.{kept, on_peer_in, Submits, Does, DoesWithMemory, GivesEvent, submission, submitted_unless, leaving, left_by, or_not_connected, throttling, pinging, waiting}
 use Rattle.enet_host.specs.Calls.{put_back, on_slot, on_named}
@@ -34,7 +34,7 @@ use Rattle.enet_host.specs.Opening.{joined, Connects, no_channel, no_slot, no_me
 use Rattle.enet_host.specs.Private.Shown.{SlotGivesEvent}
 use Rattle.enet_host.specs.Receiving as receiving
 use Rattle.enet_host.specs.Receiving.{Offers, Arrives}
-use Rattle.enet_host.specs.Serving.{InTurn, Served, GivesInTurn, AllPass}
+use Rattle.enet_host.specs.Serving.{InTurn, Served, EmitsInTurn, AllPass}
 use Rattle.enet_host.specs.Turns.{turn_of}
 use Rattle.enet_host.proofs.Turning.{turns-apart}
 
@@ -220,7 +220,7 @@ arrives-limited basis slots new from bytes answer old (receiving.heard header co
 
 -- ---- slots are asked for a datagram
 
-gives-limited : (x y now len : ℕ) (buf : List ℕ) (s t : SlotState) → IsLimited x y s → Gives now len buf s t → IsLimited x y t
+gives-limited : (x y now len : ℕ) (buf : List ℕ) (s t : SlotState) → IsLimited x y s → PeerEmits now len buf s t → IsLimited x y t
 gives-limited x y now len buf s t old g =
     subst (IsLimited x y) (sym g.left) (peer-limited x y _ g.after (put-out-limited x y now (Some len) g.peer g.after buf (of-peer x y s g.peer g.held old) g.puts))
 
@@ -240,7 +240,7 @@ turned-limited x y now from count gave i s t within given old asked = by (nat_lt
     by false true e f = subst (IsLimited x y) (sym (asked.after (grind (arith, nat_tests)))) old
     by false false e f = gives-limited x y now gave.len gave.buf s t old (asked.here (turns-apart count from i gave.name.slot within given (grind (arith, nat_tests))))
 
-pub served-limited : (x y now from : ℕ) (old new : List SlotState) (gave : Served) → AreLimited x y old → GivesInTurn now from old gave new → AreLimited x y new
+pub served-limited : (x y now from : ℕ) (old new : List SlotState) (gave : Served) → AreLimited x y old → EmitsInTurn now from old gave new → AreLimited x y new
 served-limited x y now from old new gave held turned i t there =
     let within : i < length new = slice_get_within new i t there in
     let same : length new ≡ length old = turned.count in

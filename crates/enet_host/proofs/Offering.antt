@@ -15,7 +15,7 @@ use Rattle.enet_slot.specs.Seating.{IsSeat}
 use Rattle.enet_slot.specs.Slot.{SlotState, name_of}
 use Rattle.enet_slot.specs.Giving.{Basis, asking, answering}
 use Rattle.enet_host.specs.Opening.{available, Connects, no_memory, asks}
-use Rattle.enet_slot.specs.Hearing.{stopped}
+use Rattle.enet_slot.specs.Receiving.{stopped}
 use Rattle.enet_host.specs.Receiving.{Offers, offer_refused, is_known, handled_one}
 use Rattle.enet_host.specs.Receiving as receiving
 use Rattle.enet_slot.specs.Slotted.{shown, all_shown}

@@ -3,11 +3,11 @@ use Rattle.std.proofs.Common.{◌≡◌, ℕ, ◌<◌, false, Option, Some, None
 use Rattle.enet_codec.specs.declared.event.Event.{Event}
 use Rattle.enet_codec.specs.declared.packet.Packet.{Packet}
 use Rattle.enet_slot.specs.declared.slot.Slot.{Slot}
-use Rattle.enet_slot.specs.Serving.{Gives, Passes}
+use Rattle.enet_slot.specs.Emitting.{PeerEmits, Passes}
 use Rattle.enet_slot.specs.Calls.{tells, peer_packet, GivesEvent}
 use Rattle.enet_slot.specs.Slotted.{shown, all_shown}
 use Rattle.enet_host.specs.Serving.{Served}
-use Rattle.enet_host.specs.Private.Shown.{SlotGives, SlotPasses, SlotGivesEvent, SlotIsMute, SlotIsNamed, SlotShows}
+use Rattle.enet_host.specs.Private.Shown.{SlotEmits, SlotPasses, SlotGivesEvent, SlotIsMute, SlotIsNamed, SlotShows}
 use Rattle.enet_slot.proofs.Shown.{get-shown, set-shown}
 
 -- slot n of the vector is slot `number`
@@ -28,8 +28,8 @@ slot-passes now xs n number x y e inside read passes = record {
 }
 
 pub slot-gives : (now g : ℕ) (gave : Served) (xs : List Slot) (n number : ℕ) (x y : Slot) → n ≡ number → n < length xs → x ≡ get_or xs n x
-    → gave.name ≡ record { slot = number; generation = g } → g ≡ (shown x).generation → gave.address ≡ (shown x).address → Gives now gave.len gave.buf (shown x) (shown y)
-    → SlotGives now (all_shown xs) number gave (all_shown (slice_set xs n y))
+    → gave.name ≡ record { slot = number; generation = g } → g ≡ (shown x).generation → gave.address ≡ (shown x).address → PeerEmits now gave.len gave.buf (shown x) (shown y)
+    → SlotEmits now (all_shown xs) number gave (all_shown (slice_set xs n y))
 slot-gives now g gave xs n number x y e inside read is named addressed gives = record {
   slot = shown x;
   left = shown y;

@@ -14,7 +14,7 @@ use Rattle.enet_sleepers.specs.Sleeping.{Noted, KeepsSleepers}
 use Rattle.enet_sleepers.proofs.Keeping.{keeps-set, sleeps-waits}
 use Rattle.enet_host.specs.Turns.{turn_of, IsFirst}
 use Rattle.enet_host.specs.Serving.{Served}
-use Rattle.enet_host.specs.Private.Shown.{SlotGives, SlotPasses, SlotGivesEvent}
+use Rattle.enet_host.specs.Private.Shown.{SlotEmits, SlotPasses, SlotGivesEvent}
 use Rattle.enet_host.specs.Private.Sleeping.{PassesTurns, AwakeAt}
 use Rattle.enet_host.proofs.Turning.{turn-split, same-turn}
 
@@ -43,7 +43,7 @@ keeps-woken-at now i v w xs y k woken awake = keeps-at now i w xs y (woken-awake
 pub keeps-passes : (clock now i : ℕ) (v : Noted) (old new : List SlotState) → KeepsSleepers clock v old → IsIn v.awake i → SlotPasses now old i new → KeepsSleepers clock v new
 keeps-passes clock now i v old new k awake p = subst (KeepsSleepers clock v) (sym p.after) (keeps-set clock i v old p.left (λ inside. awake) k)
 
-pub keeps-gives : (clock now i : ℕ) (gave : Served) (v : Noted) (old new : List SlotState) → KeepsSleepers clock v old → IsIn v.awake i → SlotGives now old i gave new → KeepsSleepers clock v new
+pub keeps-gives : (clock now i : ℕ) (gave : Served) (v : Noted) (old new : List SlotState) → KeepsSleepers clock v old → IsIn v.awake i → SlotEmits now old i gave new → KeepsSleepers clock v new
 keeps-gives clock now i gave v old new k awake g = subst (KeepsSleepers clock v) (sym g.after) (keeps-set clock i v old g.left (λ inside. awake) k)
 
 pub keeps-gives-event : (clock i : ℕ) (event : Event) (v : Noted) (old new : List SlotState) → KeepsSleepers clock v old → IsIn v.awake i → SlotGivesEvent old i event new → KeepsSleepers clock v new

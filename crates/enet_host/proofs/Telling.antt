@@ -9,7 +9,7 @@ use Rattle.enet_host.specs.Turns.{IsFirst, slot_after}
 use Rattle.enet_slot.specs.Calls.{tells, GivesEvent}
 use Rattle.enet_host.specs.Calls.{TakesOne}
 use Rattle.enet_host.specs.declared.totals.Totals.{Totals}
-use Rattle.enet_host.specs.Serving.{served_of, GivesInTurn, Serves, with_datagram_out}
+use Rattle.enet_host.specs.Serving.{served_of, EmitsInTurn, Serves, with_datagram_out}
 use Rattle.enet_host.specs.Private.Shown.{SlotGivesEvent}
 use Rattle.enet_sleepers.proofs.Keeping.{some-same}
 
@@ -28,7 +28,7 @@ takes-at v old after i n event same first g next =
     })
 
 pub serves-at : (v old : Host) (after : List SlotState) (n : ℕ) (t : Totals) (gave : PeerRef × Addr × ℕ) (buf : List ℕ) → v ≡ old
-    → GivesInTurn v.clock v.service_from v.slots (served_of gave buf) after → n ≡ slot_after (length v.slots) gave.0.slot → t ≡ with_datagram_out v.totals gave.2
+    → EmitsInTurn v.clock v.service_from v.slots (served_of gave buf) after → n ≡ slot_after (length v.slots) gave.0.slot → t ≡ with_datagram_out v.totals gave.2
     → Serves old (Some gave) buf (record v { slots = after; service_from = n; totals = t })
 serves-at v old after n t gave buf same gives next counted =
     subst (λ (h : Host). Serves h (Some gave) buf (record v { slots = after; service_from = n; totals = t })) same

@@ -11,7 +11,7 @@ use Rattle.enet_connect.specs.Terms.{is_channel_count}
 use Rattle.enet_peer.specs.Heading.{IsUnreadable, IsRead, IsOffer, IsNoOffer}
 use Rattle.enet_slot.specs.Slot.{SlotState}
 use Rattle.enet_slot.specs.Giving.{Basis, answering}
-use Rattle.enet_slot.specs.Hearing.{no_peer, refused_by_slot, is_connection, stopped, Hears}
+use Rattle.enet_slot.specs.Receiving.{no_peer, refused_by_slot, is_connection, stopped, PeerReceives}
 use Rattle.enet_host.specs.declared.totals.Totals.{Totals}
 use Rattle.enet_host.specs.Host.{Host}
 use Rattle.enet_host.specs.Opening.{host_basis, available}
@@ -58,7 +58,7 @@ pub data Arrives (h : Listener) (from : Addr) (bytes : List ℕ) : Received → 
   turned_away : (header : Header) (commands : List ℕ) (why : Stop) → IsRead bytes header commands → header.peer ≢ no_peer
       → refused_by h.slots from header ≡ Some why → Arrives h from bytes (stopped why) h.slots
   heard : (header : Header) (commands : List ℕ) (s t : SlotState) (answer : Received) → IsRead bytes header commands → header.peer ≢ no_peer
-      → refused_by h.slots from header ≡ None → slice_get h.slots header.peer ≡ Some s → Hears (record { now = h.basis.clock; sent = header.sent }) commands s answer t
+      → refused_by h.slots from header ≡ None → slice_get h.slots header.peer ≡ Some s → PeerReceives (record { now = h.basis.clock; sent = header.sent }) commands s answer t
       → Arrives h from bytes answer (slice_set h.slots header.peer t)
 
 -- the greatest number of 64 bits, where totals stop

@@ -3,7 +3,7 @@ use Rattle.std.specs.Prelude.{◌≡◌, ℕ, ◌<◌, Option, Some, None, List,
 use Rattle.enet_codec.specs.declared.address.Addr.{Addr}
 use Rattle.enet_codec.specs.declared.event.PeerRef.{PeerRef}
 use Rattle.enet_slot.specs.Slot.{SlotState, name_of}
-use Rattle.enet_slot.specs.Serving.{Gives, Passes}
+use Rattle.enet_slot.specs.Emitting.{PeerEmits, Passes}
 use Rattle.enet_host.specs.declared.totals.Totals.{Totals}
 use Rattle.enet_host.specs.Host.{Host}
 use Rattle.enet_host.specs.Turns.{turn_of, slot_after}
@@ -28,11 +28,11 @@ pub record ServiceCall : Type 0 where
 -- what became of slot i: those before the slot that gave the datagram were asked in vain, those after it are as they were
 pub record InTurn (asked : ServiceCall) (i : ℕ) (s t : SlotState) : Type 0 where
   pub before : asked.turn i < asked.turn asked.gave.name.slot → Passes asked.now s t
-  pub here : i ≡ asked.gave.name.slot → Gives asked.now asked.gave.len asked.gave.buf s t
+  pub here : i ≡ asked.gave.name.slot → PeerEmits asked.now asked.gave.len asked.gave.buf s t
   pub after : asked.turn asked.gave.name.slot < asked.turn i → t ≡ s
 
 -- the first slot in turn that has something to put out gave a datagram, and is named as it was before
-pub record GivesInTurn (now from : ℕ) (old : List SlotState) (gave : Served) (new : List SlotState) : Type 0 where
+pub record EmitsInTurn (now from : ℕ) (old : List SlotState) (gave : Served) (new : List SlotState) : Type 0 where
   pub slot : SlotState
   pub there : slice_get old gave.name.slot ≡ Some slot
   pub named : gave.name ≡ name_of gave.name.slot slot
@@ -53,5 +53,5 @@ with_datagram_out t len = record t { datagrams_out = added t.datagrams_out 1; by
 abbrev pub Serves : Host → Option (PeerRef × Addr × ℕ) → List ℕ → Host → Type 0
 Serves old None buf new = AllPass old.clock old.slots new.slots × (new ≡ record old { slots = new.slots })
 Serves old (Some gave) buf new =
-    GivesInTurn old.clock old.service_from old.slots (served_of gave buf) new.slots
+    EmitsInTurn old.clock old.service_from old.slots (served_of gave buf) new.slots
     × (new ≡ record old { slots = new.slots; service_from = slot_after (length old.slots) gave.0.slot; totals = with_datagram_out old.totals gave.2 })

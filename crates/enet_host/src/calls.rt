@@ -67,7 +67,7 @@ pub(crate) fn disconnect(
     let Some(place) = position_of(slots, name) else {
         return Err(Refusal::NoSuchPeer);
     };
-    slots[place].leave(mode, info)
+    slots[place].disconnect(mode, info)
 }
 
 /// Sets the throttle of the peer of this name, of which the other end is told. E1 only where an earlier command of channel 0xFF
@@ -86,7 +86,7 @@ pub(crate) fn throttle_configure(
     let Some(place) = position_of(slots, name) else {
         return Err(Refusal::NoSuchPeer);
     };
-    slots[place].configure(interval, acceleration, deceleration)
+    slots[place].throttle_configure(interval, acceleration, deceleration)
 }
 
 /// Sets something of the peer of this name.

@@ -13,9 +13,9 @@ ghost use Rattle.enet_host.specs.Ticking.{ticked, clock_after};
 ghost use Rattle.enet_host.specs.Calls.{with_bandwidth, Takes};
 
 use crate::connecting::connect;
+use crate::emitting::emit;
 use crate::events::take_from;
 use crate::receiving::receive;
-use crate::service::serve;
 use crate::ticking::pass_time;
 use crate::totals::Totals;
 use crate::turns::slot_after;
@@ -133,7 +133,7 @@ impl HostCore {
     }
 
     /// Asks the host at this address for a connection with so many channels, from the lowest slot that is free and has a
-    /// generation left. `info` is a word for the other host's user, `word` the connect id (ENet 1.3). E8 for no channels, E7
+    /// generation left. `info` is told to the other host's user (ENet's `data`), `word` is the connect id (ENet's `connectID`). E8 for no channels, E7
     /// where there is no such slot, E1 where memory is refused; after each of them nothing has changed.
     pub fn connect(
         &mut self,
@@ -175,14 +175,14 @@ impl HostCore {
         )
     }
 
-    /// One datagram of the next slot that has something to send: whose it is, where it goes, and how many bytes of the buffer
-    /// it has. Slots are asked in turn, beginning after the one that was served last, at first with slot 0. The peer is named
+    /// Gives one datagram to send, and does no more: ENet's `enet_host_service` also receives and dispatches. It is one of the
+    /// next slot that has something to send: whose it is, where it goes, and how many bytes of the buffer it has. Slots are asked in turn, beginning after the one that was served last, at first with slot 0. The peer is named
     /// as it was before the call. None where no slot has something to send. It takes no memory.
     pub fn service(&mut self, buf: &mut [u8; 4096]) -> Option<(PeerRef, Addr, usize)>
         ensures serves { Serves self.old result buf.new self.new }
         ensures fits { IfSome result (λ sent. sent.2 ≤ 4096) }
     {
-        let Some(sent) = serve(
+        let Some(sent) = emit(
             &mut self.slots,
             &self.sleepers,
             self.start.config.peers,

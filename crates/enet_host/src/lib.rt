@@ -12,7 +12,7 @@
 //!   a generation left; or the commands of a datagram at the one slot that its header names. `next_peer` is the name that an accepted
 //!   connection gets.
 //! - `service` asks slot after slot, beginning after the one served last, up to the first that gives a datagram, and names its peer as it
-//!   was before (`GivesInTurn`).
+//!   was before (`EmitsInTurn`).
 //! - `next_event` goes by the first slot in turn that has an event (`IsFirst`). `next_event_of`, `next_packet` and `next_body` say of the
 //!   event that it gives whose it is and what it hands out (`Foretells`).
 //! - `submit_each` is the submissions of its errands, peer by peer and one after another, and answers the first refusal but E2 and E3
@@ -41,13 +41,13 @@
 mod broadcast;
 mod calls;
 mod connecting;
+mod emitting;
 mod events;
 mod foretelling;
 mod held;
 mod host;
 mod peers;
 mod receiving;
-mod service;
 mod ticking;
 mod totals;
 mod turns;

@@ -2,7 +2,7 @@
 
 ghost use Rattle.std.specs.Prelude.{◌≡◌, ◌<◌, ◌≤◌, length, IfNone};
 ghost use Rattle.enet_slot.specs.Giving.{basis_of};
-ghost use Rattle.enet_slot.specs.Hearing.{stopped};
+ghost use Rattle.enet_slot.specs.Receiving.{stopped};
 ghost use Rattle.enet_host.specs.Receiving.{refused_by, offer_refused, Offers, Arrives};
 ghost use Rattle.enet_sleepers.specs.Sleeping.{KeepsSleepers};
 ghost use Rattle.enet_slot.specs.Slotted.{all_shown};
@@ -117,5 +117,5 @@ pub(crate) fn receive(
     }
     sleepers.wake(usize::from(header.peer));
     let slot = &mut slots[usize::from(header.peer)];
-    slot.hear(start.clock, header.sent, commands)
+    slot.receive(start.clock, header.sent, commands)
 }

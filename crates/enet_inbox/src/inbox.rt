@@ -18,7 +18,7 @@ use crate::receivers::{
     clear_all, give_way, give_way_but, held_in, open_all, packets_in, waiting_in,
     waiting_packets_in,
 };
-use crate::taking::{append, pass_on, take_in, take_in_instead};
+use crate::taking::{append, take_in, take_in_at_once, take_in_instead};
 use enet_codec::{Command, Packet, Refusal, Stop};
 use enet_packets::look_at;
 use enet_receiver::{ArrivingData, Foresight, Incoming};
@@ -396,7 +396,7 @@ impl Inbox {
         ensures taken { IsTrue result → self.new ≡ (sequenced (met_by what.makes_room self.old) arriving.entry.head.channel (Some (data_command arriving.entry))).after }
         ensures unchanged { result ≡ false → self.new ≡ self.old }
     {
-        if what.dispatches == 1 && self.pass_on(arriving, what) {
+        if what.dispatches == 1 && self.take_in_at_once(arriving, what) {
             return true;
         }
         if what.makes_room {
@@ -408,14 +408,14 @@ impl Inbox {
 
     /// Takes such a command in where its packet comes alone, and has that wait to be taken. False, with nothing changed, where it
     /// doesn't come alone or memory is refused.
-    fn pass_on(&mut self, arriving: ArrivingData<'_>, what: Foreseen) -> bool
+    fn take_in_at_once(&mut self, arriving: ArrivingData<'_>, what: Foreseen) -> bool
         requires foreseen { foreseen_sequenced self.old arriving.head.channel (Some (data_command arriving)) ≡ Ok what }
         requires kept { what.kept ≡ true }
         ensures taken { IsTrue result → self.new ≡ (sequenced self.old arriving.entry.head.channel (Some (data_command arriving.entry))).after }
         ensures unchanged { result ≡ false → self.new ≡ self.old }
     {
         let receiver = &mut self.receivers[arriving.head.channel as usize];
-        let Some(bytes) = pass_on(receiver, &mut self.untaken, arriving) else {
+        let Some(bytes) = take_in_at_once(receiver, &mut self.untaken, arriving) else {
             return false;
         };
         self.waiting += bytes;

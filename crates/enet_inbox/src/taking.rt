@@ -94,7 +94,7 @@ pub(crate) fn take_in_instead(
 
 /// Takes a command in that the receiver would take in, where its packet comes alone, and puts that to the untaken ones at once.
 /// Answers how many bytes it has; None, with nothing changed, where it doesn't come alone or memory is refused.
-pub(crate) fn pass_on(
+pub(crate) fn take_in_at_once(
     receiver: &mut Incoming,
     untaken: &mut VecDeque<Packet>,
     arriving: ArrivingData<'_>,
@@ -115,7 +115,7 @@ pub(crate) fn pass_on(
     if untaken.len() == untaken.capacity() && untaken.reserve(1).is_err() {
         return None;
     }
-    let Some(packet) = receiver.pass_on(arriving) else {
+    let Some(packet) = receiver.take_in_at_once(arriving) else {
         return None;
     };
     let bytes = packet.body.len() as u128;

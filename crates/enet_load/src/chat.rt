@@ -156,7 +156,7 @@ impl Room {
         let BoundService { wire, service } = bound;
         let LoneRelay { events, .. } = &mut self.relay;
         let ms = wire.wait(rt)?;
-        let Ok(heard) = service.hear(rt, wire, events, ms, &mut self.buf) else {
+        let Ok(heard) = service.receive(rt, wire, events, ms, &mut self.buf) else {
             bail!("a turn failed");
         };
         let mut report = heard;
@@ -166,10 +166,10 @@ impl Room {
             if orders.is_empty() {
                 break;
             }
-            report = report.and(service.obey(rt, orders, events));
+            report = report.and(service.apply_orders(rt, orders, events));
             self.relay.expand()?;
         }
-        match service.speak(wire, &mut self.buf) {
+        match service.emit(wire, &mut self.buf) {
             Ok(sent) => Ok(report.and(sent)),
             Err(_) => bail!("a turn failed"),
         }

@@ -74,7 +74,7 @@ abbrev due_place : List SentControl → Option ℕ
 due_place sent = position (λ (p : SentControl). p.transmission.due) sent
 
 -- channel 0xFF, where nothing is queued and nothing is due to go again
-control-none : (now timeout : ℕ) (c : Commands) → controlling.is_still c ≡ true → controlling.next now timeout c ≡ None
+control-none : (now timeout : ℕ) (c : Commands) → controlling.is_at_rest c ≡ true → controlling.next now timeout c ≡ None
 control-none now timeout c e =
     ap (λ (o : Option ℕ). controlling.next_of now timeout c o) (nowhere (due_place c.sent) (all-right (length c.queued == 0) (not (is_some (due_place c.sent))) e))
     ∙ ap (λ (xs : List Numbered). controlling.next_queued now timeout c xs) (empty c.queued (all-left (length c.queued == 0) (not (is_some (due_place c.sent))) e))
@@ -84,7 +84,7 @@ control-none now timeout c e =
     nowhere (Some i) e = absurd (cc)
 
 -- an idle channel 0xFF is still
-idle-still : (c : Commands) → controlling.is_idle c ≡ true → controlling.is_still c ≡ true
+idle-still : (c : Commands) → controlling.is_idle c ≡ true → controlling.is_at_rest c ≡ true
 idle-still c e =
     ap (λ (b : Bool). b && not (is_some (due_place c.sent))) (all-left (length c.queued == 0) (length c.sent == 0) e)
     ∙ ap (λ (xs : List SentControl). not (is_some (due_place xs))) (empty c.sent (all-right (length c.queued == 0) (length c.sent == 0) e))

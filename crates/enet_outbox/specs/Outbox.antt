@@ -52,12 +52,12 @@ abbrev pub has_no_reliable : SendingEnd → Bool
 has_no_reliable s = not (left s.sender).reliable
 
 -- no reliable command is queued or unacknowledged
-abbrev pub is_quiet : Outbox → Bool
-is_quiet o = is_idle o.control && list_all has_no_reliable o.senders
+abbrev pub has_nothing_reliable : Outbox → Bool
+has_nothing_reliable o = is_idle o.control && list_all has_no_reliable o.senders
 
 -- nor is a packet queued
 abbrev pub is_done : Outbox → Bool
-is_done o = is_quiet o && list_all has_no_packet o.senders && length o.unsequenced == 0
+is_done o = has_nothing_reliable o && list_all has_no_packet o.senders && length o.unsequenced == 0
 
 abbrev pub cleared_sender : SendingEnd → SendingEnd
 cleared_sender s = record s { sender = sender.cleared s.sender }

@@ -5,8 +5,8 @@
 //! (acknowledgements in the order of arrival, channel 0xFF, unsequenced packets, then the channels in turn; the throttle is
 //! asked of the first command of an unreliable packet that fits; at most 32 commands and the mtu; the sent time exactly
 //! where a command asks for an acknowledgement), byte for byte at the front of the buffer, and leaves what they say;
-//! `submit`, `matched` (what an acknowledgement takes out), `late` (which asks the channels for an end only where one of their
-//! commands is late), `is_quiet`, `is_done`, `clear`, `narrow` and the rest; where `has_nothing` answers true, nothing is queued or
+//! `submit`, `acknowledge` (what an acknowledgement takes out), `late` (which asks the channels for an end only where one of their
+//! commands is late), `has_nothing_reliable`, `is_done`, `clear`, `narrow` and the rest; where `has_nothing` answers true, nothing is queued or
 //! unacknowledged.
 //! What later calls need has its room before, told as a number: `acknowledge` and `queue_control` ask for room, and `narrow`
 //! that nothing is in transit.

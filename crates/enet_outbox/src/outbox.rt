@@ -8,7 +8,7 @@ ghost use Rattle.enet_fragment.specs.Cutting.{piece_length, piece_count};
 ghost use Rattle.enet_sender.specs.Due.{SendingEnd};
 ghost use Rattle.enet_sender.specs.Sender as sender;
 ghost use Rattle.enet_senders.specs.Controlling.{is_idle};
-ghost use Rattle.enet_outbox.specs.Outbox.{acknowledgement_limit, acknowledging, after_acknowledgement, after_lateness, cleared, empty_outbox, is_crowded, is_done, is_quiet, lateness, marked, matched_by, narrowed, sampled, submitted, transit_of, with_control, with_unsequenced};
+ghost use Rattle.enet_outbox.specs.Outbox.{acknowledgement_limit, acknowledging, after_acknowledgement, after_lateness, cleared, empty_outbox, is_crowded, is_done, has_nothing_reliable, lateness, marked, matched_by, narrowed, sampled, submitted, transit_of, with_control, with_unsequenced};
 
 use crate::{Acknowledgement, Matched, Unsequenced, lists};
 use bytes::Bytes;
@@ -183,7 +183,7 @@ impl Outbox {
 
     /// Queues an acknowledgement behind those that wait. Where as many wait as may, 8,192, it is passed over, and nothing changes (our
     /// profile). There must be room for it, so it takes no memory.
-    pub fn acknowledge(&mut self, what: Acknowledgement)
+    pub fn queue_acknowledgement(&mut self, what: Acknowledgement)
         requires room { 1 ≤ self.old.acknowledgement_room }
         ensures outbox { self.new.outbox ≡ acknowledging self.old.outbox what }
         ensures room { self.old.acknowledgement_room ≤ self.new.acknowledgement_room + 1 }
@@ -222,7 +222,7 @@ impl Outbox {
 
     /// An acknowledgement comes: the one sent command of this channel and number goes, and the answer says what it was.
     /// `Nothing`, with all as it was, where no sent command has them.
-    pub fn matched(&mut self, channel: u8, number: u16) -> Matched
+    pub fn acknowledge(&mut self, channel: u8, number: u16) -> Matched
         ensures found { result ≡ matched_by self.old.outbox channel number }
         ensures outbox { self.new.outbox ≡ after_acknowledgement self.old.outbox channel number }
         ensures acknowledgement_room { self.new.acknowledgement_room ≡ self.old.acknowledgement_room }
@@ -230,7 +230,7 @@ impl Outbox {
     {
         if channel != CONTROL_CHANNEL {
             self.idle = false;
-            return lists::accept(&mut self.senders, &mut self.transit, channel, number);
+            return lists::acknowledge_on(&mut self.senders, &mut self.transit, channel, number);
         }
         match self.control.acknowledge(number) {
             None => Matched::Nothing,
@@ -249,7 +249,7 @@ impl Outbox {
     }
 
     /// Sets the throttle's interval in milliseconds, its acceleration and its deceleration, and nothing else.
-    pub fn configure_throttle(&mut self, interval: u32, acceleration: u32, deceleration: u32)
+    pub fn throttle_configure(&mut self, interval: u32, acceleration: u32, deceleration: u32)
         ensures outbox { self.new.outbox ≡ record self.old.outbox { throttle = with_interval self.old.outbox.throttle interval acceleration deceleration } }
         ensures acknowledgement_room { self.new.acknowledgement_room ≡ self.old.acknowledgement_room }
         ensures control_room { self.new.control_room ≡ self.old.control_room }
@@ -259,7 +259,7 @@ impl Outbox {
     }
 
     /// Sets the throttle's limit, where more than 32 counts as 32, and cuts the throttle to it.
-    pub fn limit_throttle(&mut self, limit: u32)
+    pub fn throttle_limit(&mut self, limit: u32)
         ensures outbox { self.new.outbox ≡ record self.old.outbox { throttle = limited self.old.outbox.throttle limit } }
         ensures acknowledgement_room { self.new.acknowledgement_room ≡ self.old.acknowledgement_room }
         ensures control_room { self.new.control_room ≡ self.old.control_room }
@@ -330,8 +330,8 @@ impl Outbox {
 
     /// Whether no reliable command is queued or unacknowledged, on any channel. Then there is room for one command of
     /// channel 0xFF.
-    pub fn is_quiet(&self) -> bool
-        ensures quiet { result ≡ is_quiet self.now.outbox }
+    pub fn has_nothing_reliable(&self) -> bool
+        ensures reliable { result ≡ has_nothing_reliable self.now.outbox }
         ensures room { IsTrue result → 1 ≤ self.now.control_room }
     {
         self.control.is_idle() && (self.idle || self.senders.have_no_reliable())
@@ -343,7 +343,7 @@ impl Outbox {
         ensures done { result ≡ is_done self.now.outbox }
         ensures room { IsTrue result → 1 ≤ self.now.control_room }
     {
-        self.is_quiet() && self.senders.have_no_packet() && self.unsequenced.is_empty()
+        self.has_nothing_reliable() && self.senders.have_no_packet() && self.unsequenced.is_empty()
     }
 
     /// Whether an acknowledgement waits to be put out.

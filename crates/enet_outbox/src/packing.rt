@@ -194,7 +194,7 @@ pub(crate) fn pack_controls(
         return from;
     }
     let mut progress = from;
-    'turns: loop {
+    'commands: loop {
         let place = progress.place(buf);
         match control.next_due(pace.now, pace.timeout, buf, place) {
             Written::Sent { past } => progress = progress.with(buf, past),
@@ -268,7 +268,7 @@ fn pack_channel(
         (record { progress = from; buf = buf.old }) (record { progress = result; buf = buf.new })) }
 {
     let mut progress = from;
-    'turns: loop {
+    'commands: loop {
         let place = progress.place(buf);
         let most = flow.throttle.transit_limit(pace.window, pace.mtu);
         let occasion = Occasion {
@@ -538,14 +538,15 @@ impl Outbox {
         self.acknowledgements.is_empty()
             && self.unsequenced.is_empty()
             && self.senders.next_ready(0) >= self.senders.len()
-            && self.control.is_still()
+            && self.control.is_at_rest()
     }
 
     /// Looks whether the channels have nothing queued or unacknowledged.
     fn look_for_idle(&mut self)
         ensures { self.new ≡ self.old }
     {
-        self.idle =
-            self.transit == 0 && self.senders.have_no_packet() && self.senders.have_no_reliable();
+        self.idle = self.transit == 0
+            && self.senders.have_no_packet()
+            && self.senders.have_no_reliable();
     }
 }

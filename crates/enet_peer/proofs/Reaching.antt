@@ -557,8 +557,8 @@ ticked-keeps p now h =
     let a : IsReachable q = timeouts-keep p now (lateness p.outbox now p.patience p.heard) h in
     let told : Peering = record q { outbox = with_control q.outbox control.Ping } in
     if-peer (is_pinged q now) told q
-    (λ t. connected-keeps q.state told refl (and-left (is_connected q.state) (outbox.is_quiet q.outbox)
-    (and-left (is_connected q.state && outbox.is_quiet q.outbox) (leb q.ping_interval (Rattle.enet_rtt.specs.Clock.elapsed_time now q.heard)) t)) a.places a.handed_over) a
+    (λ t. connected-keeps q.state told refl (and-left (is_connected q.state) (outbox.has_nothing_reliable q.outbox)
+    (and-left (is_connected q.state && outbox.has_nothing_reliable q.outbox) (leb q.ping_interval (Rattle.enet_rtt.specs.Clock.elapsed_time now q.heard)) t)) a.places a.handed_over) a
 
 -- ---- the user's calls
 

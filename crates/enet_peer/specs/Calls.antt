@@ -15,7 +15,7 @@ use Rattle.enet_fragment.specs.Cutting.{piece_count}
 use Rattle.enet_sender.specs.CommandChoice.{Packet, fragment_limit}
 use Rattle.enet_outbox.specs.declared.parts.Pace.{Pace}
 use Rattle.enet_outbox.specs.declared.parts.Destination.{Destination}
-use Rattle.enet_outbox.specs.Outbox.{is_quiet, with_control, has_late, lateness, marked}
+use Rattle.enet_outbox.specs.Outbox.{has_nothing_reliable, with_control, has_late, lateness, marked}
 use Rattle.enet_outbox.specs.Outbox as outbox
 use Rattle.enet_outbox.specs.Emission.{filled, Emits}
 use Rattle.enet_peer.specs.declared.parts.PeerState.{PeerState}
@@ -131,7 +131,7 @@ after_timeouts p now = after_timeouts_by (lateness p.outbox now p.patience p.hea
 
 -- a connected peer that is quiet and was not heard for the interval is pinged
 abbrev pub is_pinged : Peering → ℕ → Bool
-is_pinged p now = is_connected p.state && is_quiet p.outbox && nat_le p.ping_interval (elapsed_time now p.heard)
+is_pinged p now = is_connected p.state && has_nothing_reliable p.outbox && nat_le p.ping_interval (elapsed_time now p.heard)
 
 abbrev pub pinged : Peering → ℕ → Peering
 pinged p now = if is_pinged p now then record p { outbox = with_control p.outbox control.Ping } else p

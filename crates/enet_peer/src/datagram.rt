@@ -1,6 +1,6 @@
 //! A datagram of ENet 1.3: its header, and its commands, as they come to a peer one after another.
 //!
-//! Proved: `obey` is exact by the relation `Handles` over the bytes: command after command as the bytes spell them, each as
+//! Proved: `receive` is exact by the relation `Handles` over the bytes: command after command as the bytes spell them, each as
 //! `obeyed` says, until none is left, none stands at the front (S6) or one stops the datagram; how many were handled,
 //! that of S12 among them. `read_heading` and `read_offer` read the header and a stranger's offer exactly. Law
 //! `what_was_put_out_comes`: of bytes that spell a list of commands, just these come to the peer.
@@ -23,7 +23,7 @@ use enet_codec::{Received, Stop, read_command};
 /// S6 where no command stands at the front of what is left, else the stop of the peer's call. The commands before a stop have
 /// taken effect, and none after it is looked at. `handled` counts the commands that took effect or were passed over, and that
 /// of S12, which took effect too; it stops at 4,294,967,295.
-pub fn obey(peer: &mut Peer, now: u32, sent: Option<u16>, commands: &[u8]) -> Received
+pub fn receive(peer: &mut Peer, now: u32, sent: Option<u16>, commands: &[u8]) -> Received
     ensures { Handles (record { now = now; sent = sent }) (record { handled = 0; peer = peer.old.peer }) commands.now result peer.new.peer }
 {
     let mut handled: u32 = 0;

@@ -119,17 +119,22 @@ impl Peer {
                 return Ok(());
             }
         }
-        self.carry_out(now, sent, command)
+        self.command_in_steps(now, sent, command)
     }
 
-    /// The same of any command, step by step; an ACKNOWLEDGE that asks for none is done before.
-    fn carry_out(&mut self, now: u32, sent: Option<u16>, command: &Command<'_>) -> Result<(), Stop>
+    /// Does what `command` says, step by step, for any command; an ACKNOWLEDGE that asks for none is done before.
+    fn command_in_steps(
+        &mut self,
+        now: u32,
+        sent: Option<u16>,
+        command: &Command<'_>,
+    ) -> Result<(), Stop>
         ensures { Obeys result (wants_memory self.old.peer now sent (view command.now)) (obeyed self.old.peer now sent (view command.now)) self.old.peer self.new.peer }
     {
         let foreseen = self.foresee(command)?;
         let head = head_of(command);
         self.make_room(sent, head, command, foreseen.acknowledged)?;
-        self.act(now, sent.is_some(), command, foreseen)?;
+        self.on_command(now, sent.is_some(), command, foreseen)?;
         self.answer(sent, head, command, foreseen.acknowledged)
     }
 
@@ -240,7 +245,7 @@ impl Peer {
     }
 
     /// Does what a command asks for, all but its acknowledgement. S11 where memory is refused, with nothing changed.
-    fn act(
+    fn on_command(
         &mut self,
         now: u32,
         tells: bool,
@@ -278,7 +283,7 @@ impl Peer {
             | Command::SendUnreliable { .. }
             | Command::SendFragment { .. }
             | Command::SendUnsequenced { .. }
-            | Command::SendUnreliableFragment { .. } => return self.take_in(command, what),
+            | Command::SendUnreliableFragment { .. } => return self.on_data(command, what),
         }
         Ok(())
     }
@@ -303,7 +308,7 @@ impl Peer {
         let Some(time) = sent else {
             return Err(Stop::NoSentTime);
         };
-        self.outbox.acknowledge(Acknowledgement {
+        self.outbox.queue_acknowledgement(Acknowledgement {
             channel: head.channel,
             number: head.number,
             time,
@@ -320,15 +325,15 @@ impl Peer {
         if self.state == PeerState::Connecting {
             return;
         }
-        self.accept(now, channel, number, time);
+        self.acknowledge(now, channel, number, time);
     }
 
     /// An acknowledgement takes away what it matches; one that matches nothing has no effect.
-    fn accept(&mut self, now: u32, channel: u8, number: u16, time: u16)
+    fn acknowledge(&mut self, now: u32, channel: u8, number: u16, time: u16)
         ensures peer { self.new.peer ≡ accepted self.old.peer now channel number time }
         ensures acknowledgement_room { self.old.acknowledgement_room ≤ self.new.acknowledgement_room }
     {
-        match self.outbox.matched(channel, number) {
+        match self.outbox.acknowledge(channel, number) {
             Matched::Nothing => {}
             Matched::Data => {
                 self.sample(now, time);
@@ -432,12 +437,12 @@ impl Peer {
         ensures acknowledgement_room { self.new.acknowledgement_room ≡ self.old.acknowledgement_room }
     {
         self.outbox
-            .configure_throttle(interval, acceleration, deceleration);
+            .throttle_configure(interval, acceleration, deceleration);
     }
 
     /// Takes a data command in that nothing stops, where something of it is kept. S11 where memory is refused, with nothing
     /// changed.
-    fn take_in(&mut self, command: &Command<'_>, what: Foreseen) -> Result<(), Stop>
+    fn on_data(&mut self, command: &Command<'_>, what: Foreseen) -> Result<(), Stop>
         requires kept { what.kept ≡ is_kept self.old.peer (view command.now) }
         requires value { IsTrue what.kept → coming.foreseen self.old.peer.inbox (view command.now) ≡ Ok what }
         ensures done { OnOk result (self.new.peer ≡ taken_in self.old.peer (view command.now)) }

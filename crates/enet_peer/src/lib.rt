@@ -1,4 +1,4 @@
-//! The machine of one peer in ENet 1.3: what each command, datagram ([`obey`]), moment and call makes of it.
+//! The machine of one peer in ENet 1.3: what each command, datagram ([`receive`]), moment and call makes of it.
 //!
 //! # Proved
 //!
@@ -44,7 +44,7 @@ mod sending;
 mod settings;
 mod time;
 
-pub use datagram::{obey, what_was_put_out_comes};
+pub use datagram::{receive, what_was_put_out_comes};
 pub use heading::{read_heading, read_offer};
 pub use held::Held;
 pub use laws::{disconnect_is_answered, reachable_stays};

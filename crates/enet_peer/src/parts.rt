@@ -5,23 +5,23 @@ use enet_codec::Packet;
 /// How far a connection has come.
 #[derive(Clone, Copy, Debug, PartialEq, Eq)]
 pub enum PeerState {
-    /// There is no connection.
+    /// There is no connection. ENet: DISCONNECTED.
     Free,
-    /// A client has asked, and waits for the server's answer.
+    /// A client has asked, and waits for the server's answer. ENet: CONNECTING.
     Connecting,
-    /// A server has answered, and waits for the client's acknowledgement.
+    /// A server has answered, and waits for the client's acknowledgement. ENet: ACKNOWLEDGING_CONNECT.
     Answering,
-    /// The connection stands.
+    /// The connection stands. ENet: CONNECTED, or until its event is taken CONNECTION_PENDING or CONNECTION_SUCCEEDED.
     Connected,
-    /// The user has asked for the end; what is queued and unacknowledged goes first.
+    /// The user has asked for the end; what is queued and unacknowledged goes first. ENet: DISCONNECT_LATER.
     DisconnectLater,
-    /// DISCONNECT waits for its acknowledgement.
+    /// DISCONNECT waits for its acknowledgement. ENet: DISCONNECTING.
     Disconnecting,
-    /// The other end's DISCONNECT is to be acknowledged.
+    /// The other end's DISCONNECT is to be acknowledged. ENet: ACKNOWLEDGING_DISCONNECT.
     AckDisconnect,
-    /// The connection has ended, and the user hasn't been told yet.
+    /// The connection has ended, and the user hasn't been told yet. ENet: ZOMBIE.
     Ended,
-    /// One unsequenced DISCONNECT is still to go.
+    /// One unsequenced DISCONNECT is still to go; ENet has no such state, since it sends that at once.
     Parting,
 }
 
@@ -42,7 +42,7 @@ pub struct Limits {
 /// What a peer tells its user.
 #[derive(Drop)]
 pub enum PeerEvent {
-    /// The connection stands. `info` is the word that the connecting end gave, at that end itself 0.
+    /// The connection stands. `info` (ENet's `data`) is the word that the connecting end gave, at that end itself 0.
     Connect { info: u32 },
     /// A packet came.
     Receive { packet: Packet },

@@ -47,7 +47,7 @@ impl Peer {
         ensures { self.new.peer ≡ with_throttle self.old.peer interval acceleration deceleration }
     {
         self.outbox
-            .configure_throttle(interval, acceleration, deceleration);
+            .throttle_configure(interval, acceleration, deceleration);
         self.outbox.queue_control(Control::ThrottleConfigure {
             interval,
             acceleration,
@@ -60,7 +60,7 @@ impl Peer {
         ensures peer { self.new.peer ≡ with_throttle_limit self.old.peer limit }
         ensures room { self.new.room ≡ self.old.room }
     {
-        self.outbox.limit_throttle(limit);
+        self.outbox.throttle_limit(limit);
     }
 
     /// Sets after how many milliseconds a peer that was not heard is pinged; 0 stands for the default of 500.

@@ -2,7 +2,7 @@
 
 ghost use Rattle.std.specs.Prelude.{◌≡◌, ℕ, ◌≤◌, ◌<◌, ◌^◌, ◌&&◌, IsTrue};
 ghost use Rattle.enet_rtt.specs.Clock.{elapsed_time, HappensIn};
-ghost use Rattle.enet_outbox.specs.Outbox.{is_quiet};
+ghost use Rattle.enet_outbox.specs.Outbox.{has_nothing_reliable};
 ghost use Rattle.enet_peer.specs.Endings.{cut_off};
 ghost use Rattle.enet_peer.specs.Calls.{after_timeouts, growth_bound, is_connected, is_due, is_pinged, pinged, ticked};
 
@@ -94,9 +94,9 @@ impl Peer {
 
     /// Whether a PING is wanted once nothing was heard for the ping interval. Then there is room for it.
     fn awaits_ping(&self) -> bool
-        ensures awaits { result ≡ (is_connected self.now.peer.state && is_quiet self.now.peer.outbox) }
+        ensures awaits { result ≡ (is_connected self.now.peer.state && has_nothing_reliable self.now.peer.outbox) }
         ensures room { IsTrue result → 1 ≤ self.now.room }
     {
-        self.is_connected() && self.outbox.is_quiet()
+        self.is_connected() && self.outbox.has_nothing_reliable()
     }
 }

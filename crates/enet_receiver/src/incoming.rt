@@ -254,7 +254,7 @@ impl Incoming {
     /// alone: the next one in order or an unreliable one of the front, whole, while nothing is held, waits or was dispatched and
     /// not popped. It is the packet that `pop` would give after `take_in`, and none is left to pop. None, with nothing changed,
     /// where it doesn't come alone or memory is refused.
-    pub fn pass_on(&mut self, arriving: ArrivingData<'_>) -> Option<Packet>
+    pub fn take_in_at_once(&mut self, arriving: ArrivingData<'_>) -> Option<Packet>
         requires { WouldBeHeld self.old (Some (data_command arriving)) }
         ensures taken { IfSome result (λ packet. (full : Bool) → outcome_for self.old (Some (data_command arriving.entry)) full ≡ Took.Held
             → after_command self.old (Some (data_command arriving.entry)) full ≡ with_first self.new packet) }

@@ -5,7 +5,7 @@
 //! `unreliable`, `fragment`, `unreliable_fragment`: the first outcome that applies, `took`, and the receiver after it,
 //! `held`; every other outcome changes nothing, `unchanged`; Memory comes only where the command would be held, `memory`),
 //! `foresee`, `foresee_data` (outcome, whether the window lets it be acknowledged, how many packets it dispatches), `take_in` (what
-//! was foreseen to be held is, and is not looked at again), `pass_on` (the same, where it hands the one packet out that `take_in`
+//! was foreseen to be held is, and is not looked at again), `take_in_at_once` (the same, where it hands the one packet out that `take_in`
 //! would dispatch), `take_in_instead` and `dispatches_instead` (the same where the unreliable packets that wait are given up for it),
 //! `give_way`, `held`, `waiting`, `pop`, `clear`, `open`; and `ArrivingData::of` (which sequenced data command a command is). Laws: as
 //! many turns as packets are held are enough to dispatch all that is due (`turns_suffice`), and what was dispatched before makes
@@ -14,7 +14,7 @@
 //! Inside, by the invariants of `Held` and `Block`: a number is marked exactly where a packet is held under it.
 //! Only tested, in `check_numbers` and `check_peer`: that calls succeed with ample memory, and the worked scripts of one
 //! channel. Neither: that a block's marks go with the last number that is held of it, what look-ups the marks save, and when
-//! `pass_on` gives a packet. It does so, with ample memory, exactly where one comes alone: the next one in order or an unreliable
+//! `take_in_at_once` gives a packet. It does so, with ample memory, exactly where one comes alone: the next one in order or an unreliable
 //! one of the front, whole, while nothing is held, waits or was dispatched and not popped. But no clause says that it ever gives
 //! one: a body that never does would pass. So would one that gives a packet elsewhere too, as where others are held that stay so.
 #![tactic(auto)]

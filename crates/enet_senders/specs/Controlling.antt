@@ -166,5 +166,5 @@ abbrev pub is_idle : Commands → Bool
 is_idle c = length c.queued == 0 && length c.sent == 0
 
 -- whether nothing may go before a call or a moment: nothing is queued, and nothing that is sent is due to go again
-abbrev pub is_still : Commands → Bool
-is_still c = length c.queued == 0 && not (is_some (position (λ (p : SentControl). p.transmission.due) c.sent))
+abbrev pub is_at_rest : Commands → Bool
+is_at_rest c = length c.queued == 0 && not (is_some (position (λ (p : SentControl). p.transmission.due) c.sent))

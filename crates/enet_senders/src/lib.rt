@@ -11,7 +11,7 @@
 //! `next_ready` promises of each channel that it passes over that it has nothing queued, and nothing that is due to go again; where
 //! `has_to_wait` answers true, `next_due` has nothing to write on that channel.
 //! `next_late` says when something is late first. Of channel 0xFF, exactly by specs/Controlling: `queue`, `next_due`, `acknowledge`,
-//! `late`, `next_late`, `clear`, `is_idle`, `is_still`, `reserve`, `open` and the calls that only test or only mark (`ends`, `is_late`, `mark`,
+//! `late`, `next_late`, `clear`, `is_idle`, `is_at_rest`, `reserve`, `open` and the calls that only test or only mark (`ends`, `is_late`, `mark`,
 //! `has_queued`); a list without commands has room for one.
 //! Only tested, by `check_peer`: that calls succeed with ample memory, the bytes of each command of channel 0xFF, and worked rows.
 #![tactic(auto)]

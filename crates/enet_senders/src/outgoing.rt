@@ -5,7 +5,7 @@ ghost use Rattle.std.specs.List.{list_any};
 ghost use Rattle.enet_rtt.specs.Clock.{HappensIn};
 ghost use Rattle.enet_sender.specs.Counting.{added};
 ghost use Rattle.enet_senders.specs.Counting.{count_control};
-ghost use Rattle.enet_senders.specs.Controlling.{after_acknowledgement, acknowledged_control, after_lateness, cleared, Did, is_idle, is_still, lateness, next, next_queued, next_resent, nothing_controlled, ends, is_late, with_marked, with_queued};
+ghost use Rattle.enet_senders.specs.Controlling.{after_acknowledgement, acknowledged_control, after_lateness, cleared, Did, is_idle, is_at_rest, lateness, next, next_queued, next_resent, nothing_controlled, ends, is_late, with_marked, with_queued};
 
 use crate::queue::{
     any_ends, any_late, count_sent_again, is_in_span, lateness, make_room, mark, next_late,
@@ -255,8 +255,8 @@ impl ControlChannel {
 
     /// Whether nothing goes before a call or a moment brings it something: nothing is queued, and nothing that was sent is due to
     /// go again. What was sent may be unacknowledged.
-    pub fn is_still(&self) -> bool
-        ensures { result ≡ is_still self.now.commands }
+    pub fn is_at_rest(&self) -> bool
+        ensures { result ≡ is_at_rest self.now.commands }
     {
         self.queued.is_empty() && position_of_due(&self.sent).is_none()
     }

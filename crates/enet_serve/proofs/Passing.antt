@@ -16,7 +16,7 @@ use Rattle.enet_chat.specs.Relaying.{noted_all}
 use Rattle.enet_chat.proofs.Relays.{noted_more, on_for_each, joined}
 use Rattle.enet_service.specs.declared.report.Report.{Report}
 use Rattle.enet_service.specs.Counts.{stopped, given_in, came_in, went_in, blocked_in, taken_in}
-use Rattle.enet_service.specs.LoneTurn.{Obeyed, gave_in, puts_in}
+use Rattle.enet_service.specs.LoneTurn.{Applied, gave_in, puts_in}
 use Rattle.enet_service.specs.Phases.{Chain}
 use Rattle.enet_service.specs.Queues.{given, accepted}
 use Rattle.enet_service.proofs.Reporting.{same_report}
@@ -88,11 +88,11 @@ passes_then a b c d g h p q one table gives put expands =
     passes_on a b d g h p q one (subst (λ (y : List (Event × Bool)). Passes b h y d) (append-nil q) (subst (λ (x : List (Option Submission)). Passes b x (q ++ []) d) (append-nil h) two))
 
 -- orders one more time
-pub gave_more : (os : List Obeyed) (o : Obeyed) → gave_in (os ++ o ∷ []) ≡ gave_in os ++ o.gave
-gave_more os o = flat_map-append (λ (x : Obeyed). x.gave) os (o ∷ []) ∙ ap (λ (xs : List (Option Submission)). gave_in os ++ xs) (append-nil o.gave)
+pub gave_more : (os : List Applied) (o : Applied) → gave_in (os ++ o ∷ []) ≡ gave_in os ++ o.gave
+gave_more os o = flat_map-append (λ (x : Applied). x.gave) os (o ∷ []) ∙ ap (λ (xs : List (Option Submission)). gave_in os ++ xs) (append-nil o.gave)
 
-pub puts_more : (os : List Obeyed) (o : Obeyed) → puts_in (os ++ o ∷ []) ≡ puts_in os ++ o.puts
-puts_more os o = flat_map-append (λ (x : Obeyed). x.puts) os (o ∷ []) ∙ ap (λ (xs : List (Event × Bool)). puts_in os ++ xs) (append-nil o.puts)
+pub puts_more : (os : List Applied) (o : Applied) → puts_in (os ++ o ∷ []) ≡ puts_in os ++ o.puts
+puts_more os o = flat_map-append (λ (x : Applied). x.puts) os (o ∷ []) ∙ ap (λ (xs : List (Event × Bool)). puts_in os ++ xs) (append-nil o.puts)
 
 -- what so many orders report
 abbrev pub of_orders : List (Option Submission) → List (Event × Bool) → Report
@@ -148,6 +148,6 @@ turn_report h o b s u came went g p q eh eo eb es eu =
     events_then : (x d e n : ℕ) → x ≡ stopped n → d ≡ x → e ≡ 0 → stopped (d + e) ≡ stopped n
     events_then x d e n ex ed ee = omega (arith, ex, ed, ee)
 
-pub obeyed_more : (P : List (Option Submission) → List (Event × Bool) → Type 0) (os : List Obeyed) (o : Obeyed) → P (gave_in os ++ o.gave) (puts_in os ++ o.puts) → P (gave_in (os ++ o ∷ [])) (puts_in (os ++ o ∷ []))
+pub obeyed_more : (P : List (Option Submission) → List (Event × Bool) → Type 0) (os : List Applied) (o : Applied) → P (gave_in os ++ o.gave) (puts_in os ++ o.puts) → P (gave_in (os ++ o ∷ [])) (puts_in (os ++ o ∷ []))
 obeyed_more P os o h =
     subst (λ (p : List (Event × Bool)). P (gave_in (os ++ o ∷ [])) p) (sym (puts_more os o)) (subst (λ (g : List (Option Submission)). P g (puts_in os ++ o.puts)) (sym (gave_more os o)) h)

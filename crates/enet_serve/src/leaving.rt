@@ -26,7 +26,7 @@ pub(crate) fn take_leave<R: Wait + Clock, N: Wire + Drop>(
     if see_off(rt, alloc, bound).is_err() {
         return;
     }
-    if bound.service.host.part_from_all(DisconnectMode::Now) > 0 {
+    if bound.service.host.disconnect_all(DisconnectMode::Now) > 0 {
         let _ = take_turn(rt, alloc, bound);
     }
 }
@@ -41,7 +41,7 @@ fn see_off<R: Wait + Clock, N: Wire + Drop>(
 {
     let start = Instant::now(rt);
     for _ in rt.forever() {
-        let peers = bound.service.host.part_from_all(DisconnectMode::Later);
+        let peers = bound.service.host.disconnect_all(DisconnectMode::Later);
         take_turn(rt, alloc, bound)?;
         if peers == 0 || is_over(rt, &start) {
             return Ok(());

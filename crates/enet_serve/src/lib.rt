@@ -2,7 +2,7 @@
 //! demonstration of it: the server and its clients in one process ([`demonstrate`]).
 //!
 //! Proved: one call of [`ChatServer::serve`] or [`ChatServer::serve_alone`] (`Serves`) is turns of the service, each in the order of its
-//! kind (in one thread a turn tells events and takes orders between hearing and sending), as many as were asked for where a number was, in
+//! kind (in one thread a turn tells events and takes orders between receiving and sending), as many as were asked for where a number was, in
 //! none of which the wire failed, and its report their sums. Each event that the turns told was expanded by the rule of the relay, once
 //! and in order, or waits for the next call; each order that the events gave was handed to a turn, once and for every receiver in order,
 //! or waits, too; and events wait only where orders do, and where more orders were handed to the turns or wait than the queue has places,

@@ -1,7 +1,7 @@
 //! A turn of a service whose relay shares its thread.
 ghost use Rattle.std.specs.Prelude.{◌≡◌, ◌≢◌, ◌+◌, ◌⊎◌, List, ◌∷◌, OnOk, IfOk, IfErr};
 ghost use Rattle.enet_chat.specs.Relaying.{AreBehind, AreFarBehind};
-ghost use Rattle.enet_service.specs.LoneTurn.{LoneTurn, Obeyed, ObeysAll, gave_in, puts_in};
+ghost use Rattle.enet_service.specs.LoneTurn.{LoneTurn, Applied, AppliesAll, gave_in, puts_in};
 ghost use Rattle.enet_service.specs.Turn.{Round};
 ghost use Rattle.enet_service.specs.Counts.{given_in, taken_in, stopped};
 ghost use Rattle.enet_bridge.specs.declared.told.Told.TheVariants.{Waited};
@@ -48,8 +48,8 @@ pub(crate) fn lone_turn<H: Core, W: Wire, R: Wait + Clock>(
             });
         }
     };
-    let heard = service.hear(rt, wire, &mut relay.events, ms, buf)?;
-    let obeyed = match obey_all(rt, service, relay) {
+    let heard = service.receive(rt, wire, &mut relay.events, ms, buf)?;
+    let applied = match apply_all(rt, service, relay) {
         Ok(report) => heard.and(report),
         Err(Fault { why, report }) => {
             return Err(Fault {
@@ -58,24 +58,24 @@ pub(crate) fn lone_turn<H: Core, W: Wire, R: Wait + Clock>(
             });
         }
     };
-    match service.speak(wire, buf) {
-        Ok(report) => Ok(obeyed.and(report)),
+    match service.emit(wire, buf) {
+        Ok(report) => Ok(applied.and(report)),
         Err(Fault { why, report }) => Err(Fault {
             why,
-            report: obeyed.and(report),
+            report: applied.and(report),
         }),
     }
 }
 
 // Expands what was told and has the orders carried out, and again, until no order waits or much was done.
-fn obey_all<H: Core, R: Wait>(
+fn apply_all<H: Core, R: Wait>(
     rt: &R,
     service: &mut Service<H>,
     relay: &mut LoneRelay,
 ) -> Result<Report, Fault>
-    ensures obeys { IfOk result (λ report. (obeyed : List Obeyed) × ObeysAll H.calls service.old obeyed service.new
-        × Passes relay.old (gave_in obeyed) (puts_in obeyed) relay.new
-        × (report ≡ record { orders = stopped (given_in (gave_in obeyed)); received = 0; sent = 0; lost = 0; events = stopped (taken_in (puts_in obeyed)) })) }
+    ensures applies { IfOk result (λ report. (applied : List Applied) × AppliesAll H.calls service.old applied service.new
+        × Passes relay.old (gave_in applied) (puts_in applied) relay.new
+        × (report ≡ record { orders = stopped (given_in (gave_in applied)); received = 0; sent = 0; lost = 0; events = stopped (taken_in (puts_in applied)) })) }
     ensures behind { OnOk result (AreBehind relay.new.events relay.new.orders) }
     ensures far_behind { OnOk result (AreFarBehind 256 relay.new.events relay.new.orders) }
     ensures memory { IfErr result (λ fault. fault.why ≡ Refusal.Memory) }
@@ -88,7 +88,7 @@ fn obey_all<H: Core, R: Wait>(
         if relay.orders.is_empty() {
             return Ok(report);
         }
-        let orders = service.obey(rt, &mut relay.orders, &mut relay.events);
+        let orders = service.apply_orders(rt, &mut relay.orders, &mut relay.events);
         report = report.and(orders);
         if let Err(why) = expand(service, relay) {
             return Err(Fault { why, report });

@@ -10,7 +10,7 @@ use Rattle.enet_peer.specs.Peering.{Peering}
 use Rattle.enet_slot.specs.Slot.{SlotState, name_of, with_peer}
 use Rattle.enet_host.specs.Host.{Host, name_if, name_held, name_in, names_below, one_name}
 use Rattle.enet_host.proofs.Holding.{does-over}
-use Rattle.enet_service.specs.Hosting.{Obeys}
+use Rattle.enet_service.specs.Hosting.{AppliesOrder}
 use Rattle.enet_service.specs.ServiceRuns.{PartsFrom}
 use Rattle.enet_service.proofs.PhaseSteps.{chain_step}
 
@@ -34,7 +34,7 @@ passed-by i old new u = record {
 
 -- the peer in slot i is told that its connection ends
 pub parted-by : (i : ℕ) (old : List SlotState) (h g : Host) (peer : PeerRef) (how : DisconnectMode) (why : Option Refusal) → Untouched i old h.slots → peer.slot ≡ i
-    → Obeys h (Disconnect peer how 0) why g → Untouched (i + 1) old g.slots
+    → AppliesOrder h (Disconnect peer how 0) why g → Untouched (i + 1) old g.slots
 parted-by i old h g peer how why u at asked =
     does-over (Untouched (i + 1) old) h.slots g.slots peer (leaving how 0) asked.0 (passed-by i old h.slots u)
     (λ s q. record {
@@ -66,13 +66,13 @@ more-names slots i name e =
     ap (names_below slots) next ∙ ap (λ (n : Option PeerRef). names_below slots i ++ one_name n) e
 
 pub one-parted : (how : DisconnectMode) (old h g : Host) (i parted : ℕ) (peer : PeerRef) (why : Option Refusal) → PartedBelow how old i parted h → name_in h.slots i ≡ Some peer
-    → Obeys h (Disconnect peer how 0) why g → PartedBelow how old (i + 1) (parted + 1) g
+    → AppliesOrder h (Disconnect peer how 0) why g → PartedBelow how old (i + 1) (parted + 1) g
 one-parted how old h g i parted peer why b here asked =
     let names = more-names old.slots i (Some peer) (same-name i old.slots h.slots b.3 ∙ here) in (
       omega (arith, b.0, ap length names, length-append (names_below old.slots i) (peer ∷ [])),
       omega (arith, b.1),
       subst (λ (ps : List PeerRef). PartsFrom how old ps g) (sym names)
-          (chain_step (λ (s : Host) (p : PeerRef) (t : Host). (w : Option Refusal) × Obeys s (Disconnect p how 0) w t) old (names_below old.slots i) h peer g b.2 (why, asked)),
+          (chain_step (λ (s : Host) (p : PeerRef) (t : Host). (w : Option Refusal) × AppliesOrder s (Disconnect p how 0) w t) old (names_below old.slots i) h peer g b.2 (why, asked)),
       parted-by i old.slots h g peer how why b.3 (named-held i (slice_get h.slots i) peer here) asked,
     )
 

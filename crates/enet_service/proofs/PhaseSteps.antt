@@ -9,32 +9,32 @@ use Rattle.enet_bridge.specs.declared.told.Told.{Told}
 use Rattle.enet_bridge.specs.declared.told.Told.TheVariants.{Came, Went}
 use Rattle.enet_service.specs.declared.service.Service.{Service}
 use Rattle.enet_service.specs.Calls.{Calls}
-use Rattle.enet_service.specs.Phases.{Chain, Ordered, Wired, HearsAll, SendsAll, Orders, CarriesOut, TellsAll, left_over}
-use Rattle.enet_service.specs.Turn.{AfterHearing, AfterSending}
+use Rattle.enet_service.specs.Phases.{Chain, Ordered, Wired, ReceivesAll, EmitsAll, Orders, AppliesSubmission, TellsAll, left_over}
+use Rattle.enet_service.specs.Turn.{AfterReceiving, AfterEmitting}
 
 one_less : (turn : ℕ) → 256 - (turn + 1) ≡ 256 - turn - 1
 one_less turn = omega arith
 
 -- what still comes makes the rest of the phase
 abbrev pub HearsOn : {H : Type 0} → Calls H → ℕ → H → List Told → H → Type 0
-HearsOn {H} calls turn initial told old = (more : List Told) (after : Wired H) → HearsAll calls (256 - turn) old more after → HearsAll calls 256 initial (told ++ more) after
+HearsOn {H} calls turn initial told old = (more : List Told) (after : Wired H) → ReceivesAll calls (256 - turn) old more after → ReceivesAll calls 256 initial (told ++ more) after
 
 pub hears_on : {H : Type 0} (calls : Calls H) (turn : ℕ) (initial old host : H) (told : List Told) (from : Addr) (bytes : List ℕ)
-    → turn < 256 → HearsOn calls turn initial told old → calls.hears old (from, bytes) host → HearsOn calls (turn + 1) initial (told ++ Came from bytes ∷ []) host
+    → turn < 256 → HearsOn calls turn initial told old → calls.receives old (from, bytes) host → HearsOn calls (turn + 1) initial (told ++ Came from bytes ∷ []) host
 hears_on calls turn initial old host told from bytes l k h more after rest =
-    let step : HearsAll calls (256 - turn) old (Came from bytes ∷ more) after =
-    (omega arith, host, h, subst (λ (n : ℕ). HearsAll calls n host more after) (one_less turn) rest) in
-    subst (λ (xs : List Told). HearsAll calls 256 initial xs after) (sym (append_assoc told (Came from bytes ∷ []) more)) (k (Came from bytes ∷ more) after step)
+    let step : ReceivesAll calls (256 - turn) old (Came from bytes ∷ more) after =
+    (omega arith, host, h, subst (λ (n : ℕ). ReceivesAll calls n host more after) (one_less turn) rest) in
+    subst (λ (xs : List Told). ReceivesAll calls 256 initial xs after) (sym (append_assoc told (Came from bytes ∷ []) more)) (k (Came from bytes ∷ more) after step)
 
 abbrev pub SendsOn : {H : Type 0} → Calls H → ℕ → H → List Told → H → Type 0
-SendsOn {H} calls turn initial told old = (more : List Told) (after : Wired H) → SendsAll calls (256 - turn) old more after → SendsAll calls 256 initial (told ++ more) after
+SendsOn {H} calls turn initial told old = (more : List Told) (after : Wired H) → EmitsAll calls (256 - turn) old more after → EmitsAll calls 256 initial (told ++ more) after
 
 pub sends_on : {H : Type 0} (calls : Calls H) (turn : ℕ) (initial old host : H) (told : List Told) (to : Addr) (bytes : List ℕ)
-    → turn < 256 → SendsOn calls turn initial told old → calls.gives old (Some (to, bytes)) host → SendsOn calls (turn + 1) initial (told ++ Went to bytes ∷ []) host
+    → turn < 256 → SendsOn calls turn initial told old → calls.emits old (Some (to, bytes)) host → SendsOn calls (turn + 1) initial (told ++ Went to bytes ∷ []) host
 sends_on calls turn initial old host told to bytes l k h more after rest =
-    let step : SendsAll calls (256 - turn) old (Went to bytes ∷ more) after =
-    (omega arith, host, h, subst (λ (n : ℕ). SendsAll calls n host more after) (one_less turn) rest) in
-    subst (λ (xs : List Told). SendsAll calls 256 initial xs after) (sym (append_assoc told (Went to bytes ∷ []) more)) (k (Went to bytes ∷ more) after step)
+    let step : EmitsAll calls (256 - turn) old (Went to bytes ∷ more) after =
+    (omega arith, host, h, subst (λ (n : ℕ). EmitsAll calls n host more after) (one_less turn) rest) in
+    subst (λ (xs : List Told). EmitsAll calls 256 initial xs after) (sym (append_assoc told (Went to bytes ∷ []) more)) (k (Went to bytes ∷ more) after step)
 
 abbrev pub OrdersOn : {H : Type 0} → Calls H → ℕ → Service H → List (Option Submission) → Ordered H → Type 0
 OrdersOn {H} calls turn initial gave so_far =
@@ -44,7 +44,7 @@ OrdersOn {H} calls turn initial gave so_far =
 
 pub orders_on : {H : Type 0} (calls : Calls H) (turn : ℕ) (initial old between : Service H)
     (gave : List (Option Submission)) (puts mine : List (Event × Bool)) (x : Submission)
-    → turn < 256 → old.waiting ≡ None → OrdersOn calls turn initial gave (record { service = old; puts = puts }) → CarriesOut calls old x mine between
+    → turn < 256 → old.waiting ≡ None → OrdersOn calls turn initial gave (record { service = old; puts = puts }) → AppliesSubmission calls old x mine between
     → OrdersOn calls (turn + 1) initial (gave ++ Some x ∷ []) (record { service = between; puts = puts ++ mine })
 orders_on {H} calls turn initial old between gave puts mine x l none k carried more others new rest =
     let step : Orders calls (256 - turn) old (Some x ∷ more) (record { service = new; puts = mine ++ others }) =
@@ -58,7 +58,7 @@ abbrev pub TellsOn : {H : Type 0} → Calls H → Service H → List (Event × B
 TellsOn {H} calls initial puts old = (more : List (Event × Bool)) (new : Service H) → TellsAll calls old more new → TellsAll calls initial (puts ++ more) new
 
 pub tells_on : {H : Type 0} (calls : Calls H) (initial old : Service H) (host : H) (waits : Option Event) (puts : List (Event × Bool)) (event : Event) (taken : Bool)
-    → old.waiting ≡ None → waits ≡ left_over event taken → TellsOn calls initial puts old → calls.tells old.host (Some event) host
+    → old.waiting ≡ None → waits ≡ left_over event taken → TellsOn calls initial puts old → calls.gives_event old.host (Some event) host
     → TellsOn calls initial (puts ++ (event, taken) ∷ []) (record { host = host; waiting = waits })
 tells_on {H} calls initial old host waits puts event taken none left k told more new rest =
     let rest_2 : TellsAll calls (record { host = host; waiting = left_over event taken }) more new =
@@ -99,22 +99,22 @@ tells_end calls initial old puts k waits =
     subst (λ (xs : List (Event × Bool)). TellsAll calls initial xs old) (append-nil puts) (k [] old (inl (waits, refl)))
 
 pub tells_none : {H : Type 0} (calls : Calls H) (initial old new : Service H) (puts : List (Event × Bool))
-    → old.waiting ≡ None → new.waiting ≡ None → TellsOn calls initial puts old → calls.tells old.host None new.host → TellsAll calls initial puts new
+    → old.waiting ≡ None → new.waiting ≡ None → TellsOn calls initial puts old → calls.gives_event old.host None new.host → TellsAll calls initial puts new
 tells_none calls initial old new puts none none_2 k told =
     subst (λ (xs : List (Event × Bool)). TellsAll calls initial xs new) (append-nil puts) (k [] new (inr (none, told, none_2)))
 
 -- what comes after the hearing, and after the sending
 pub sends_then : {H : Type 0} (calls : Calls H) (host : H) (told : List Told) (sent : Wired H)
-    → SendsAll calls 256 host told sent → AfterHearing calls (record { host = host; failed = false }) told sent
+    → EmitsAll calls 256 host told sent → AfterReceiving calls (record { host = host; failed = false }) told sent
 sends_then calls host told sent h = record { sound = λ e. h; failed = λ e. absurd (cc) }
 
-pub sends_nothing : {H : Type 0} (calls : Calls H) (host : H) → AfterHearing calls (record { host = host; failed = true }) [] (record { host = host; failed = true })
+pub sends_nothing : {H : Type 0} (calls : Calls H) (host : H) → AfterReceiving calls (record { host = host; failed = true }) [] (record { host = host; failed = true })
 sends_nothing calls host = record { sound = λ e. absurd (cc); failed = λ e. (refl, refl) }
 
 pub tells_then : {H : Type 0} (calls : Calls H) (host : H) (waiting : Option Event) (puts : List (Event × Bool)) (new : Service H)
-    → TellsAll calls (record { host = host; waiting = waiting }) puts new → AfterSending calls (record { host = host; failed = false }) waiting puts new
+    → TellsAll calls (record { host = host; waiting = waiting }) puts new → AfterEmitting calls (record { host = host; failed = false }) waiting puts new
 tells_then calls host waiting puts new h = record { sound = λ e. h; failed = λ e. absurd (cc) }
 
 pub tells_nothing : {H : Type 0} (calls : Calls H) (host : H) (waiting : Option Event)
-    → AfterSending calls (record { host = host; failed = true }) waiting [] (record { host = host; waiting = waiting })
+    → AfterEmitting calls (record { host = host; failed = true }) waiting [] (record { host = host; waiting = waiting })
 tells_nothing calls host waiting = record { sound = λ e. absurd (cc); failed = λ e. (refl, refl) }

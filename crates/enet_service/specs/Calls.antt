@@ -10,10 +10,10 @@ use Rattle.enet_submit.specs.declared.order.Order.{Order}
 -- where it goes and its bytes; the next event is told
 pub record Calls (H : Type 0) : Type 1 where
   pub ticks : H → ℕ → H → Type 0
-  pub obeys : H → Order → Option Refusal → H → Type 0
-  pub hears : H → Addr × List ℕ → H → Type 0
-  pub gives : H → Option (Addr × List ℕ) → H → Type 0
-  pub tells : H → Option Event → H → Type 0
+  pub applies : H → Order → Option Refusal → H → Type 0
+  pub receives : H → Addr × List ℕ → H → Type 0
+  pub emits : H → Option (Addr × List ℕ) → H → Type 0
+  pub gives_event : H → Option Event → H → Type 0
 
 -- why a call was refused, if it was
 abbrev pub why_of : {A : Type 0} → Result A Refusal → Option Refusal

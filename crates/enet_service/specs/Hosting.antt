@@ -25,35 +25,35 @@ abbrev pub Ticks : Host → ℕ → Host → Type 0
 Ticks old ms new = new ≡ ticked old ms
 
 -- an order is the call that it names
-abbrev pub Obeys : Host → Order → Option Refusal → Host → Type 0
-Obeys old (Connect addr channels info word) why new =
+abbrev pub AppliesOrder : Host → Order → Option Refusal → Host → Type 0
+AppliesOrder old (Connect addr channels info word) why new =
     (answer : Result PeerRef Refusal) × Connects (host_basis old) old.slots (record { address = addr; channels = channels; info = info; word = word }) answer new.slots
     × KeepsRest old new × (why ≡ why_of answer)
-Obeys old (Submit peer channel flags body) why new =
+AppliesOrder old (Submit peer channel flags body) why new =
     (answer : Result (Unit {0}) Refusal) × DoesWithMemory answer (on_named old.slots peer (submission channel (record { flags = flags; body = body }))) old.slots new.slots
     × KeepsRest old new × (why ≡ why_of answer)
-Obeys old (Disconnect peer how info) why new =
+AppliesOrder old (Disconnect peer how info) why new =
     (answer : Result (Unit {0}) Refusal) × Does answer (on_named old.slots peer (leaving how info)) old.slots new.slots × KeepsRest old new × (why ≡ why_of answer)
 
 -- a datagram is received, whatever the answer to it
-abbrev pub Hears : Host → Addr × List ℕ → Host → Type 0
-Hears old datagram new = (answer : Received) × Receives old datagram.0 datagram.1 answer new
+abbrev pub ReceivesDatagram : Host → Addr × List ℕ → Host → Type 0
+ReceivesDatagram old datagram new = (answer : Received) × Receives old datagram.0 datagram.1 answer new
 
 -- the bytes of a datagram that the host put into a buffer
 abbrev pub sent_from : List ℕ → PeerRef × Addr × ℕ → Addr × List ℕ
 sent_from buf sent = (sent.1, take sent.2 buf)
 
 -- the host puts out its next datagram
-abbrev pub Gives : Host → Option (Addr × List ℕ) → Host → Type 0
-Gives old given new = (sent : Option (PeerRef × Addr × ℕ)) × (buf : List ℕ) × Serves old sent buf new × (given ≡ option_map (sent_from buf) sent)
+abbrev pub EmitsDatagram : Host → Option (Addr × List ℕ) → Host → Type 0
+EmitsDatagram old given new = (sent : Option (PeerRef × Addr × ℕ)) × (buf : List ℕ) × Serves old sent buf new × (given ≡ option_map (sent_from buf) sent)
 
 -- the host tells its next event
-abbrev pub Tells : Host → Option Event → Host → Type 0
-Tells old event new = Takes event old new
+abbrev pub GivesEvent : Host → Option Event → Host → Type 0
+GivesEvent old event new = Takes event old new
 
 -- the calls of our host
 abbrev pub host_calls : Calls Host
-host_calls = record { ticks = Ticks; obeys = Obeys; hears = Hears; gives = Gives; tells = Tells }
+host_calls = record { ticks = Ticks; applies = AppliesOrder; receives = ReceivesDatagram; emits = EmitsDatagram; gives_event = GivesEvent }
 
 -- how many events a host has that it hasn't told: Connects, packets and ends
 abbrev pub greetings : Option ℕ → ℕ

@@ -5,7 +5,7 @@ use Rattle.enet_submit.specs.declared.order.Submission.{Submission}
 use Rattle.enet_bridge.specs.declared.told.Told.{Told}
 use Rattle.enet_service.specs.declared.service.Service.{Service}
 use Rattle.enet_service.specs.Calls.{Calls}
-use Rattle.enet_service.specs.Phases.{Chain, Offers, Orders, HearsAll, SendsAll, TellsAll}
+use Rattle.enet_service.specs.Phases.{Chain, Offers, Orders, ReceivesAll, EmitsAll, TellsAll}
 use Rattle.enet_service.specs.Counts.{given_in, came_in, went_in, blocked_in, taken_in, stopped}
 use Rattle.enet_service.specs.Turn.{Round, Turn}
 
@@ -17,26 +17,26 @@ pub record Begins {H : Type 0} (calls : Calls H) (old : Service H) (ms : ℕ) (c
   pub waits : Option Event
   pub offered : Offers old.waiting again waits
   pub heard : H
-  pub hearing : HearsAll calls 256 ticked came (record { host = heard; failed = false })
+  pub hearing : ReceivesAll calls 256 ticked came (record { host = heard; failed = false })
   pub of_events : List (Event × Bool)
   pub telling : TellsAll calls (record { host = heard; waiting = waits }) of_events new
   pub put : puts ≡ again ++ of_events
 
 -- some orders: what the source answered, and the events that were offered
-pub record Obeyed : Type 0 where
+pub record Applied : Type 0 where
   pub gave : List (Option Submission)
   pub puts : List (Event × Bool)
 
 -- orders, 256 at most, and orders again
-abbrev pub ObeysAll : {H : Type 0} → Calls H → Service H → List Obeyed → Service H → Type 0
-ObeysAll calls old obeyed new = Chain (λ s o t. Orders calls 256 s o.gave (record { service = t; puts = o.puts })) old obeyed new
+abbrev pub AppliesAll : {H : Type 0} → Calls H → Service H → List Applied → Service H → Type 0
+AppliesAll calls old applied new = Chain (λ s o t. Orders calls 256 s o.gave (record { service = t; puts = o.puts })) old applied new
 
 -- what the source answered in all of them, and the events that were offered
-abbrev pub gave_in : List Obeyed → List (Option Submission)
-gave_in obeyed = flat_map (λ o. o.gave) obeyed
+abbrev pub gave_in : List Applied → List (Option Submission)
+gave_in applied = flat_map (λ o. o.gave) applied
 
-abbrev pub puts_in : List Obeyed → List (Event × Bool)
-puts_in obeyed = flat_map (λ o. o.puts) obeyed
+abbrev pub puts_in : List Applied → List (Event × Bool)
+puts_in applied = flat_map (λ o. o.puts) applied
 
 -- in order: its beginning; orders, as often as there are more; datagrams out
 pub record LoneTurn {H : Type 0} (calls : Calls H) (old : Service H) (round : Round) (new : Service H) : Type 0 where
@@ -44,15 +44,15 @@ pub record LoneTurn {H : Type 0} (calls : Calls H) (old : Service H) (round : Ro
   pub told_first : List (Event × Bool)
   pub begun : Service H
   pub begins : Begins calls old round.ms came told_first begun
-  pub obeyed : List Obeyed
+  pub applied : List Applied
   pub ordered : Service H
-  pub obeys : ObeysAll calls begun obeyed ordered
+  pub applies : AppliesAll calls begun applied ordered
   pub went : List Told
-  pub sends : SendsAll calls 256 ordered.host went (record { host = new.host; failed = false })
+  pub sends : EmitsAll calls 256 ordered.host went (record { host = new.host; failed = false })
   pub waits : new.waiting ≡ ordered.waiting
-  pub gave : round.gave ≡ gave_in obeyed
+  pub gave : round.gave ≡ gave_in applied
   pub told : round.told ≡ came ++ went
-  pub put : round.puts ≡ told_first ++ puts_in obeyed
+  pub put : round.puts ≡ told_first ++ puts_in applied
   pub sound : round.failed ≡ false
   pub counts : round.report ≡ record {
     orders = stopped (given_in round.gave);

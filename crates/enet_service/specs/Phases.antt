@@ -42,9 +42,9 @@ refusal_event x None = None
 refusal_event x (Some why) = Some (Refused x.seat x.number why)
 
 -- an order is one call of the host. A refused one becomes an event, which is offered at once
-pub record CarriesOut {H : Type 0} (calls : Calls H) (old : Service H) (x : Submission) (puts : List (Event × Bool)) (new : Service H) : Type 0 where
+pub record AppliesSubmission {H : Type 0} (calls : Calls H) (old : Service H) (x : Submission) (puts : List (Event × Bool)) (new : Service H) : Type 0 where
   pub why : Option Refusal
-  pub obeyed : calls.obeys old.host x.order why new.host
+  pub applied : calls.applies old.host x.order why new.host
   pub told : Offers (refusal_event x why) puts new.waiting
 
 -- orders one after another, while no event waits, until the source gives none
@@ -53,35 +53,35 @@ Orders calls left old [] after = (IsSome old.waiting ⊎ (left ≡ 0)) × (after
 Orders calls left old (None ∷ rest) after = (old.waiting ≡ None) × (0 < left) × (rest ≡ []) × (after.puts ≡ []) × (after.service ≡ old)
 Orders {H} calls left old (Some x ∷ rest) after =
     (old.waiting ≡ None) × (0 < left) × (first : List (Event × Bool)) × (others : List (Event × Bool)) × (after.puts ≡ first ++ others)
-    × (between : Service H) × CarriesOut calls old x first between × Orders calls (left - 1) between rest (record after { puts = others })
+    × (between : Service H) × AppliesSubmission calls old x first between × Orders calls (left - 1) between rest (record after { puts = others })
 
 -- datagrams in, one after another, until the wire gives none or fails
-abbrev pub HearsAll : {H : Type 0} → Calls H → ℕ → H → List Told → Wired H → Type 0
-HearsAll calls left old [] after = (((left ≡ 0) × (after.failed ≡ false)) ⊎ ((0 < left) × (after.failed ≡ true))) × (after.host ≡ old)
-HearsAll calls left old (NothingCame ∷ rest) after = (0 < left) × (rest ≡ []) × (after.failed ≡ false) × (after.host ≡ old)
-HearsAll {H} calls left old (Came from bytes ∷ rest) after =
-    (0 < left) × (between : H) × calls.hears old (from, bytes) between × HearsAll calls (left - 1) between rest after
-HearsAll calls left old (_ ∷ rest) after = ⊥
+abbrev pub ReceivesAll : {H : Type 0} → Calls H → ℕ → H → List Told → Wired H → Type 0
+ReceivesAll calls left old [] after = (((left ≡ 0) × (after.failed ≡ false)) ⊎ ((0 < left) × (after.failed ≡ true))) × (after.host ≡ old)
+ReceivesAll calls left old (NothingCame ∷ rest) after = (0 < left) × (rest ≡ []) × (after.failed ≡ false) × (after.host ≡ old)
+ReceivesAll {H} calls left old (Came from bytes ∷ rest) after =
+    (0 < left) × (between : H) × calls.receives old (from, bytes) between × ReceivesAll calls (left - 1) between rest after
+ReceivesAll calls left old (_ ∷ rest) after = ⊥
 
 -- the sending ends where the limit is reached or the host has no datagram, or with a datagram whose send failed
-pub data EndsSending {H : Type 0} (calls : Calls H) (left : ℕ) (old : H) (after : Wired H) : Type 0 where
-  at_limit : left ≡ 0 → after.failed ≡ false → after.host ≡ old → EndsSending calls left old after
-  has_none : 0 < left → after.failed ≡ false → calls.gives old None after.host → EndsSending calls left old after
-  fails : 0 < left → after.failed ≡ true → (to : Addr) (bytes : List ℕ) → calls.gives old (Some (to, bytes)) after.host → EndsSending calls left old after
+pub data EndsEmitting {H : Type 0} (calls : Calls H) (left : ℕ) (old : H) (after : Wired H) : Type 0 where
+  at_limit : left ≡ 0 → after.failed ≡ false → after.host ≡ old → EndsEmitting calls left old after
+  has_none : 0 < left → after.failed ≡ false → calls.emits old None after.host → EndsEmitting calls left old after
+  fails : 0 < left → after.failed ≡ true → (to : Addr) (bytes : List ℕ) → calls.emits old (Some (to, bytes)) after.host → EndsEmitting calls left old after
 
 -- datagrams out, one after another, until the host has none, a send would block or the wire fails; the datagram whose send
 -- would block or failed is lost
-abbrev pub SendsAll : {H : Type 0} → Calls H → ℕ → H → List Told → Wired H → Type 0
-SendsAll calls left old [] after = EndsSending calls left old after
-SendsAll {H} calls left old (Went to bytes ∷ rest) after =
-    (0 < left) × (between : H) × calls.gives old (Some (to, bytes)) between × SendsAll calls (left - 1) between rest after
-SendsAll calls left old (Blocked to bytes ∷ rest) after =
-    (0 < left) × calls.gives old (Some (to, bytes)) after.host × (rest ≡ []) × (after.failed ≡ false)
-SendsAll calls left old (_ ∷ rest) after = ⊥
+abbrev pub EmitsAll : {H : Type 0} → Calls H → ℕ → H → List Told → Wired H → Type 0
+EmitsAll calls left old [] after = EndsEmitting calls left old after
+EmitsAll {H} calls left old (Went to bytes ∷ rest) after =
+    (0 < left) × (between : H) × calls.emits old (Some (to, bytes)) between × EmitsAll calls (left - 1) between rest after
+EmitsAll calls left old (Blocked to bytes ∷ rest) after =
+    (0 < left) × calls.emits old (Some (to, bytes)) after.host × (rest ≡ []) × (after.failed ≡ false)
+EmitsAll calls left old (_ ∷ rest) after = ⊥
 
 -- events, each offered in its turn, until the host has none or one waits
 abbrev pub TellsAll : {H : Type 0} → Calls H → Service H → List (Event × Bool) → Service H → Type 0
-TellsAll calls old [] new = (IsSome old.waiting × (new ≡ old)) ⊎ ((old.waiting ≡ None) × calls.tells old.host None new.host × (new.waiting ≡ None))
+TellsAll calls old [] new = (IsSome old.waiting × (new ≡ old)) ⊎ ((old.waiting ≡ None) × calls.gives_event old.host None new.host × (new.waiting ≡ None))
 TellsAll {H} calls old (x ∷ rest) new =
-    (old.waiting ≡ None) × (between : H) × calls.tells old.host (Some x.0) between
+    (old.waiting ≡ None) × (between : H) × calls.gives_event old.host (Some x.0) between
     × TellsAll calls (record { host = between; waiting = left_over x.0 x.1 }) rest new

@@ -23,7 +23,7 @@ use Rattle.enet_bridge.specs.Serving.{queue_of, drain_of, poster_of}
 use Rattle.enet_host.specs.Host.{Host}
 use Rattle.enet_host.specs.Opening.{opened}
 use Rattle.enet_service.specs.declared.report.Report.{Report}
-use Rattle.enet_service.specs.Hosting.{host_calls, Obeys}
+use Rattle.enet_service.specs.Hosting.{host_calls, AppliesOrder}
 use Rattle.enet_service.specs.Phases.{Chain}
 use Rattle.enet_service.specs.Queues.{given, accepted, DrainsOn, PostsOn}
 use Rattle.enet_service.specs.Turn.{Round}
@@ -115,7 +115,7 @@ pub record HasTurned (run_length : RunLength) (old new : Standing) (report : Rep
 
 -- these peers were told that their connection ends in this way, one after another, unless that was refused
 abbrev pub PartsFrom : DisconnectMode → Host → List PeerRef → Host → Type 0
-PartsFrom how old peers new = Chain (λ h peer g. (why : Option Refusal) × Obeys h (Disconnect peer how 0) why g) old peers new
+PartsFrom how old peers new = Chain (λ h peer g. (why : Option Refusal) × AppliesOrder h (Disconnect peer how 0) why g) old peers new
 
 -- what the threads handed back belongs to the queues, which have one seat and one taker
 pub record CanSettle (queue : SubmitQueue) (events : Queue) (back : Returned) : Type 0 where

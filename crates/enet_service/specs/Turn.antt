@@ -8,7 +8,7 @@ use Rattle.enet_service.specs.declared.report.Report.{Report}
 use Rattle.enet_service.specs.declared.report.Fault.{Fault}
 use Rattle.enet_service.specs.declared.service.Service.{Service}
 use Rattle.enet_service.specs.Calls.{Calls}
-use Rattle.enet_service.specs.Phases.{Ordered, Wired, Offers, Orders, HearsAll, SendsAll, TellsAll}
+use Rattle.enet_service.specs.Phases.{Ordered, Wired, Offers, Orders, ReceivesAll, EmitsAll, TellsAll}
 use Rattle.enet_service.specs.Counts.{given_in, came_in, went_in, blocked_in, taken_in, count_of, stopped}
 
 -- what passes in a turn: the milliseconds of the wait before it, what the source answered, what the wire did, the events that were
@@ -22,12 +22,12 @@ pub record Round : Type 0 where
   pub report : Report
 
 -- datagrams go, unless the wire failed while they came: then none goes
-pub record AfterHearing {H : Type 0} (calls : Calls H) (heard : Wired H) (told : List Told) (sent : Wired H) : Type 0 where
-  pub sound : heard.failed ≡ false → SendsAll calls 256 heard.host told sent
+pub record AfterReceiving {H : Type 0} (calls : Calls H) (heard : Wired H) (told : List Told) (sent : Wired H) : Type 0 where
+  pub sound : heard.failed ≡ false → EmitsAll calls 256 heard.host told sent
   pub failed : heard.failed ≡ true → (told ≡ []) × (sent ≡ heard)
 
 -- events come last, unless the wire failed: then none is told, and the event that waits still waits
-pub record AfterSending {H : Type 0} (calls : Calls H) (sent : Wired H) (waiting : Option Event) (puts : List (Event × Bool)) (new : Service H) : Type 0 where
+pub record AfterEmitting {H : Type 0} (calls : Calls H) (sent : Wired H) (waiting : Option Event) (puts : List (Event × Bool)) (new : Service H) : Type 0 where
   pub sound : sent.failed ≡ false → TellsAll calls (record { host = sent.host; waiting = waiting }) puts new
   pub failed : sent.failed ≡ true → (puts ≡ []) × (new ≡ record { host = sent.host; waiting = waiting })
 
@@ -42,12 +42,12 @@ pub record Turn {H : Type 0} (calls : Calls H) (old : Service H) (round : Round)
   pub orders : Orders calls 256 (record { host = ticked; waiting = waits }) round.gave ordered
   pub came : List Told
   pub heard : Wired H
-  pub hearing : HearsAll calls 256 ordered.service.host came heard
+  pub hearing : ReceivesAll calls 256 ordered.service.host came heard
   pub went : List Told
   pub sent : Wired H
-  pub sending : AfterHearing calls heard went sent
+  pub sending : AfterReceiving calls heard went sent
   pub of_events : List (Event × Bool)
-  pub telling : AfterSending calls sent ordered.service.waiting of_events new
+  pub telling : AfterEmitting calls sent ordered.service.waiting of_events new
   pub told : round.told ≡ came ++ went
   pub put : round.puts ≡ again ++ (ordered.puts ++ of_events)
   pub failed : round.failed ≡ sent.failed

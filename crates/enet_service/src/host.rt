@@ -21,19 +21,19 @@ pub trait Core {
 
     /// Carries an order out, or refuses it.
     fn apply_order(&mut self, order: Order) -> Result<(), Refusal>
-        ensures { calls.obeys self.old order (why_of result) self.new };
+        ensures { calls.applies self.old order (why_of result) self.new };
 
     /// A datagram comes from an address.
     fn receive(&mut self, from: Addr, bytes: &[u8])
-        ensures { calls.hears self.old (from, bytes.now) self.new };
+        ensures { calls.receives self.old (from, bytes.now) self.new };
 
     /// Where the next datagram goes, and how many bytes of the buffer it is; None where the host has none.
     fn emit(&mut self, buf: &mut [u8; 4096]) -> Option<(Addr, usize)>
-        ensures given { calls.gives self.old (option_map (λ d. (d.0, take d.1 buf.new)) result) self.new }
+        ensures given { calls.emits self.old (option_map (λ d. (d.0, take d.1 buf.new)) result) self.new }
         ensures len { IfSome result (λ d. d.1 ≤ 4096) };
 
     /// The next event, which the host has told then; None where it has none.
     fn next_event(&mut self) -> Option<Event>
-        ensures told { calls.tells self.old result self.new }
+        ensures told { calls.gives_event self.old result self.new }
         ensures fewer { IfSome result (λ event. untold self.new < untold self.old) };
 }

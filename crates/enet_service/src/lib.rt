@@ -1,6 +1,7 @@
 //! The service: one thread owns a host and takes its turns; game threads reach it through two queues alone. It is used by [`Queues::open`],
 //! [`BoundService::open`] and [`beside_turns`], which runs the service beside a function of the user's; then by [`settle`]. Or one thread
-//! does all, by [`run`], a turn at a time, or by [`Service::hear`], [`Service::obey`] and [`Service::speak`], between which it makes the
+//! does all, by [`run`], a turn at a time, or by [`Service::receive`], [`Service::apply_orders`] and
+//! [`Service::emit`], between which it makes the
 //! orders.
 //!
 //! Proved, for every host that says what its calls do ([`Core`]): a turn is the stated calls in the stated order ([`Service::turn`]), on
@@ -16,7 +17,7 @@
 //! turns were given is what the drain took and the wire told, each after a wait, and what they put is what the poster posted; E14 comes
 //! exactly where the wire failed. Once settled, the only taker took all that was posted, and the orders that the drain didn't take are told
 //! in order. A host that notes who came and went ([`WatchedHost`]) is the host that it holds, in each of its calls, and
-//! [`WatchedHost::part_from_all`] asks each peer that this has to go (`all_names`), slot by slot. The parts of a turn
+//! [`WatchedHost::disconnect_all`] asks each peer that this has to go (`all_names`), slot by slot. The parts of a turn
 //! between which orders are made are those of its phases that they name, each on what the wire told and the source gave.
 //! Only tested, by `check_service`: turns and runs of a real host over memory, with each call of the wire failing and each send blocking in
 //! its turn; that a game thread submits and takes while the service is inside its wire; a connection's opening through a socket of
@@ -30,16 +31,16 @@
 
 mod between;
 mod bound_service;
-mod hearing;
+mod emitting;
 mod host;
 mod hosting;
 mod lone;
 mod orders;
 mod queues;
+mod receiving;
 mod report;
 mod run_length;
 mod running;
-mod sending;
 mod service;
 mod settling;
 mod telling;

@@ -4,15 +4,15 @@ ghost use Rattle.enet_codec.specs.declared.event.Event.{Event as Offered};
 ghost use Rattle.enet_submit.specs.declared.order.Submission.{Submission as Item};
 ghost use Rattle.enet_bridge.specs.declared.told.Told.{Told as Call};
 ghost use Rattle.enet_bridge.specs.Wires.{also, unless_spent};
-ghost use Rattle.enet_service.specs.Phases.{Chain, Orders, SendsAll};
+ghost use Rattle.enet_service.specs.Phases.{Chain, Orders, EmitsAll};
 ghost use Rattle.enet_service.specs.LoneTurn.{Begins};
 ghost use Rattle.enet_service.specs.Counts.{count_of, given_in, came_in, went_in, blocked_in, taken_in, stopped};
 
-use crate::hearing::hear_all;
+use crate::emitting::emit_all;
 use crate::host::Core;
 use crate::orders::take_orders;
+use crate::receiving::receive_all;
 use crate::report::{Fault, Report};
-use crate::sending::send_all;
 use crate::service::{Service, fault, report_of};
 use crate::telling::{offer_again, tell_all};
 use enet_bridge::{Sink, Source, Wire};
@@ -24,7 +24,7 @@ impl<H: Core> Service<H> {
     /// datagrams in, through this buffer; and while no event waits, the host's events.
     ///
     /// E14 where the wire fails: no event is told then but the one that waited.
-    pub fn hear<W: Wire, K: Sink, R: Wait>(
+    pub fn receive<W: Wire, K: Sink, R: Wait>(
         &mut self,
         rt: &R,
         wire: &mut W,
@@ -42,7 +42,7 @@ impl<H: Core> Service<H> {
     {
         self.host.tick(ms);
         let again = offer_again(rt, sink, &mut self.waiting);
-        let heard = hear_all(&mut self.host, wire, buf);
+        let heard = receive_all(&mut self.host, wire, buf);
         if heard.failed {
             return Err(fault(report_of(0, heard.received, 0, 0, again)));
         }
@@ -52,13 +52,13 @@ impl<H: Core> Service<H> {
     }
 
     /// Orders of such a turn: while no event waits, at most 256.
-    pub fn obey<S: Source, K: Sink, R: Wait>(
+    pub fn apply_orders<S: Source, K: Sink, R: Wait>(
         &mut self,
         rt: &R,
         source: &mut S,
         sink: &mut K,
     ) -> Report
-        ensures obeys { (gave : List (Option Item)) × (puts : List (Offered × Bool))
+        ensures applies { (gave : List (Option Item)) × (puts : List (Offered × Bool))
             × Chain S.gives source.old gave source.new
             × Chain (λ s x t. K.puts s x.0 x.1 t) sink.old puts sink.new
             × Orders H.calls 256 self.old gave (record { service = self.new; puts = puts })
@@ -71,16 +71,16 @@ impl<H: Core> Service<H> {
     /// The end of such a turn: at most 256 datagrams out, through this buffer.
     ///
     /// E14 where the wire fails.
-    pub fn speak<W: Wire>(&mut self, wire: &mut W, buf: &mut [u8; 4096]) -> Result<Report, Fault>
+    pub fn emit<W: Wire>(&mut self, wire: &mut W, buf: &mut [u8; 4096]) -> Result<Report, Fault>
         ensures sends { IfOk result (λ report. (went : List Call)
-            × SendsAll H.calls 256 self.old.host went (record { host = self.new.host; failed = false })
+            × EmitsAll H.calls 256 self.old.host went (record { host = self.new.host; failed = false })
             × (W.told wire.new ≡ also (W.told wire.old) (unless_spent (W.faults wire.old) went))
             × (report ≡ record { orders = 0; received = 0; sent = went_in went; lost = blocked_in went; events = 0 })) }
         ensures waits { self.new.waiting ≡ self.old.waiting }
         ensures why { IfErr result (λ fault. fault.why ≡ Refusal.WireFault) }
         ensures faults { W.faults wire.new ≡ W.faults wire.old + count_of (is_err result) }
     {
-        let sent = send_all(&mut self.host, wire, buf);
+        let sent = emit_all(&mut self.host, wire, buf);
         let report = report_of(0, 0, sent.sent, sent.lost, 0);
         if sent.failed {
             return Err(fault(report));

@@ -2,7 +2,7 @@
 ghost use Rattle.std.specs.Prelude.{◌≡◌, ◌≤◌, List, Bool, Option, None};
 ghost use Rattle.enet_codec.specs.declared.event.Event.{Event as Told};
 ghost use Rattle.enet_submit.specs.declared.order.Submission.{Submission as Item};
-ghost use Rattle.enet_service.specs.Phases.{Chain, CarriesOut, Orders};
+ghost use Rattle.enet_service.specs.Phases.{Chain, AppliesSubmission, Orders};
 ghost use Rattle.enet_service.specs.Counts.{taken_in, given_in};
 
 use crate::host::Core;
@@ -13,7 +13,7 @@ use enet_submit::Submission;
 use std::sync::Wait;
 
 // Carries an order out; a refusal is told. How many events were taken.
-fn carry_out<H: Core, K: Sink, R: Wait>(
+fn apply_submission<H: Core, K: Sink, R: Wait>(
     rt: &R,
     host: &mut H,
     waiting: &mut Option<Event>,
@@ -22,7 +22,7 @@ fn carry_out<H: Core, K: Sink, R: Wait>(
 ) -> u32
     requires { waiting.old ≡ None }
     ensures { (puts : List (Told × Bool)) × Chain (λ s x t. K.puts s x.0 x.1 t) sink.old puts sink.new
-        × CarriesOut H.calls (record { host = host.old; waiting = waiting.old }) submission puts (record { host = host.new; waiting = waiting.new })
+        × AppliesSubmission H.calls (record { host = host.old; waiting = waiting.old }) submission puts (record { host = host.new; waiting = waiting.new })
         × (result ≡ taken_in puts) × (result ≤ 1) }
 {
     let Submission {
@@ -52,14 +52,14 @@ pub(crate) fn take_orders<H: Core, S: Source, K: Sink, R: Wait>(
 {
     let mut orders = 0u32;
     let mut events = 0u32;
-    for _turn in 0..MOST_PER_TURN {
+    for _order in 0..MOST_PER_TURN {
         if waiting.is_some() {
             return (orders, events);
         }
         match source.next(rt) {
             Some(submission) => {
                 orders += 1;
-                events += carry_out(rt, host, waiting, sink, submission);
+                events += apply_submission(rt, host, waiting, sink, submission);
             }
             None => return (orders, events),
         }

@@ -5,18 +5,18 @@ ghost use Rattle.enet_service.specs.Phases.{Chain};
 ghost use Rattle.enet_service.specs.Turn.{Round, Turn, Reports};
 ghost use Rattle.enet_service.specs.Counts.{count_of};
 
-use crate::hearing::hear_all;
+use crate::emitting::emit_all;
 use crate::host::Core;
 use crate::orders::take_orders;
+use crate::receiving::receive_all;
 use crate::report::{Fault, Report};
-use crate::sending::send_all;
 use crate::telling::{offer_again, tell_all};
 use enet_bridge::{Sink, Source, Wire};
 use enet_codec::{Event, Refusal};
 use std::sync::Wait;
 
-/// Where events come after so many milliseconds, whoever takes them has little else to do, and their orders are worth a wait.
-const CALM: u32 = 2;
+/// Where events come as seldom as this, in milliseconds, whoever takes them has little else to do, and their orders are worth a wait.
+const SELDOM: u32 = 2;
 
 /// A host, and the event that waits for room in the sink, if there is one.
 #[derive(Drop)]
@@ -80,12 +80,12 @@ impl<H: Core> Service<H> {
         let again = offer_again(rt, sink, &mut self.waiting);
         let (orders, told) = take_orders(rt, &mut self.host, &mut self.waiting, source, sink);
         let before = again.saturating_add(told);
-        let heard = hear_all(&mut self.host, wire, buf);
+        let heard = receive_all(&mut self.host, wire, buf);
         if heard.failed {
             sink.announce();
             return Err(fault(report_of(orders, heard.received, 0, 0, before)));
         }
-        let sent = send_all(&mut self.host, wire, buf);
+        let sent = emit_all(&mut self.host, wire, buf);
         if sent.failed {
             let report = report_of(orders, heard.received, sent.sent, sent.lost, before);
             sink.announce();
@@ -93,7 +93,7 @@ impl<H: Core> Service<H> {
         }
         let after = tell_all(rt, &mut self.host, &mut self.waiting, sink);
         sink.announce();
-        if ms >= CALM && after > 0 {
+        if ms >= SELDOM && after > 0 {
             source.expect();
         }
         let events = before.saturating_add(after);

@@ -1,7 +1,7 @@
 //! A host whose operator is told who came and went, whom it asked for a connection, and which orders were refused.
 
 ghost use Rattle.enet_service.specs.Calls.{why_of};
-ghost use Rattle.enet_service.specs.Hosting.{Obeys};
+ghost use Rattle.enet_service.specs.Hosting.{AppliesOrder};
 ghost use Rattle.enet_submit.specs.declared.order.Order.TheVariants as orders;
 
 use crate::Core;
@@ -145,7 +145,7 @@ impl WatchedHost {
 
     /// Ends the connection of each peer that the host has, in this way, and answers how many there are: those that begin or end are some,
     /// too, of which the latter aren't asked again.
-    pub fn part_from_all(&mut self, how: DisconnectMode) -> usize
+    pub fn disconnect_all(&mut self, how: DisconnectMode) -> usize
         ensures parts { PartsFrom how self.old (all_names self.old.slots) self.new }
         ensures count { result ≡ length (all_names self.old.slots) }
     {
@@ -188,7 +188,7 @@ impl WatchedHost {
 
     // Asks for a connection, and notes which peer asks.
     fn ask(&mut self, addr: Addr, channels: u8, info: u32, word: u32) -> Result<(), Refusal>
-        ensures { Obeys self.old (orders.Connect addr channels info word) (why_of result) self.new }
+        ensures { AppliesOrder self.old (orders.Connect addr channels info word) (why_of result) self.new }
     {
         let peer = self.host.connect(addr, channels, info, word)?;
         let met = Met {
@@ -252,7 +252,7 @@ impl Core for WatchedHost {
     #[inline(always)]
     fn apply_order(&mut self, order: Order) -> Result<(), Refusal> {
         let peer = peer_of(&order);
-        let obeyed = match order {
+        let applied = match order {
             // Most orders are to submit: such a one goes straight to the host.
             Order::Submit {
                 peer,
@@ -271,11 +271,11 @@ impl Core for WatchedHost {
             } => self.ask(addr, channels, info, word),
             order => self.host.apply_order(order),
         };
-        if let Err(why) = obeyed {
+        if let Err(why) = applied {
             self.count_refusal(why);
             self.note(Note::Refused { peer, why });
         }
-        obeyed
+        applied
     }
 
     fn receive(&mut self, from: Addr, bytes: &[u8]) {

@@ -11,7 +11,7 @@ use Rattle.enet_slot.specs.Giving.{no_address}
 use Rattle.law_network.specs.Calls.{Call, Done, Acts}
 use Rattle.law_network.specs.Calls as call
 use Rattle.law_network.specs.Network.{Site, delivery_refusal}
-use Rattle.law_network.specs.Steps.{Calls, Hears, beside, Happens, Called, BringsOne}
+use Rattle.law_network.specs.Steps.{Calls, Delivers, beside, Happens, Called, BringsOne}
 use Rattle.law_network.specs.World.{IsRefusedFor, RefusesCall}
 use Rattle.enet_records.specs.Records.{Records}
 use Rattle.enet_site.specs.Sites.{site, IsWhole, CallsAt}
@@ -73,17 +73,17 @@ brought-refused-at (Err why) a b old g was far n s f before beside is =
     subst (λ (z : Site). IsRefusedFor why (delivery_refusal z s (slice_get z.log n))) beside (subst (λ (z : Site). IsRefusedFor why (delivery_refusal (site b g far) z (slice_get far.log n))) before (is a g))
 
 pub brought-at : (r : Result Received Refusal) (a b : Addr) (old new g : Host) (was is far : Records) (n : ℕ) (s f : Site) → site a old was ≡ s → site b g far ≡ f
-    → IfOk r (λ answer. (address : Addr) (h : Host) → BringsOne (site b h far) (slice_get far.log n) answer (site address old was) (site address new is)) → IfOk r (λ answer. (next : ℕ) → Happens next f (Hears n answer) s (site a new is))
+    → IfOk r (λ answer. (address : Addr) (h : Host) → BringsOne (site b h far) (slice_get far.log n) answer (site address old was) (site address new is)) → IfOk r (λ answer. (next : ℕ) → Happens next f (Delivers n answer) s (site a new is))
 brought-at (Err why) a b old new g was is far n s f before beside done = tt
 brought-at (Ok answer) a b old new g was is far n s f before beside done =
-    subst (λ (z : Site). (next : ℕ) → Happens next z (Hears n answer) s (site a new is)) beside
-    (subst (λ (z : Site). (next : ℕ) → Happens next (site b g far) (Hears n answer) z (site a new is)) before (λ next. done a g))
+    subst (λ (z : Site). (next : ℕ) → Happens next z (Delivers n answer) s (site a new is)) beside
+    (subst (λ (z : Site). (next : ℕ) → Happens next (site b g far) (Delivers n answer) z (site a new is)) before (λ next. done a g))
 
 pub brought-whole : (r : Result Received Refusal) (b : Addr) (old new : Host) (was is far : Records) (n : ℕ) → OnErr r (new ≡ old) → OnErr r (is ≡ was)
     → IfOk r (λ answer. (address : Addr) (h : Host) → BringsOne (site b h far) (slice_get far.log n) answer (site address old was) (site address new is)) → IsWhole old was.ends → IsWhole new is.ends
 brought-whole r b old new was is far n host same done k =
     whole-after r (λ answer. (address : Addr) (h : Host) → BringsOne (site b h far) (slice_get far.log n) answer (site address old was) (site address new is)) old new was is host same done
-    (λ answer d. (beside 0 (site b old far), site b old far, Hears n answer, d no_address old)) k
+    (λ answer d. (beside 0 (site b old far), site b old far, Delivers n answer, d no_address old)) k
 
 -- a stranger's datagram comes
 

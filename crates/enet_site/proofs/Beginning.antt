@@ -15,7 +15,7 @@ use Rattle.enet_slot.specs.Slot.{SlotState, name_of}
 use Rattle.enet_host.specs.Host.{Host, named, peer_in, with_generation}
 use Rattle.enet_host.specs.Opening.{available, no_channel, no_slot, no_memory}
 use Rattle.enet_host.specs.Foretelling.{next_name}
-use Rattle.enet_slot.specs.Hearing.{no_peer}
+use Rattle.enet_slot.specs.Receiving.{no_peer}
 use Rattle.law_network.specs.Calls.{Call, Acts}
 use Rattle.law_network.specs.Calls as call
 use Rattle.law_network.specs.Common.{common_of}

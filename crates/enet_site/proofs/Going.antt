@@ -15,7 +15,7 @@ use Rattle.law_network.proofs.Names.{IsThere}
 use Rattle.law_network.specs.Log.{Logged}
 use Rattle.law_network.specs.Network.{HostEnd, Site}
 use Rattle.law_network.specs.Shown.{ShowsPeer}
-use Rattle.law_network.specs.Steps.{Around, Happening, Calls, Hears, HappensAmong, end_in, end_in_slot, begun_in}
+use Rattle.law_network.specs.Steps.{Around, Happening, Calls, Delivers, HappensAmong, end_in, end_in_slot, begun_in}
 use Rattle.law_network.proofs.Beginnings.{asked-in}
 use Rattle.law_network.proofs.Growing.{more_of, more_in, Grows, grows, from-before}
 use Rattle.law_network.proofs.Peers.{shows-held, is_gone, goes, Moved, moved}
@@ -49,7 +49,7 @@ held-more w from old new (Calls (call.Connect address channels info word (Ok nam
     subst (λ (z : HostEnd). (q : Peering) × IsThere new.host.slots z.name q) e (_, a.there)
 held-more w from old new (Calls (call.Connect address channels info word (Ok name))) x f (inr m) = absurd m
 held-more w from old new (Calls c) x f m = absurd m
-held-more w from old new (Hears k answer) x f m = by (slice_get from.log k) m
+held-more w from old new (Delivers k answer) x f m = by (slice_get from.log k) m
   where
     by : (found : Option Logged) → Has (more_in w.count old new found) f → Held new.host f.name
     by None y = absurd y

@@ -9,7 +9,7 @@ use Rattle.enet_codec.specs.declared.header.Header.{Header}
 use Rattle.enet_peer.specs.Heading.{IsRead}
 use Rattle.enet_host.specs.Host.{Host}
 use Rattle.enet_host.specs.Foretelling.{next_name}
-use Rattle.enet_slot.specs.Hearing.{no_peer}
+use Rattle.enet_slot.specs.Receiving.{no_peer}
 use Rattle.law_network.specs.Calls.{Acts}
 use Rattle.law_network.specs.Calls as call
 use Rattle.law_network.specs.Log.{Logged}

@@ -17,8 +17,8 @@ use Rattle.enet_peer.specs.Calls.{destination_of}
 use Rattle.enet_slot.specs.Slot.{SlotState}
 use Rattle.enet_host.specs.Host.{Host}
 use Rattle.enet_host.specs.Calls.{address_of, address_in, address_named}
-use Rattle.enet_slot.specs.Serving.{Gives as GivesSlot}
-use Rattle.enet_host.specs.Serving.{served_of, GivesInTurn, Serves}
+use Rattle.enet_slot.specs.Emitting.{PeerEmits as GivesSlot}
+use Rattle.enet_host.specs.Serving.{served_of, EmitsInTurn, Serves}
 use Rattle.law_network.proofs.Lists.{get-within}
 use Rattle.law_network.proofs.Names.{IsThere, there-slot}
 
@@ -52,7 +52,7 @@ spelled-read text h ms open' s = (
 
 -- the slot that gave a datagram
 
-gave-slot : (h new : Host) (name : PeerRef) (to : Addr) (len : ℕ) (buf : List ℕ) (g : GivesInTurn h.clock h.service_from h.slots (served_of (name, to, len) buf) new.slots) → (t : SlotState) × GivesSlot h.clock len buf g.slot t
+gave-slot : (h new : Host) (name : PeerRef) (to : Addr) (len : ℕ) (buf : List ℕ) (g : EmitsInTurn h.clock h.service_from h.slots (served_of (name, to, len) buf) new.slots) → (t : SlotState) × GivesSlot h.clock len buf g.slot t
 gave-slot h new name to len buf g =
     let within : name.slot < length new.slots = (let low = slice_get_within h.slots name.slot g.slot g.there in let same = g.count in omega arith) in
     let t = get-within new.slots name.slot within in

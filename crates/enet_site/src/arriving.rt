@@ -7,7 +7,7 @@ ghost use Rattle.enet_codec.specs.declared.header.Header.{Header};
 ghost use Rattle.enet_peer.specs.Heading.{IsRead};
 ghost use Rattle.enet_host.specs.Host.{Host};
 ghost use Rattle.enet_host.specs.Foretelling.{next_name};
-ghost use Rattle.enet_slot.specs.Hearing.{no_peer};
+ghost use Rattle.enet_slot.specs.Receiving.{no_peer};
 ghost use Rattle.law_network.specs.Calls.{Acts};
 ghost use Rattle.law_network.specs.Calls as call;
 ghost use Rattle.law_network.specs.Network.{delivery_refusal};
@@ -57,7 +57,7 @@ fn receive(host: &mut HostCore, name: PeerRef, from: Addr, text: &[u8]) -> (Rece
 
 /// A datagram comes from an address. Where it is answered by a new peer, the end of its connection begins. E1 where memory is
 /// refused for that end, with nothing changed.
-fn hear(
+fn receive_datagram(
     host: &mut HostCore,
     own: &mut Records,
     alloc: Global,
@@ -108,5 +108,5 @@ pub(crate) fn deliver(
     let Some(datagram) = far.logged(k) else {
         return Err(Refusal::NoSuchDatagram);
     };
-    hear(host, own, alloc, from, datagram)
+    receive_datagram(host, own, alloc, from, datagram)
 }

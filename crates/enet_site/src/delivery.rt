@@ -3,7 +3,7 @@
 ghost use Rattle.std.specs.Prelude.{◌≡◌, slice_get};
 ghost use Rattle.enet_codec.specs.declared.address.Addr.{Addr};
 ghost use Rattle.enet_host.specs.Host.{Host, named};
-ghost use Rattle.enet_slot.specs.Hearing.{is_deaf};
+ghost use Rattle.enet_slot.specs.Receiving.{is_deaf};
 ghost use Rattle.law_network.specs.Network.{is_at, is_over, has_ended, holds_another, is_earlier, delivery_refusal};
 ghost use Rattle.enet_site.specs.Sites.{site};
 ghost use Rattle.enet_site.specs.Private.Sites.{with_ends, unread};

@@ -4,7 +4,7 @@
 //!
 //! Proved, without a premise but the one that is named: `open` and `joined` give the stated first state, and refuse as stated. Each
 //! call is one thing that happens at the host by the network's definition, or is refused as the network's events are, with nothing
-//! changed: `connect`, `submit`, `deliver`, `hear`, `turn`, `tick`, `take` and `disconnect`. `turn` supposes that each peer at a
+//! changed: `connect`, `submit`, `deliver`, `receive`, `turn`, `tick`, `take` and `disconnect`. `turn` supposes that each peer at a
 //! host's address is that of an end (`AreEnds`), which the network's headline says of every run. `delivery_refusal` is the network's
 //! definition of that name: E13, then E12, then E11, each exactly where it is the first that applies; `connect_refusal` foretells E8
 //! and E7. The lists and datagrams are lent as they are. Of every site `IsWhole` holds: each end's peer stands, or its name is never

@@ -9,7 +9,7 @@ ghost use Rattle.enet_host.specs.Opening.{opened, joined};
 ghost use Rattle.law_network.specs.Headline.{AreEnds, submitted_at, taken_at, events_at};
 ghost use Rattle.law_network.specs.Network.{end_of, delivery_refusal};
 ghost use Rattle.law_network.specs.Calls as call;
-ghost use Rattle.law_network.specs.Steps.{Calls, Hears, Happens, Called};
+ghost use Rattle.law_network.specs.Steps.{Calls, Delivers, Happens, Called};
 ghost use Rattle.law_network.specs.World.{joined_end, IsRefusedFor, RefusesCall, RefusesTake};
 ghost use Rattle.enet_site.specs.Sites.{CallsAt};
 ghost use Rattle.enet_site.specs.Turning.{TurnsAmong};
@@ -149,7 +149,7 @@ impl Site {
     pub fn deliver(&mut self, alloc: Global, from: &Site, k: u64) -> Result<Received, Refusal>
         ensures refused { IfErr result (λ why. IsRefusedFor why (delivery_refusal from.now self.old (slice_get from.now.log k))) }
         ensures unchanged { OnErr result (self.new ≡ self.old) }
-        ensures delivers { IfOk result (λ answer. (next : ℕ) → Happens next from.now (Hears k answer) self.old self.new) }
+        ensures delivers { IfOk result (λ answer. (next : ℕ) → Happens next from.now (Delivers k answer) self.old self.new) }
     {
         deliver(
             &mut self.host,
@@ -162,7 +162,7 @@ impl Site {
     }
 
     /// A datagram comes of a stranger, at the address `from`. Nothing is kept of it.
-    pub fn hear(&mut self, from: Addr, bytes: &[u8]) -> Received
+    pub fn receive(&mut self, from: Addr, bytes: &[u8]) -> Received
         ensures { (next : ℕ) → Called next (call.Receive from bytes.now result) self.old self.new }
     {
         self.host.receive(from, bytes)

@@ -3,7 +3,7 @@
 ghost use Rattle.std.specs.Prelude.{◌≡◌, ◌+◌, ◌≤◌, [], vec_len, vec_capacity, IfSome, IfNone, IfOk, IfErr, OnErr};
 ghost use Rattle.law_network.specs.Headline.{AreEnds};
 ghost use Rattle.enet_site.specs.Private.Sites.{with_ends};
-ghost use Rattle.enet_site.specs.Private.Turning.{Rests, Gives, Turns};
+ghost use Rattle.enet_site.specs.Private.Turning.{EmitsNothing, EmitsOne, Turns};
 
 use crate::put_out::{Text, Turned};
 use enet_codec::{Addr, PeerRef, Refusal};
@@ -18,8 +18,8 @@ const MAX_DATAGRAM: usize = 4096;
 fn emit(host: &mut HostCore, room: Vec<u8>) -> Option<(PeerRef, Addr, Vec<u8>)>
     requires empty { room.items ≡ [] }
     requires room { vec_len room + 4096 ≤ vec_capacity room }
-    ensures none { IfNone result (Rests host.old host.new) }
-    ensures gives { IfSome result (λ gave. Gives host.old (record { name = gave.0; to = gave.1; text = gave.2.items }) host.new) }
+    ensures none { IfNone result (EmitsNothing host.old host.new) }
+    ensures gives { IfSome result (λ gave. EmitsOne host.old (record { name = gave.0; to = gave.1; text = gave.2.items }) host.new) }
 {
     let mut buf = [0; MAX_DATAGRAM];
     let (name, to, len) = host.service(&mut buf)?;

@@ -7,7 +7,7 @@ use Rattle.enet_codec.specs.declared.address.Addr.{Addr}
 use Rattle.enet_peer.specs.Peering.{Peering}
 use Rattle.enet_slot.specs.Slot.{SlotState}
 use Rattle.enet_slot.specs.Giving.{is_vacant}
-use Rattle.enet_slot.specs.Hearing.{is_connection, is_connection_in, is_same_address, is_deaf}
+use Rattle.enet_slot.specs.Receiving.{is_connection, is_connection_in, is_same_address, is_deaf}
 use Rattle.enet_sleepers.specs.declared.marks.Mark.{Mark}
 use Rattle.enet_sleepers.specs.declared.marks.Mark.TheVariants as mark
 use Rattle.enet_sleepers.specs.Marks.{place_of, mark_of, Names}

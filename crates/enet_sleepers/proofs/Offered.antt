@@ -12,7 +12,7 @@ use Rattle.enet_peer.specs.Peering.{Peering}
 use Rattle.enet_slot.specs.declared.slot.Slot.{Slot}
 use Rattle.enet_slot.specs.Slot.{SlotState}
 use Rattle.enet_slot.specs.Giving.{unused_slot, is_vacant, is_available}
-use Rattle.enet_slot.specs.Hearing.{is_connection, is_connection_in}
+use Rattle.enet_slot.specs.Receiving.{is_connection, is_connection_in}
 use Rattle.enet_slot.specs.Slotted.{shown, all_shown}
 use Rattle.enet_sleepers.specs.declared.marks.Mark.{Mark}
 use Rattle.enet_sleepers.specs.Marks.{mark_of, Names}

@@ -3,7 +3,7 @@
 ghost use Rattle.std.specs.Prelude.{◌≡◌, ℕ, ◌<◌, ◌≤◌, true, false, length, get_or, IfSome};
 ghost use Rattle.std.specs.List.{list_any, position};
 ghost use Rattle.enet_slot.specs.Giving.{unused_slot, is_available};
-ghost use Rattle.enet_slot.specs.Hearing.{is_connection};
+ghost use Rattle.enet_slot.specs.Receiving.{is_connection};
 ghost use Rattle.enet_slot.specs.Seating.{IsSeat};
 ghost use Rattle.enet_slot.specs.Slotted.{all_shown};
 ghost use Rattle.enet_sleepers.specs.Sleeping.{KeepsSleepers};

@@ -9,8 +9,8 @@ use Rattle.enet_peer.specs.Peering.{Peering}
 use Rattle.enet_peer.specs.Calls.{PutsOut, next_event}
 use Rattle.enet_peer.specs.Handling.{Arrival, Handles}
 use Rattle.enet_slot.specs.Slot.{SlotState, greatest, with_peer, with_peer_in, name_of}
-use Rattle.enet_slot.specs.Hearing.{Hears}
-use Rattle.enet_slot.specs.Serving.{with_emitted, Gives, passes_by, Passes}
+use Rattle.enet_slot.specs.Receiving.{PeerReceives}
+use Rattle.enet_slot.specs.Emitting.{with_emitted, PeerEmits, passes_by, Passes}
 use Rattle.enet_slot.specs.Calls.{event_of, GivesEvent}
 
 over-in : (st : PeerState) (s : SlotState) (q : Option Peering) (p : Peering) → with_peer_in st (record s { peer = q }) p ≡ with_peer_in st s p
@@ -30,9 +30,9 @@ with-peer-over s q p = over-in p.state s q p
 
 -- `v` is what was seen of the slot before
 pub hears-of : (a : Arrival) (commands : List ℕ) (v s t : SlotState) (p q : Peering) (answer : Received) → v ≡ s → v.peer ≡ Some p
-    → Handles a (record { handled = 0; peer = p }) commands answer q → t ≡ with_peer (record v { peer = Some q }) q → Hears a commands s answer t
+    → Handles a (record { handled = 0; peer = p }) commands answer q → t ≡ with_peer (record v { peer = Some q }) q → PeerReceives a commands s answer t
 hears-of a commands v s t p q answer same held handled left =
-    subst (λ (u : SlotState). Hears a commands u answer t) same
+    subst (λ (u : SlotState). PeerReceives a commands u answer t) same
     (record { peer = p; after = q; held = held; handled = handled; left = left ∙ with-peer-over v (Some q) q })
 
 pub passes-of : (now : ℕ) (buf : List ℕ) (v s t : SlotState) (p q : Peering) → v ≡ s → v.peer ≡ Some p → PutsOut now None p q buf
@@ -43,9 +43,9 @@ passes-of now buf v s t p q same held puts left =
     (record { after = q; buf = buf; puts = puts; left = left ∙ with-peer-over v (Some q) q }))
 
 pub gives-of : (now len emitted : ℕ) (buf : List ℕ) (v s t : SlotState) (p q : Peering) → v ≡ s → v.peer ≡ Some p → PutsOut now (Some len) p q buf
-    → emitted ≡ min (v.emitted + len) greatest → t ≡ with_peer (record v { emitted = emitted; peer = Some q }) q → Gives now len buf s t
+    → emitted ≡ min (v.emitted + len) greatest → t ≡ with_peer (record v { emitted = emitted; peer = Some q }) q → PeerEmits now len buf s t
 gives-of now len emitted buf v s t p q same held puts counted left =
-    subst (λ (u : SlotState). Gives now len buf u t) same
+    subst (λ (u : SlotState). PeerEmits now len buf u t) same
     (record {
       peer = p;
       after = q;

@@ -6,7 +6,7 @@ use Rattle.enet_peer.specs.Peering.{Peering}
 use Rattle.enet_peer.specs.Waiting as peers
 use Rattle.enet_peer.proofs.Waiting.{puts-nothing}
 use Rattle.enet_slot.specs.Slot.{SlotState, with_peer, with_peer_in}
-use Rattle.enet_slot.specs.Serving.{passes_by, Passes}
+use Rattle.enet_slot.specs.Emitting.{passes_by, Passes}
 use Rattle.enet_slot.specs.Calls.{peer_tells, tells}
 use Rattle.enet_slot.specs.Waiting.{waits_in, Waits}
 

@@ -1,9 +1,9 @@
 pub mod Slot
 pub mod Giving
-pub mod Hearing
+pub mod Receiving
 pub mod Holding
 pub mod Seating
-pub mod Serving
+pub mod Emitting
 pub mod Sharing
 pub mod Calls
 pub mod Counting

@@ -6,7 +6,7 @@ use Rattle.enet_slot.specs.declared.all.Seat.{Seat}
 use Rattle.enet_slot.specs.declared.all.Seat.TheVariants.{Known, At, Full}
 use Rattle.enet_slot.specs.Slot.{SlotState}
 use Rattle.enet_slot.specs.Giving.{is_available}
-use Rattle.enet_slot.specs.Hearing.{is_connection}
+use Rattle.enet_slot.specs.Receiving.{is_connection}
 
 -- what is found among the slots for an offer from an address with a connect id
 abbrev pub IsSeat : Addr → ℕ → ℕ → List SlotState → Seat → Type 0

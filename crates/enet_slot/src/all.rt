@@ -7,7 +7,7 @@ ghost use Rattle.enet_peer.specs.Peering.{Peering};
 ghost use Rattle.enet_peer.specs.Calls as peers;
 ghost use Rattle.enet_slot.specs.Slot.{changed};
 ghost use Rattle.enet_slot.specs.Giving.{unused_slot, joined_slots};
-ghost use Rattle.enet_slot.specs.Hearing.{is_connection};
+ghost use Rattle.enet_slot.specs.Receiving.{is_connection};
 ghost use Rattle.enet_slot.specs.Sharing.{is_standing, wants_room, shared};
 ghost use Rattle.enet_slot.specs.Slotted.{shown, all_shown};
 ghost use Rattle.enet_slot.specs.Private.Slotted.{HasRoom};

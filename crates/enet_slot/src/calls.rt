@@ -40,7 +40,7 @@ impl Slot {
 
     /// Ends the connection in this way, with a word for the other end's user. E2; E3 where it ends already: then nothing has
     /// changed.
-    pub fn leave(&mut self, mode: DisconnectMode, info: u32) -> Result<(), Refusal>
+    pub fn disconnect(&mut self, mode: DisconnectMode, info: u32) -> Result<(), Refusal>
         ensures { Does result (on_peer self.old.slot (leaving mode info)) self.old.slot self.new.slot }
     {
         let Some(peer) = &mut self.peer else {
@@ -57,7 +57,7 @@ impl Slot {
 
     /// Sets its peer's throttle: the interval in milliseconds, acceleration and deceleration in parts of 32. E2; E3 where the
     /// peer is not connected; E1, only where a command of channel 0xFF is queued or unacknowledged: then nothing has changed.
-    pub fn configure(
+    pub fn throttle_configure(
         &mut self,
         interval: u32,
         acceleration: u32,

@@ -1,7 +1,7 @@
 //! One slot of a host of ENet 1.3, which is free or holds one peer at an address, and what goes over all slots of a host.
 //!
 //! Proved, each call exactly by small definitions over a slot (`SlotState`): what a user's call does is that call of its peer
-//! (`on_peer`), with E2 where the slot is free; `hear` and `serve` are its peer's (`Hears`, `Gives`, `Passes`), and so is `take`
+//! (`on_peer`), with E2 where the slot is free; `receive` and `emit` are its peer's (`PeerReceives`, `PeerEmits`, `Passes`), and so is `take`
 //! (`GivesEvent`). After each of them a slot whose peer is free gives it up: it keeps the sessions of the connection that it had,
 //! and has the next generation (`vacated`). `ask` and `answer` give it to a peer (`asking`, `answering`). The tests of `refused_by`, in
 //! their order, say which datagrams it takes in, and `is_available` says whether it can be given out. A slot of which `only_waits`
@@ -17,11 +17,11 @@
 mod all;
 mod calls;
 mod counting;
+mod emitting;
 mod events;
 mod giving;
-mod hearing;
 mod holding;
-mod serving;
+mod receiving;
 mod sharing;
 mod slot;
 

@@ -12,7 +12,7 @@ use Rattle.law_network.specs.declared.event.Side.TheVariants.{A, B}
 use Rattle.law_network.specs.declared.event.WorldEvent.{WorldEvent}
 use Rattle.law_network.specs.declared.event.WorldEvent.TheVariants as happen
 use Rattle.law_network.specs.Network.{Site, numbers_of}
-use Rattle.law_network.specs.Steps.{Happening, Calls, Hears, Happens, count_after}
+use Rattle.law_network.specs.Steps.{Happening, Calls, Delivers, Happens, count_after}
 use Rattle.law_network.specs.World.{Steps, Makes, side_of}
 use Rattle.enet_site.specs.Sites.{CallsAt}
 use Rattle.enet_site.specs.declared.put_out.Turned.TheVariants as turn
@@ -31,9 +31,9 @@ pub submitted : (side : Side) (peer : PeerRef) (channel flags : ℕ) (body : Lis
 submitted side peer channel flags body here new far n h =
     done side here new far n n (happen.Submit side peer channel flags body) answers.Done (Calls (call.Submit peer channel (record { flags = flags; body = body }) (Ok tt))) refl refl (h n far) refl
 
-pub delivered : (side : Side) (k : ℕ) (here new far : Site) (n : ℕ) (answer : Received) → ((next : ℕ) → Happens next far (Hears k answer) here new)
+pub delivered : (side : Side) (k : ℕ) (here new far : Site) (n : ℕ) (answer : Received) → ((next : ℕ) → Happens next far (Delivers k answer) here new)
     → Steps (world_of side here far n) (happen.Deliver side k) (Ok (answers.Received answer)) (world_of side new far n)
-delivered side k here new far n answer h = done side here new far n n (happen.Deliver side k) (answers.Received answer) (Hears k answer) refl refl (h n) refl
+delivered side k here new far n answer h = done side here new far n n (happen.Deliver side k) (answers.Received answer) (Delivers k answer) refl refl (h n) refl
 
 -- a turn: both addresses are hosts'
 

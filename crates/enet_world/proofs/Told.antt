@@ -21,7 +21,7 @@ use Rattle.law_network.specs.declared.event.WorldEvent.TheVariants as happen
 use Rattle.law_network.specs.Headline as kept
 use Rattle.law_network.specs.Headline.{HasHeadlineAt, HasHeadlineBetween}
 use Rattle.law_network.specs.Network.{HostEnd, Site, fresh_end, end_of, is_same_name}
-use Rattle.law_network.specs.Steps.{Around, Happening, Calls, Hears, HappensAmong, beside, count_after}
+use Rattle.law_network.specs.Steps.{Around, Happening, Calls, Delivers, HappensAmong, beside, count_after}
 use Rattle.law_network.specs.World.{World, site_of, other, side_of, HappensAt, Makes, Steps, Runs, open_site, open_world}
 use Rattle.law_network.proofs.Growing.{Grows, grows, more_of, stays-there}
 use Rattle.law_network.proofs.Owned.{are-ends, none-held}

@@ -145,7 +145,7 @@ kept-ticked P k p now h =
     let q : Peering = after_timeouts p now in
     let a : P q = kept-timeouts P k p now h in
     if-peer P (is_pinged q now) (record q { outbox = with_control q.outbox control.Ping }) q
-    (λ t. k.controls q control.Ping refl (and-left (is_connected q.state) (outbox.is_quiet q.outbox) (and-left (is_connected q.state && outbox.is_quiet q.outbox) (leb q.ping_interval (elapsed_time now q.heard)) t)) a) a
+    (λ t. k.controls q control.Ping refl (and-left (is_connected q.state) (outbox.has_nothing_reliable q.outbox) (and-left (is_connected q.state && outbox.has_nothing_reliable q.outbox) (leb q.ping_interval (elapsed_time now q.heard)) t)) a) a
 
 -- the user ends the connection
 

@@ -25,7 +25,7 @@ use Rattle.law_network.specs.Headline as owned
 use Rattle.law_network.specs.IsolationLaw.{Fares, untouched, goes_on, begins, having_emitted}
 use Rattle.law_network.specs.Log.{Logged}
 use Rattle.law_network.specs.Network.{HostEnd, Site, is_same_name}
-use Rattle.law_network.specs.Steps.{Around, Happening, Calls, Hears, HappensAmong, Called, BringsOne}
+use Rattle.law_network.specs.Steps.{Around, Happening, Calls, Delivers, HappensAmong, Called, BringsOne}
 use Rattle.law_network.proofs.Counts.{fares-back}
 use Rattle.law_network.proofs.Growing.{more_of, Grows, grows, stays-there}
 use Rattle.law_network.proofs.Names.{IsThere, there-slot}
@@ -74,7 +74,7 @@ call-speaks w from old new c x none host = tt
 
 hosts-on : (w : Around) (from old new : Site) (what : Happening) → HappensAmong w from what old new → is_guest what ≡ false → w.is_host from.address ≡ true → AreHosts w.is_host old.host → AreHosts w.is_host new.host
 hosts-on w from old new (Calls c) x none host k = hosts-by w.is_host c old.host new.host (acts-of w from old new c x) (call-speaks w from old new c x none host) k
-hosts-on w from old new (Hears n answer) x none host k = by (slice_get from.log n) x
+hosts-on w from old new (Delivers n answer) x none host k = by (slice_get from.log n) x
   where
     by : (found : Option Logged) → BringsOne from found answer old new → AreHosts w.is_host new.host
     by None y = absurd y
@@ -118,8 +118,8 @@ named-by w from old new (Calls (call.NextEvent (Some event))) x owns k name (inr
     by false e = absurd (some (ap (λ (b : Bool). cond b (event ∷ []) []) e))
 named-by w from old new (Calls c) x owns k name (inl some) = absurd (some.1 refl)
 named-by w from old new (Calls c) x owns k name (inr some) = absurd (some refl)
-named-by w from old new (Hears n answer) x owns k name (inl some) = absurd (some.1 refl)
-named-by w from old new (Hears n answer) x owns k name (inr some) = absurd (some refl)
+named-by w from old new (Delivers n answer) x owns k name (inl some) = absurd (some.1 refl)
+named-by w from old new (Delivers n answer) x owns k name (inr some) = absurd (some refl)
 
 -- one of two lists has something
 either : {X : Type 0} (xs ys : List X) → xs ++ ys ≢ [] → (xs ≢ []) ⊎ (ys ≢ [])

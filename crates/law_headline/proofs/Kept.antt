@@ -27,7 +27,7 @@ use Rattle.law_network.specs.Falling as falling
 use Rattle.law_network.specs.IsolationLaw.{Fares, untouched, goes_on, begins, having_emitted}
 use Rattle.law_network.specs.Log.{Logged, ChannelPackets, no_packets, packets_at, with_packets, with_submitted_packet, with_taken, fresh_channels}
 use Rattle.law_network.specs.Network.{HostEnd, Site, fresh_end, is_same_name, with_end}
-use Rattle.law_network.specs.Steps.{Around, Happening, Calls, Hears, HappensAmong, Called, Logs, LogsIf, BringsOne, ends_after, after_event, with_packet, with_event, packets_by, begun}
+use Rattle.law_network.specs.Steps.{Around, Happening, Calls, Delivers, HappensAmong, Called, Logs, LogsIf, BringsOne, ends_after, after_event, with_packet, with_event, packets_by, begun}
 use Rattle.law_network.proofs.Counts.{fares-back}
 use Rattle.law_network.proofs.Growing.{more_of, more_in, begun-is}
 use Rattle.law_network.proofs.Keeping.{kept-there, kept-other, equal-or-not, part-stays, with-long}
@@ -258,14 +258,14 @@ calls-change submitted taken w from old new (call.NextEvent (Some event)) x =
     taken-one submitted taken event (name_of a.from a.first.slot) a.gives.taken.event old new a.gives.told (ap (λ (s : Site). s.ends) x.1)
 
 brings-change : (submitted : PeerRef → ℕ → List Packet) (taken : PeerRef → List Event) (next k : ℕ) (from old new : Site) (answer : Received) (found : Option Logged) → BringsOne from found answer old new
-    → Changed submitted taken (Hears k answer) old new (more_in next old new found)
+    → Changed submitted taken (Delivers k answer) old new (more_in next old new found)
 brings-change submitted taken next k from old new answer None x = absurd x
 brings-change submitted taken next k from old new answer (Some d) x =
-    unchanged submitted taken (Hears k answer) old new (begun d.connection old.host new.host) (ap (λ (s : Site). s.ends) x.1.1) (λ n channel. refl) (λ n. refl)
+    unchanged submitted taken (Delivers k answer) old new (begun d.connection old.host new.host) (ap (λ (s : Site). s.ends) x.1.1) (λ n channel. refl) (λ n. refl)
 
 changes : (submitted : PeerRef → ℕ → List Packet) (taken : PeerRef → List Event) (w : Around) (from old new : Site) (what : Happening) → HappensAmong w from what old new → Changed submitted taken what old new (more_of w.count from old new what)
 changes submitted taken w from old new (Calls c) x = calls-change submitted taken w from old new c x
-changes submitted taken w from old new (Hears k answer) x = brings-change submitted taken w.count k from old new answer (slice_get from.log k) x
+changes submitted taken w from old new (Delivers k answer) x = brings-change submitted taken w.count k from old new answer (slice_get from.log k) x
 
 -- an end that begins has nothing
 
@@ -286,7 +286,7 @@ more-fresh : (next : ℕ) (from old new : Site) (what : Happening) (f : HostEnd)
 more-fresh next from old new (Calls (call.Connect address channels info word (Ok name))) f (inl e) = subst (λ (z : HostEnd). z ≡ fresh_end z.connection z.name) e refl
 more-fresh next from old new (Calls (call.Connect address channels info word (Ok name))) f (inr h) = absurd h
 more-fresh next from old new (Calls c) f h = absurd h
-more-fresh next from old new (Hears k answer) f h = by (slice_get from.log k) h
+more-fresh next from old new (Delivers k answer) f h = by (slice_get from.log k) h
   where
     by : (found : Option Logged) → Has (more_in next old new found) f → f ≡ fresh_end f.connection f.name
     by None m = absurd m

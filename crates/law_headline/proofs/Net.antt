@@ -8,7 +8,7 @@ use Rattle.law_headline.specs.declared.node.Node.{Node}
 use Rattle.law_headline.specs.declared.node.Node.TheVariants.{Server, Client}
 use Rattle.enet_host.specs.Host.{peer_in, slot_named}
 use Rattle.enet_peer.specs.Peering.{Peering}
-use Rattle.enet_slot.specs.Hearing.{is_same_address}
+use Rattle.enet_slot.specs.Receiving.{is_same_address}
 use Rattle.enet_slot.specs.Slot.{SlotState}
 use Rattle.law_connection.proofs.Lists.{Has-slice_get, Has-push}
 use Rattle.law_connection.specs.LinkSteps.{Has}
@@ -31,7 +31,7 @@ use Rattle.law_network.specs.Law.{IsElsewhere, IsPaired}
 use Rattle.law_network.specs.Log.{Logged}
 use Rattle.law_network.specs.Network.{HostEnd, Site, fresh_end, end_of}
 use Rattle.law_network.specs.Numbers.{AgreeBetween}
-use Rattle.law_network.specs.Steps.{Happening, Calls, Hears, count_after, Around, HappensAmong}
+use Rattle.law_network.specs.Steps.{Happening, Calls, Delivers, count_after, Around, HappensAmong}
 use Rattle.std.proofs.Common.{◌≡◌, ◌≢◌, ℕ, zero, suc, ◌+◌, ◌<◌, ◌⊎◌, inl, inr, ◌&&◌, ◌||◌, nat_le, nat_lt, true, false, List, [], ◌∷◌, ◌++◌, length, refl, sym, ap, ◌∙◌, arith, Option, Some, None, slice_get, ◌≤◌, subst, map, Ok, slice_set, Bool, cond, Result, Err}
 use Rattle.std.proofs.lemmas.Bool.Decides.{nat_tests}
 use Rattle.std.proofs.lemmas.List.{length-set}
@@ -181,7 +181,7 @@ module _ (home : Node → Addr) (apart : AreApart home) where
 
   -- the server's number of connections stays
   pub server-count : (f : Net) (m : Node) (what : Happening) (n : ℕ) → IsAllowed home f Server m what → count_after n what ≡ n
-  server-count f m (Hears k answer) n allowed = refl
+  server-count f m (Delivers k answer) n allowed = refl
   server-count f m (Calls (call.Connect address channels info word answer)) n allowed = absurd allowed
   server-count f m (Calls c) n allowed = refl
 
@@ -191,7 +191,7 @@ module _ (home : Node → Addr) (apart : AreApart home) where
     is : m ≡ Client client
     asked : slice_get f.asked x ≡ Some client
 
-  of-client : (f : Net) → Sound f → (m : Node) (sender : Place) → place_of f m ≡ Some sender → (k : ℕ) (answer : Received) → IsAllowed home f Server m (Hears k answer) → (d : Logged) → slice_get sender.site.log k ≡ Some d → IsClients f m d.connection
+  of-client : (f : Net) → Sound f → (m : Node) (sender : Place) → place_of f m ≡ Some sender → (k : ℕ) (answer : Received) → IsAllowed home f Server m (Delivers k answer) → (d : Logged) → slice_get sender.site.log k ≡ Some d → IsClients f m d.connection
   of-client f s Server sender sends k answer allowed d is =
       let own : Holds f.asked (length f.clients) Server sender.site = each-holds f s Server sender sends in
       let h : Has sender.site.log d = Has-slice_get sender.site.log k d is in
@@ -259,7 +259,7 @@ module _ (home : Node → Addr) (apart : AreApart home) where
 
       of-sender : (what : Happening) → IsAllowed home f Server m what → IsOfSender (λ x. false) at from old what
       of-sender (Calls c) allowed = tt
-      of-sender (Hears k answer) allowed = λ d sent e h same.
+      of-sender (Delivers k answer) allowed = λ d sent e h same.
           let c = of-client f s m sender sends k answer allowed d sent in
           let asked : slice_get f.asked e.connection ≡ Some c.client = ap (slice_get f.asked) same ∙ c.asked in
           let r = s.pairs e.connection c.client asked in
@@ -275,7 +275,7 @@ module _ (home : Node → Addr) (apart : AreApart home) where
       begin = by what allowed
         where
           by : (what : Happening) → IsAllowed home f Server m what → (g : HostEnd) → Has (more_of w.count from old new what) g → at g.connection ≡ from.address
-          by (Hears k answer) allowed g h =
+          by (Delivers k answer) allowed g h =
               let b = more-brought w.count from old new k answer g h in
               let c = of-client f s m sender sends k answer allowed b.0 b.1 in
               place-is g.connection c.client (ap (slice_get f.asked) b.2 ∙ c.asked) ∙ ap address_of (sym c.is) ∙ sym sent-by.address
@@ -302,7 +302,7 @@ module _ (home : Node → Addr) (apart : AreApart home) where
 
           comes : (what : Happening) → IsAllowed home f Server m what → ComesOf from what p.site x
           comes (Calls c) allowed = tt
-          comes (Hears k answer) allowed = λ d is of.
+          comes (Delivers k answer) allowed = λ d is of.
               let c = of-client f s m sender sends k answer allowed d is in
               let same : c.client ≡ i = same-some c.client i (sym c.asked ∙ ap (slice_get f.asked) of ∙ asked) in
               ap (λ (q : Place). q.site) (the-sender f m sender p i sends (c.is ∙ ap (λ (n : ℕ). Client n) same) there)
@@ -329,7 +329,7 @@ module _ (home : Node → Addr) (apart : AreApart home) where
   asks : (asked : List ℕ) (i : ℕ) (what : Happening) → Asks asked (asked_after (Client i) what asked) i (count_after (length asked) what)
   asks asked i (Calls (call.Connect address channels info word (Ok name))) = asks-one asked i
   asks asked i (Calls c) = asks-none asked i
-  asks asked i (Hears k answer) = asks-none asked i
+  asks asked i (Delivers k answer) = asks-none asked i
 
   -- the one that is new is its
   asked-new : (asked : List ℕ) (i : ℕ) (from old new : Site) (c : Call) (g : HostEnd) → Has (more_of (length asked) from old new (Calls c)) g → slice_get (asked_after (Client i) (Calls c) asked) g.connection ≡ Some i
@@ -344,14 +344,14 @@ module _ (home : Node → Addr) (apart : AreApart home) where
       let e : HostEnd = fresh_end (length asked) name in
       (e, subst (λ (l : List HostEnd). Has l e) (sym g.ends) (Has-push (map g.change old.ends) e), is)
   begins-end asked from old new (Calls c) x g least most = absurd (let lo : length asked ≤ x = least in let hi : x < length asked = most in omega arith)
-  begins-end asked from old new (Hears k answer) x g least most = absurd (let lo : length asked ≤ x = least in let hi : x < length asked = most in omega arith)
+  begins-end asked from old new (Delivers k answer) x g least most = absurd (let lo : length asked ≤ x = least in let hi : x < length asked = most in omega arith)
 
   -- a datagram that is brought to a client is the server's, and of a connection for which this client asked
   record IsServers (f : Net) (m : Node) (i x : ℕ) : Type 0 where
     is : m ≡ Server
     asked : slice_get f.asked x ≡ Some i
 
-  of-server : (f : Net) → Sound f → (i : ℕ) (m : Node) (sender : Place) → place_of f m ≡ Some sender → (k : ℕ) (answer : Received) → IsAllowed home f (Client i) m (Hears k answer) → (d : Logged) → slice_get sender.site.log k ≡ Some d → IsServers f m i d.connection
+  of-server : (f : Net) → Sound f → (i : ℕ) (m : Node) (sender : Place) → place_of f m ≡ Some sender → (k : ℕ) (answer : Received) → IsAllowed home f (Client i) m (Delivers k answer) → (d : Logged) → slice_get sender.site.log k ≡ Some d → IsServers f m i d.connection
   of-server f s i Server sender sends k answer allowed d is =
       let own : Holds f.asked (length f.clients) Server sender.site = each-holds f s Server sender sends in
       let h : Has sender.site.log d = Has-slice_get sender.site.log k d is in
@@ -426,7 +426,7 @@ module _ (home : Node → Addr) (apart : AreApart home) where
 
       of-sender : (what : Happening) → IsAllowed home f (Client i) m what → IsOfSender (λ x. false) (λ x. address_of Server) from old what
       of-sender (Calls c) allowed' = tt
-      of-sender (Hears k answer) allowed' = λ d sent e h same'.
+      of-sender (Delivers k answer) allowed' = λ d sent e h same'.
           let c = of-server f s i m sender sends k answer allowed' d sent in (
             subst (λ (p : Place). Pair false old p.site e.connection) (sym (the-server c.is)) (pair e.connection (own.own e h)),
             address-server c.is,
@@ -439,11 +439,11 @@ module _ (home : Node → Addr) (apart : AreApart home) where
       begin = by what allowed
         where
           by : (what : Happening) → IsAllowed home f (Client i) m what → (g : HostEnd) → Has (more_of w.count from old new what) g → address_of Server ≡ from.address
-          by (Hears k answer) allowed' g h = (let b = more-brought w.count from old new k answer g h in address-server (of-server f s i m sender sends k answer allowed' b.0 b.1).is)
+          by (Delivers k answer) allowed' g h = (let b = more-brought w.count from old new k answer g h in address-server (of-server f s i m sender sends k answer allowed' b.0 b.1).is)
           by (Calls c) allowed' g h = address-server allowed'
 
       own-new : (what : Happening) → IsAllowed home f (Client i) m what → (g : HostEnd) → Has (more_of w.count from old new what) g → slice_get (asked_after (Client i) what f.asked) g.connection ≡ Some i
-      own-new (Hears k answer) allowed' g h = (let b = more-brought w.count from old new k answer g h in ap (slice_get f.asked) b.2 ∙ (of-server f s i m sender sends k answer allowed' b.0 b.1).asked)
+      own-new (Delivers k answer) allowed' g h = (let b = more-brought w.count from old new k answer g h in ap (slice_get f.asked) b.2 ∙ (of-server f s i m sender sends k answer allowed' b.0 b.1).asked)
       own-new (Calls c) allowed' g h = asked-new f.asked i from old new c g h
 
       grown : Grows old new (more_of w.count from old new what)
@@ -488,12 +488,12 @@ module _ (home : Node → Addr) (apart : AreApart home) where
 
           comes : (what : Happening) → IsAllowed home f (Client i) m what → ComesOf from what f.server.site x
           comes (Calls c) allowed' = tt
-          comes (Hears k answer) allowed' = λ d is' of. ap (λ (q : Place). q.site) (the-server (of-server f s i m sender sends k answer allowed' d is').is)
+          comes (Delivers k answer) allowed' = λ d is' of. ap (λ (q : Place). q.site) (the-server (of-server f s i m sender sends k answer allowed' d is').is)
 
       -- a connection for which the client asked
       begun-pair : (what : Happening) → IsAllowed home f (Client i) m what → HappensAmong w from what old new → (x : ℕ) → length f.asked ≤ x → x < count_after (length f.asked) what → Pair false new f.server.site x
       begun-pair (Calls c) allowed' happens x least most = subst (λ (p : Place). Pair false new p.site x) (the-server allowed') (new-pair w from old new (Calls c) x happens own.host sent-by.host least most)
-      begun-pair (Hears k answer) allowed' happens x least most = absurd (let lo : length f.asked ≤ x = least in let hi : x < length f.asked = most in omega arith)
+      begun-pair (Delivers k answer) allowed' happens x least most = absurd (let lo : length f.asked ≤ x = least in let hi : x < length f.asked = most in omega arith)
 
       pairs : (x k : ℕ) → slice_get more x ≡ Some k → (p : Place) × (slice_get set k ≡ Some p) × Pair false p.site f.server.site x
       pairs x k asked = by (a.after x k asked)

@@ -2,12 +2,12 @@
 use Rattle.std.specs.Prelude.{◌≡◌, ℕ, zero, suc, ◌+◌, ◌||◌, Bool, false, List, [], ◌∷◌, ◌++◌, length, map, Option, Some, None, Ok, slice_get, slice_set}
 use Rattle.enet_codec.specs.declared.address.Addr.{Addr}
 use Rattle.enet_codec.specs.declared.config.Config.{Config}
-use Rattle.enet_slot.specs.Hearing.{is_same_address}
+use Rattle.enet_slot.specs.Receiving.{is_same_address}
 use Rattle.law_network.specs.Calls.{Call}
 use Rattle.law_network.specs.Calls as call
 use Rattle.law_network.specs.Log.{Logged}
 use Rattle.law_network.specs.Network.{numbers_of}
-use Rattle.law_network.specs.Steps.{Around, Happening, Calls, Hears, HappensAmong}
+use Rattle.law_network.specs.Steps.{Around, Happening, Calls, Delivers, HappensAmong}
 use Rattle.enet_site.specs.Places.{Place, opened_at, all_opened}
 use Rattle.law_headline.specs.declared.node.Node.{Node}
 use Rattle.law_headline.specs.declared.node.Node.TheVariants.{Server, Client}
@@ -79,7 +79,7 @@ AllowsCall Server m (call.Connect address channels info word answer) = ⊥
 AllowsCall Server m c = m ≡ Server
 
 abbrev pub IsAllowed : (Node → Addr) → Net → Node → Node → Happening → Type 0
-IsAllowed at f n m (Hears k answer) = (p : Place) → place_of f m ≡ Some p → (d : Logged) → slice_get p.site.log k ≡ Some d → d.to ≡ at n
+IsAllowed at f n m (Delivers k answer) = (p : Place) → place_of f m ≡ Some p → (d : Logged) → slice_get p.site.log k ≡ Some d → d.to ≡ at n
 IsAllowed at f n m (Calls c) = AllowsCall n m c
 
 -- one thing after another: where, of which other host, and what

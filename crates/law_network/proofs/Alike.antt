@@ -27,7 +27,7 @@ use Rattle.enet_peer.specs.Heading as heading
 use Rattle.enet_slot.specs.Slot.{SlotState, with_peer, name_of, greatest}
 use Rattle.enet_slot.specs.Calls.{Does, DoesWithMemory, IsRefusedBy}
 use Rattle.enet_slot.specs.Giving.{asking, answering}
-use Rattle.enet_slot.specs.Hearing.{no_peer, refused_by_slot}
+use Rattle.enet_slot.specs.Receiving.{no_peer, refused_by_slot}
 use Rattle.enet_host.specs.Receiving.{handled_one}
 use Rattle.law_connection.specs.Steps as setting
 use Rattle.law_connection.specs.Steps.{Way, Setting}

@@ -12,7 +12,7 @@ use Rattle.law_network.specs.declared.event.WorldEvent.TheVariants as happen
 use Rattle.law_network.specs.Alone.{LiveAlone, received_from, call_by, refused_call, call_of, at_side, calls_at, EachAlone, calls_among, EachAloneAmong}
 use Rattle.law_network.specs.Log.{Logged}
 use Rattle.law_network.specs.Network.{Site}
-use Rattle.law_network.specs.Steps.{Around, Happening, Calls, Hears, HappensAmong, BringsOne, beside}
+use Rattle.law_network.specs.Steps.{Around, Happening, Calls, Delivers, HappensAmong, BringsOne, beside}
 use Rattle.law_network.specs.World.{World, site_of, other, HappensAt, AllHappen, side_of, Runs, Refuses}
 use Rattle.law_network.specs.World as world
 use Rattle.law_network.proofs.Worlds.{acts-of}
@@ -20,7 +20,7 @@ use Rattle.law_network.proofs.Worlds.{acts-of}
 -- one thing leads its host by its call
 pub by-call : (w : Around) (from old new : Site) (what : Happening) → HappensAmong w from what old new → Steps (call_by from what) old.host new.host
 by-call w from old new (Calls c) h = (new.host, acts-of w from old new c h, refl)
-by-call w from old new (Hears k answer) h = brought (slice_get from.log k) h
+by-call w from old new (Delivers k answer) h = brought (slice_get from.log k) h
   where
     brought : (found : Option Logged) → BringsOne from found answer old new → Steps (received_from from.address answer found) old.host new.host
     brought None x = absurd x

@@ -28,7 +28,7 @@ use Rattle.enet_slot.specs.Giving.{limits_of, unused_slot, is_available, offer_f
 use Rattle.enet_slot.specs.Slot.{SlotState, name_of}
 use Rattle.enet_host.specs.Host.{Host}
 use Rattle.enet_host.specs.Opening.{host_basis, available, Connects, no_channel, no_slot, no_memory, asks}
-use Rattle.enet_slot.specs.Hearing.{no_peer}
+use Rattle.enet_slot.specs.Receiving.{no_peer}
 use Rattle.enet_host.specs.Receiving.{offer_refused, Offers, Arrives}
 use Rattle.enet_host.specs.Receiving as receiving
 use Rattle.law_network.proofs.Lists.{get-set, get-set_other, get-within}

@@ -22,7 +22,7 @@ use Rattle.law_connection.specs.Link as link
 use Rattle.law_connection.specs.LinkSteps.{Has}
 use Rattle.law_connection.specs.Connection.{Put, End, messages_of, sent_on}
 use Rattle.law_connection.specs.Steps.{Event, Come, InTime, with_peer}
-use Rattle.enet_slot.specs.Hearing.{is_same_address, no_peer, is_deaf, fits_session, refused_by_peer, refused_by_slot, Hears}
+use Rattle.enet_slot.specs.Receiving.{is_same_address, no_peer, is_deaf, fits_session, refused_by_peer, refused_by_slot, PeerReceives}
 use Rattle.enet_slot.specs.Slot.{SlotState, greatest, with_peer as slot_with_peer}
 use Rattle.enet_host.specs.Calls.{address_named}
 use Rattle.enet_host.specs.Opening.{host_basis}
@@ -195,7 +195,7 @@ heard-there : (from : Site) (i : ℕ) (d : Logged) (answer : Received) (old new 
     → Acts (call.Receive from.address d.text answer) old.host new.host → KeepsLog old new e.connection → slice_get from.log i ≡ Some d → Has old.ends e → IsApart old.ends e → ShowsFar from e.connection far
     → is_earlier old from.address d ≡ false → is_late from old d ≡ false
     → (header : Header) (commands : List ℕ) (s t : SlotState) → IsRead d.text header commands → header.peer ≢ no_peer → header.peer ≡ e.name.slot → refused_by_slot from.address header.session (Some s) ≡ None
-    → slice_get old.host.slots e.name.slot ≡ Some s → (x : IsThere old.host.slots e.name k.peer) → Hears (record { now = old.host.clock; sent = header.sent }) commands s answer t → slice_get new.host.slots e.name.slot ≡ Some t → d.connection ≡ e.connection → Went own far new e
+    → slice_get old.host.slots e.name.slot ≡ Some s → (x : IsThere old.host.slots e.name k.peer) → PeerReceives (record { now = old.host.clock; sent = header.sent }) commands s answer t → slice_get new.host.slots e.name.slot ≡ Some t → d.connection ≡ e.connection → Went own far new e
 unfolding AllInTime
 heard-there from i d answer old new e own far k low acts same sent has apart shown earlier late header commands s t read n here taken there x hears there' of = record {
   new = with_peer own hears.after;
@@ -240,7 +240,7 @@ pub record IsHeard (from : Addr) (text : List ℕ) (answer : Received) (old new 
   pub taken : refused_by_slot from header.session (Some slot) ≡ None
   pub was : slice_get old.host.slots e.name.slot ≡ Some slot
   pub there : IsThere old.host.slots e.name p
-  pub hears : Hears (record { now = old.host.clock; sent = header.sent }) commands slot answer after
+  pub hears : PeerReceives (record { now = old.host.clock; sent = header.sent }) commands slot answer after
   pub is : slice_get new.host.slots e.name.slot ≡ Some after
 
 -- the slot in which a datagram is heard is at its sender's address
@@ -282,7 +282,7 @@ goes-received from text answer old new e own far low acts same k heard-here = by
         ∙ ap (λ (xs : List SlotState). slice_get xs e.name.slot) was ∙ x.there)
 
     heard-at : (header : Header) (commands : List ℕ) (s t : SlotState) → IsRead text header commands → header.peer ≢ no_peer → refused_by_slot from header.session (Some s) ≡ None
-        → slice_get old.host.slots header.peer ≡ Some s → Hears (record { now = old.host.clock; sent = header.sent }) commands s answer t → new.host.slots ≡ slice_set old.host.slots header.peer t → header.peer ≡ e.name.slot
+        → slice_get old.host.slots header.peer ≡ Some s → PeerReceives (record { now = old.host.clock; sent = header.sent }) commands s answer t → new.host.slots ≡ slice_set old.host.slots header.peer t → header.peer ≡ e.name.slot
         → ((k.peer.state ≢ state.Free) × IsThere old.host.slots e.name k.peer) ⊎ ((k.peer.state ≡ state.Free) × IsSpent old.host e.name) → Went own far new e
     heard-at header commands s t read n taken there hears set here (inr gone) = goes-still old new e own far k same (shows-gone new.host e.name k.peer gone.0 (spent-step c old.host new.host e.name low acts gone.1))
     heard-at header commands s t read n taken there hears set here (inl live) = heard-here (record {
@@ -312,7 +312,7 @@ goes-received from text answer old new e own far low acts same k heard-here = by
         at (inl here) =
             let old-there : slice_get old.host.slots header.peer ≡ Some s = ap (λ (xs : List SlotState). slice_get xs header.peer) (sym was) ∙ there in
             let taken : refused_by_slot from header.session (Some s) ≡ None = ap (λ (o : Option SlotState). refused_by_slot from header.session o) (sym there) ∙ open' in
-            heard-at header commands s t read n taken old-there (subst (λ (r : Received). Hears (record { now = old.host.clock; sent = header.sent }) commands s r t) as-said hears) (sym is ∙ ap (λ (xs : List SlotState). slice_set xs header.peer t) was) here (there-or old.host e.name k.peer k.shows)
+            heard-at header commands s t read n taken old-there (subst (λ (r : Received). PeerReceives (record { now = old.host.clock; sent = header.sent }) commands s r t) as-said hears) (sym is ∙ ap (λ (xs : List SlotState). slice_set xs header.peer t) was) here (there-or old.host e.name k.peer k.shows)
 
 -- a datagram of the host that has the other end
 pub goes-brought : (from : Site) (i : ℕ) (d : Logged) (answer : Received) (old new : Site) (e : HostEnd) (own far : End) → old.host.config.generations ≤ greatest

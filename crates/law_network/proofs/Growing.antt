@@ -17,7 +17,7 @@ use Rattle.law_network.specs.Calls.{Call}
 use Rattle.law_network.specs.Calls as call
 use Rattle.law_network.specs.Log.{Logged}
 use Rattle.law_network.specs.Network.{HostEnd, Site, fresh_end, is_same_name, with_end}
-use Rattle.law_network.specs.Steps.{Around, Happening, Calls, Hears, HappensAmong, Called, Logs, LogsIf, BringsOne, ends_after, after_event, with_packet, with_event, end_in, end_in_slot, begun_in, begun}
+use Rattle.law_network.specs.Steps.{Around, Happening, Calls, Delivers, HappensAmong, Called, Logs, LogsIf, BringsOne, ends_after, after_event, with_packet, with_event, end_in, end_in_slot, begun_in, begun}
 use Rattle.law_network.proofs.OneThing.{Has-append_left, event-ends}
 
 -- the ends that begin
@@ -28,7 +28,7 @@ more_in next old new (Some d) = begun d.connection old.host new.host
 abbrev pub more_of : ℕ → Site → Site → Site → Happening → List HostEnd
 more_of next other old new (Calls (call.Connect address channels info word (Ok name))) = fresh_end next name ∷ []
 more_of next other old new (Calls c) = []
-more_of next other old new (Hears k answer) = more_in next old new (slice_get other.log k)
+more_of next other old new (Delivers k answer) = more_in next old new (slice_get other.log k)
 
 -- all others are those of before, each changed alone, with the same name and connection
 pub record Grows (old new : Site) (more : List HostEnd) : Type 0 where
@@ -97,7 +97,7 @@ brings-grow next other old new answer (Some d) x = grows-same old new (begun d.c
 
 pub grows : (w : Around) (from old new : Site) (what : Happening) → HappensAmong w from what old new → Grows old new (more_of w.count from old new what)
 grows w from old new (Calls c) x = calls-grow w from old new c x
-grows w from old new (Hears k answer) x = brings-grow w.count from old new answer (slice_get from.log k) x
+grows w from old new (Delivers k answer) x = brings-grow w.count from old new answer (slice_get from.log k) x
 
 -- each end is one of before, or begins
 

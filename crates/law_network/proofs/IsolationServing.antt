@@ -16,8 +16,8 @@ use Rattle.enet_peer.specs.Calls.{PutsOut, Taken, pace_of, destination_of, next_
 use Rattle.enet_slot.specs.Slot.{SlotState, with_peer, name_of, greatest}
 use Rattle.enet_host.specs.Host.{Host}
 use Rattle.enet_host.specs.Turns.{turn_of, IsFirst, HoldsNowhere}
-use Rattle.enet_slot.specs.Serving.{Gives, passes_by, Passes}
-use Rattle.enet_host.specs.Serving.{served_of, InTurn, GivesInTurn, AllPass}
+use Rattle.enet_slot.specs.Emitting.{PeerEmits, passes_by, Passes}
+use Rattle.enet_host.specs.Serving.{served_of, InTurn, EmitsInTurn, AllPass}
 use Rattle.enet_slot.specs.Calls.{peer_tells, tells, event_of, GivesEvent}
 use Rattle.law_network.specs.Calls.{Call}
 use Rattle.law_network.specs.Calls as call
@@ -62,7 +62,7 @@ each-passed h buf after x i s e =
 turns-apart : (n from i j : ℕ) → i < n → j < n → turn_of n from i ≡ turn_of n from j → i ≡ j
 turns-apart n from i j a b e = grind (arith, nat_tests)
 
-pub each-given : (h : Host) (name : PeerRef) (address : Addr) (len : ℕ) (buf : List ℕ) (after : List SlotState) → GivesInTurn h.clock h.service_from h.slots (served_of (name, address, len) buf) after
+pub each-given : (h : Host) (name : PeerRef) (address : Addr) (len : ℕ) (buf : List ℕ) (after : List SlotState) → EmitsInTurn h.clock h.service_from h.slots (served_of (name, address, len) buf) after
     → Each (call.Service (Some (name, address, len)) buf) h after
 each-given h name address len buf after x i s e = (there.0, there.1, by (order (turn i) (turn name.slot)))
   where
@@ -110,7 +110,7 @@ each-given h name address len buf after x i s e = (there.0, there.1, by (order (
         passed h i s there.0 (Some gave) buf (other true n (grind (arith, nat_tests))) (quiet n) (turned.before before)
     by (inr (inl equal)) =
         let e : i ≡ name.slot = turns-apart (length h.slots) h.service_from i name.slot low (slice_get_within h.slots name.slot x.slot x.there) equal in
-        let g : Gives h.clock len buf s there.0 = turned.here e in
+        let g : PeerEmits h.clock len buf s there.0 = turned.here e in
         let y : (name.slot == i) ≡ true = grind (arith, nat_tests) in
         goes_on g.peer g.after (Emit h.clock (Some (take len buf)) ∷ []) g.held
         (sym (ap (λ (b : Bool). cond b (Emit h.clock (Some (take len buf)) ∷ []) (deeds_if (nat_lt (turn i) (turn name.slot)) (Emit h.clock None))) y))

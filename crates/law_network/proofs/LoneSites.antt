@@ -28,8 +28,8 @@ use Rattle.enet_peer.specs.Calls.{Taken, submission_refusal, submitted, pace_of,
 use Rattle.enet_slot.specs.Slot.{SlotState, greatest}
 use Rattle.enet_slot.specs.Calls.{event_of, submitted_unless, kept}
 use Rattle.enet_slot.specs.Giving.{no_address, unused_slot, limits_of, offer_from, server_from}
-use Rattle.enet_slot.specs.Hearing.{refused_by_slot, no_peer, stopped, Hears}
-use Rattle.enet_slot.specs.Serving.{with_emitted, Gives}
+use Rattle.enet_slot.specs.Receiving.{refused_by_slot, no_peer, stopped, PeerReceives}
+use Rattle.enet_slot.specs.Emitting.{with_emitted, PeerEmits}
 use Rattle.enet_host.specs.declared.totals.Totals.{Totals}
 use Rattle.enet_host.specs.Host.{Host}
 use Rattle.enet_host.specs.Calls.{put_back}
@@ -48,7 +48,7 @@ use Rattle.law_network.specs.Log.{Logged, ChannelPackets, fresh_channels, fresh_
 use Rattle.law_network.specs.Marks.{MarksOf}
 use Rattle.law_network.specs.Network.{HostEnd, Site, fresh_end, numbers_of, delivery_refusal}
 use Rattle.law_network.specs.Numbers.{Stands}
-use Rattle.law_network.specs.Steps.{Calls, Hears as HearsIt, Called, Logs, LogsIf, Around, packets_by, after_event, beside, BringsOne, Happens, HappensAmong}
+use Rattle.law_network.specs.Steps.{Calls, Delivers as HearsIt, Called, Logs, LogsIf, Around, packets_by, after_event, beside, BringsOne, Happens, HappensAmong}
 use Rattle.law_network.specs.World.{World, other, address_of, Steps, open_site, open_world}
 use Rattle.law_network.proofs.Marked.{marks_of}
 use Rattle.law_network.proofs.Submitting.{same-some}
@@ -217,7 +217,7 @@ puts-out w from side far x m host numbers k = (
     spelled : SpellsDatagram (take (length text) text) (header_of x.peer m) (m ∷ [])
     spelled = subst (λ (l : List ℕ). SpellsDatagram l (header_of x.peer m) (m ∷ [])) (sym all) (spells x.peer m k)
 
-    gives : Gives 0 (length text) text old new
+    gives : PeerEmits 0 (length text) text old new
     gives = record {
       peer = x.peer;
       after = put_out x.peer;
@@ -232,7 +232,7 @@ puts-out w from side far x m host numbers k = (
     in-turn : (i : ℕ) (s u : SlotState) → slice_get (old ∷ []) i ≡ Some s → slice_get (new ∷ []) i ≡ Some u → InTurn (record { now = 0; turn = turn_of 1 0; gave = served_of (first_name, address_of (other side), length text) text }) i s u
     in-turn zero s u a b = record {
       before = λ less. absurd (omega arith);
-      here = λ e. subst (λ (z : SlotState). Gives 0 (length text) text z u) (same-some old s a) (subst (λ (z : SlotState). Gives 0 (length text) text old z) (same-some new u b) gives);
+      here = λ e. subst (λ (z : SlotState). PeerEmits 0 (length text) text z u) (same-some old s a) (subst (λ (z : SlotState). PeerEmits 0 (length text) text old z) (same-some new u b) gives);
       after = λ less. absurd (omega arith);
     }
     in-turn (suc i) s u a b = absurd (let e : ◌≡◌ {A = Option SlotState} None (Some s) = a in cc)
@@ -306,7 +306,7 @@ hears next side from x k session sent d m q b o =
     handles = subst (λ (l : List ℕ). Handles (record { now = 0; sent = sent }) (record { handled = 0; peer = x.peer }) l handled_one q) (sym (s.messages.2 ∙ ap (λ (l : List ℕ). s.messages.0 ++ l) s.messages.4))
         (goes_on (record { handled = 0; peer = x.peer }) s.messages.0 [] m handled_one q q s.messages.3 (o.goes, o.after) (nothing_left (record { handled = 1; peer = q })))
 
-    hears-it : Hears (record { now = 0; sent = sent }) s.commands old handled_one new
+    hears-it : PeerReceives (record { now = 0; sent = sent }) s.commands old handled_one new
     hears-it = record { peer = x.peer; after = q; held = refl; handled = handles; left = sym (held old q o.live) }
 
     arrives : Arrives (record { basis = record { config = example_config; clock = 0 }; slots = old ∷ [] }) from.address d.text handled_one (new ∷ [])

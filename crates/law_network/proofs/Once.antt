@@ -15,7 +15,7 @@ use Rattle.enet_peer.specs.Peering.{Peering}
 use Rattle.law_connection.specs.LinkSteps.{Has}
 use Rattle.law_connection.proofs.Lists.{Has-slice_get}
 use Rattle.law_connection.specs.Connection.{Put, messages_of}
-use Rattle.enet_slot.specs.Hearing.{is_same_address, no_peer, is_deaf, is_connection, is_connection_in}
+use Rattle.enet_slot.specs.Receiving.{is_same_address, no_peer, is_deaf, is_connection, is_connection_in}
 use Rattle.enet_slot.specs.Slot.{SlotState, with_peer_in}
 use Rattle.enet_host.specs.Host.{Host, named}
 use Rattle.enet_host.specs.Receiving.{is_known}
@@ -30,7 +30,7 @@ use Rattle.law_network.proofs.Receiving.{is_open}
 use Rattle.law_network.specs.Log.{Logged}
 use Rattle.law_network.specs.Network.{HostEnd, Site, is_over, has_ended, holds_another, is_earlier, is_late}
 use Rattle.law_network.specs.Shown.{IsLogged, Shows}
-use Rattle.law_network.specs.Steps.{Around, Happening, Calls, Hears, HappensAmong, BringsOne, begun_in, begun}
+use Rattle.law_network.specs.Steps.{Around, Happening, Calls, Delivers, HappensAmong, BringsOne, begun_in, begun}
 use Rattle.law_network.proofs.Addresses.{same-address}
 use Rattle.law_network.proofs.Beginnings.{the-offer, none-in, free-there}
 use Rattle.law_network.proofs.Delivering.{none-of}
@@ -69,7 +69,7 @@ brings-from from old new answer (Some d) x = (call.Receive from.address d.text a
 
 pub call-from : (w : Around) (from old new : Site) (what : Happening) → HappensAmong w from what old new → IsCall w from old new what
 call-from w from old new (Calls c) x = record { made = c; acts = acts-of w from old new c x; speaks = speaks-of w from old new c x }
-call-from w from old new (Hears k answer) x = (let b = brings-from from old new answer (slice_get from.log k) x in record { made = b.0; acts = b.1; speaks = λ f h. b.2 })
+call-from w from old new (Delivers k answer) x = (let b = brings-from from old new answer (slice_get from.log k) x in record { made = b.0; acts = b.1; speaks = λ f h. b.2 })
 
 -- a peer stays where it is
 stays-in : (st : PeerState) (s : SlotState) (q : Peering) → (with_peer_in st s q).address ≡ s.address
@@ -234,12 +234,12 @@ twice j count i answer d from old new brought k ko sent e h of pair at f m = by 
 -- a connection of a host is one with the host whose datagram comes, and its two ends are a pair
 abbrev pub IsOfSender : (ℕ → Bool) → (ℕ → Addr) → Site → Site → Happening → Type 0
 IsOfSender j place from s (Calls c) = Unit {0}
-IsOfSender j place from s (Hears k answer) =
+IsOfSender j place from s (Delivers k answer) =
     (d : Logged) → slice_get from.log k ≡ Some d → (e : HostEnd) → Has s.ends e → e.connection ≡ d.connection → Pair (j e.connection) s from e.connection × (place e.connection ≡ from.address)
 
 pub begins-once : (j : ℕ → Bool) (place : ℕ → Addr) (w : Around) (from old new : Site) (what : Happening) → HappensAmong w from what old new → IsHost old w.count → IsHost from w.count → IsOfSender j place from old what → AreAt place old
     → BeginsOnce from old new what
 begins-once j place w from old new (Calls c) happens k ko of at = tt
-begins-once j place w from old new (Hears i answer) happens k ko of at = λ d sent e h same f m.
+begins-once j place w from old new (Delivers i answer) happens k ko of at = λ d sent e h same f m.
     let p = of d sent e h same in
     twice (j e.connection) w.count i answer d from old new (subst (λ (found : Option Logged). BringsOne from found answer old new) sent happens) k ko sent e h same p.0 (λ q x. at e h q x ∙ p.1) f m

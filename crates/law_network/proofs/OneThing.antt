@@ -20,7 +20,7 @@ use Rattle.law_network.specs.Log.{Logged}
 use Rattle.law_network.specs.Law.{AreNamed, GoesOn, IsElsewhere, IsBetween, Faces, OneThing, GoOnAt}
 use Rattle.law_network.specs.Network.{HostEnd, Site, is_same_name, with_end, is_earlier, is_late}
 use Rattle.law_network.specs.Shown.{Shows, ShowsFar, Went, IsApart}
-use Rattle.law_network.specs.Steps.{Around, Happening, Calls, Hears, CallsAmong, Called, Logs, LogsIf, BringsOne, Brought, ends_after, after_event, with_packet, with_event, begun}
+use Rattle.law_network.specs.Steps.{Around, Happening, Calls, Delivers, CallsAmong, Called, Logs, LogsIf, BringsOne, Brought, ends_after, after_event, with_packet, with_event, begun}
 use Rattle.law_network.proofs.Quiet.{KeepsLog, same-log, is_quiet_call, goes-quiet}
 use Rattle.law_network.proofs.Submitting.{goes-submitted, goes-taken}
 use Rattle.law_network.proofs.Serving.{goes-passed, goes-served, goes-unserved}
@@ -120,7 +120,7 @@ in-none false true h = absurd (cc)
 in-none false false h = (refl, refl)
 
 bringing : (k : ℕ) (answer : Received) (from old new : Site) (found : Option Logged) → slice_get from.log k ≡ found → BringsOne from found answer old new → old.host.config.generations ≤ greatest → AreNamed from.log
-    → (e : HostEnd) → Has old.ends e → IsApart old.ends e → (own far : End) → Shows old e own → IsBetween from (Hears k answer) old e far → GoesOn own far new e
+    → (e : HostEnd) → Has old.ends e → IsApart old.ends e → (own far : End) → Shows old e own → IsBetween from (Delivers k answer) old e far → GoesOn own far new e
 bringing k answer from old new None is x low named' e h apart own far shows met = absurd x
 bringing k answer from old new (Some d) is x low named' e h apart own far shows met =
     on-same own far new e (old.ends ++ begun d.connection old.host new.host) (ap (λ (s : Site). s.ends) b.1) (Has-append_left old.ends (begun d.connection old.host new.host) e h) (by met)
@@ -139,7 +139,7 @@ bringing k answer from old new (Some d) is x low named' e h apart own far shows 
 
 pub one-thing : OneThing
 one-thing old low w from new (Calls c) x named' e h apart own far k faces sender = calling w from old new c x low e h apart own far k faces
-one-thing old low w from new (Hears i answer) x named' e h apart own far k faces sender = bringing i answer from old new (slice_get from.log i) refl x low named' e h apart own far k sender
+one-thing old low w from new (Delivers i answer) x named' e h apart own far k faces sender = bringing i answer from old new (slice_get from.log i) refl x low named' e h apart own far k sender
 
 pub go-on-at : (h : Host) → Keeps h → GoOnAt h
 go-on-at h keeps old is = one-thing old (subst (λ (x : Host). x.config.generations ≤ greatest) (sym is) keeps.generations)

@@ -22,7 +22,7 @@ use Rattle.law_network.proofs.Single.{begins-at}
 use Rattle.law_network.specs.Headline.{AreEnds}
 use Rattle.law_network.specs.Log.{Logged}
 use Rattle.law_network.specs.Network.{HostEnd, Site, fresh_end}
-use Rattle.law_network.specs.Steps.{Around, Happening, Calls, Hears, HappensAmong, Called, BringsOne, end_in, end_in_slot, begun_in, begun}
+use Rattle.law_network.specs.Steps.{Around, Happening, Calls, Delivers, HappensAmong, Called, BringsOne, end_in, end_in_slot, begun_in, begun}
 use Rattle.law_network.proofs.Growing.{more_of, more_in, Grows, grows, stays-there, begins-there}
 use Rattle.law_network.proofs.Submitting.{same-some}
 use Rattle.law_network.proofs.Worlds.{acts-of}
@@ -82,7 +82,7 @@ by-call is_host c old new more acts g k new-end i t p there has at =
 pub owned-goes : (w : Around) (from old new : Site) (what : Happening) → HappensAmong w from what old new → AreOwned w.is_host old → AreOwned w.is_host new
 owned-goes w from old new (Calls c) x k =
     by-call w.is_host c old new (more_of w.count from old new (Calls c)) (acts-of w from old new c x) (grows w from old new (Calls c) x) k (λ i s t p there has at b. called w from old new c x i s t at b)
-owned-goes w from old new (Hears n answer) x k = by (slice_get from.log n) x (grows w from old new (Hears n answer) x)
+owned-goes w from old new (Delivers n answer) x k = by (slice_get from.log n) x (grows w from old new (Delivers n answer) x)
   where
     by : (found : Option Logged) → BringsOne from found answer old new → Grows old new (more_in w.count old new found) → AreOwned w.is_host new
     by None y g = absurd y

@@ -25,7 +25,7 @@ use Rattle.enet_host.specs.Host.{Host}
 use Rattle.enet_slot.specs.Giving.{is_vacant, is_available, asking, answering}
 use Rattle.enet_host.specs.Opening.{host_basis, available, Connects}
 use Rattle.enet_host.specs.Opening as opening
-use Rattle.enet_slot.specs.Hearing.{no_peer, refused_by_slot, stopped}
+use Rattle.enet_slot.specs.Receiving.{no_peer, refused_by_slot, stopped}
 use Rattle.enet_host.specs.Receiving.{refused_by, is_known, Offers, Arrives, handled_one}
 use Rattle.enet_host.specs.Receiving as receiving
 use Rattle.law_network.specs.Calls.{Call}

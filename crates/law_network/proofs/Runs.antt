@@ -27,7 +27,7 @@ use Rattle.law_network.specs.Law.{LawfulEither, AreLawful, OfEachRun, OfEachJoin
 use Rattle.law_network.specs.Log.{Logged, ChannelPackets as KeptOf, no_packets, fresh_channels, joined_greatest, packets_at, greatest_at}
 use Rattle.law_network.specs.Network.{HostEnd, Site, fresh_end}
 use Rattle.law_network.specs.Shown.{Shows}
-use Rattle.law_network.specs.Steps.{Around, Happening, Calls, Hears, Logs, LogsIf, BringsOne, HappensAmong, beside, Happens, count_after}
+use Rattle.law_network.specs.Steps.{Around, Happening, Calls, Delivers, Logs, LogsIf, BringsOne, HappensAmong, beside, Happens, count_after}
 use Rattle.law_network.specs.World.{World, other, address_of, HappensAt, AllHappen, side_of, Steps, Runs, open_world, joined_config, joined_end, joined_site, joined_world}
 use Rattle.law_network.proofs.Beginnings.{asked}
 use Rattle.law_network.proofs.Peers.{shows-held}
@@ -68,7 +68,7 @@ new-pair w from old new (Calls (call.Connect address channels info word (Ok name
       two_word = word-none y.0.connect_id;
     })
 new-pair w from old new (Calls c) x happens k ko least most = absurd (let few : x < w.count = most in omega arith)
-new-pair w from old new (Hears i answer) x happens k ko least most = absurd (let few : x < w.count = most in omega arith)
+new-pair w from old new (Delivers i answer) x happens k ko least most = absurd (let few : x < w.count = most in omega arith)
 
 -- no host moves
 pub stays-put : (w : Around) (from old new : Site) (what : Happening) → HappensAmong w from what old new → new.address ≡ old.address
@@ -81,7 +81,7 @@ stays-put w from old new (Calls (call.Service (Some gave) buf)) x = served (w.is
     served true y = (let l : Logs w.numbers (served_of gave buf) old new = y in ap (λ (s : Site). s.address) l.rest)
     served false y = (let rest : new ≡ record old { host = new.host } = y in ap (λ (s : Site). s.address) rest)
 stays-put w from old new (Calls c) x = ap (λ (s : Site). s.address) x.1
-stays-put w from old new (Hears k answer) x = by (slice_get from.log k) x
+stays-put w from old new (Delivers k answer) x = by (slice_get from.log k) x
   where
     by : (found : Option Logged) → BringsOne from found answer old new → new.address ≡ old.address
     by None y = absurd y
@@ -93,7 +93,7 @@ less-or-not a b = grind arith
 -- one side of two goes on
 
 comes-same : (s : Site) (what : Happening) (x : ℕ) → ComesOf s what s x
-comes-same s (Hears k answer) x = λ d is of. refl
+comes-same s (Delivers k answer) x = λ d is of. refl
 comes-same s (Calls c) x = tt
 
 joins : (next : ℕ) (other : Site) (what : Happening) (s : Site) (x : ℕ) → IsJoined (beside next other) other what s other x
@@ -116,7 +116,7 @@ shown-all j next other s k pairs e h = (let p = pairs e.connection (k.below e h)
 
 of-sender : (j : ℕ → Bool) (next : ℕ) (place : Addr) (other s : Site) (what : Happening) → IsHost s next → other.address ≡ place → ((x : ℕ) → x < next → Pair (j x) s other x) → IsOfSender j (λ x. place) other s what
 of-sender j next place other s (Calls c) k at pairs = tt
-of-sender j next place other s (Hears i answer) k at pairs = λ d sent e h same. (pairs e.connection (k.below e h), sym at)
+of-sender j next place other s (Delivers i answer) k at pairs = λ d sent e h same. (pairs e.connection (k.below e h), sym at)
 
 -- all that holds of the side where something happens
 record Gone (j : ℕ → Bool) (place : Addr) (next : ℕ) (other new : Site) (what : Happening) : Type 0 where

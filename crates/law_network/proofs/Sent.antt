@@ -5,15 +5,15 @@ use Rattle.enet_codec.specs.declared.event.PeerRef.{PeerRef}
 use Rattle.enet_codec.specs.declared.event.Received.{Received}
 use Rattle.law_connection.specs.LinkSteps.{Has}
 use Rattle.law_connection.proofs.Lists.{Has-push_cases}
-use Rattle.enet_slot.specs.Serving.{Gives}
+use Rattle.enet_slot.specs.Emitting.{PeerEmits}
 use Rattle.enet_slot.specs.Slot.{SlotState}
-use Rattle.enet_host.specs.Serving.{served_of, GivesInTurn}
+use Rattle.enet_host.specs.Serving.{served_of, EmitsInTurn}
 use Rattle.law_network.specs.Calls.{Acts}
 use Rattle.law_network.specs.Calls as call
 use Rattle.law_network.proofs.Names.{IsThere}
 use Rattle.law_network.specs.Log.{Logged}
 use Rattle.law_network.specs.Network.{HostEnd, Site}
-use Rattle.law_network.specs.Steps.{Around, Happening, Calls, Hears, HappensAmong, Logs, LogsIf, BringsOne}
+use Rattle.law_network.specs.Steps.{Around, Happening, Calls, Delivers, HappensAmong, Logs, LogsIf, BringsOne}
 use Rattle.law_network.proofs.Growing.{more_of, more_in, begun-is}
 use Rattle.law_network.proofs.Once.{AreAt}
 use Rattle.law_network.proofs.Serving.{there-now}
@@ -35,13 +35,13 @@ served place far gave buf old new logs acts at k d h = elim (Has-push_cases old.
     one : Logged
     one = record { connection = logs.own.connection; to = gave.1; peer = logs.header.peer; text = take gave.2 buf; marks = logs.marks }
 
-    given : GivesInTurn old.host.clock old.host.service_from old.host.slots (served_of gave buf) new.host.slots
+    given : EmitsInTurn old.host.clock old.host.service_from old.host.slots (served_of gave buf) new.host.slots
     given = acts.0
 
     t : (t : SlotState) × (slice_get new.host.slots gave.0.slot ≡ Some t)
     t = there-now gave buf old new given gave.0.slot given.slot given.there
 
-    g : Gives old.host.clock gave.2 buf given.slot t.0
+    g : PeerEmits old.host.clock gave.2 buf given.slot t.0
     g = (given.slots gave.0.slot given.slot t.0 given.there t.1).here refl
 
     there : IsThere old.host.slots logs.own.name g.peer
@@ -67,10 +67,10 @@ sent-goes place w from old new (Calls (call.Receive address bytes answer)) x at 
 sent-goes place w from old new (Calls (call.Service (Some gave) buf)) x at k = served-if place (w.is_host gave.1) w.numbers gave buf old new x.1 x.0 at k
 sent-goes place w from old new (Calls (call.Service None buf)) x at k = same-log place old new (ap (λ (s : Site). s.log) x.1) k
 sent-goes place w from old new (Calls c) x at k = same-log place old new (ap (λ (s : Site). s.log) x.1) k
-sent-goes place w from old new (Hears n answer) x at k = brought place from old new answer (slice_get from.log n) x k
+sent-goes place w from old new (Delivers n answer) x at k = brought place from old new answer (slice_get from.log n) x k
 
 -- an end that begins where a datagram is brought is of the datagram's connection
-pub more-brought : (count : ℕ) (from old new : Site) (k : ℕ) (answer : Received) (f : HostEnd) → Has (more_of count from old new (Hears k answer)) f → (d : Logged) × (slice_get from.log k ≡ Some d) × (f.connection ≡ d.connection)
+pub more-brought : (count : ℕ) (from old new : Site) (k : ℕ) (answer : Received) (f : HostEnd) → Has (more_of count from old new (Delivers k answer)) f → (d : Logged) × (slice_get from.log k ≡ Some d) × (f.connection ≡ d.connection)
 more-brought count from old new k answer f h = by (slice_get from.log k) refl h
   where
     by : (found : Option Logged) → slice_get from.log k ≡ found → Has (more_in count old new found) f → (d : Logged) × (slice_get from.log k ≡ Some d) × (f.connection ≡ d.connection)

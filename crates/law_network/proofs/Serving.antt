@@ -27,9 +27,9 @@ use Rattle.law_connection.proofs.Emits.{Has-from_map}
 use Rattle.law_connection.proofs.Runs.{reached-append, reached-none}
 use Rattle.enet_slot.specs.Slot.{SlotState, with_peer, greatest}
 use Rattle.enet_host.specs.Turns.{turn_of}
-use Rattle.enet_slot.specs.Serving.{Gives, HasNothing, passes_by, Passes}
+use Rattle.enet_slot.specs.Emitting.{PeerEmits, HasNothing, passes_by, Passes}
 use Rattle.enet_host.specs.Calls.{address_named}
-use Rattle.enet_host.specs.Serving.{served_of, InTurn, GivesInTurn, AllPass}
+use Rattle.enet_host.specs.Serving.{served_of, InTurn, EmitsInTurn, AllPass}
 use Rattle.law_network.specs.Calls.{Call, Acts}
 use Rattle.law_network.specs.Calls as call
 use Rattle.law_network.proofs.Lists.{get-within}
@@ -306,7 +306,7 @@ order (suc a) (suc b) = by (order a b)
     by (equal h) = equal (ap (λ (n : ℕ). suc n) h)
     by (after h) = after (omega arith)
 
-pub there-now : (gave : PeerRef × Addr × ℕ) (buf : List ℕ) (old new : Site) → GivesInTurn old.host.clock old.host.service_from old.host.slots (served_of gave buf) new.host.slots
+pub there-now : (gave : PeerRef × Addr × ℕ) (buf : List ℕ) (old new : Site) → EmitsInTurn old.host.clock old.host.service_from old.host.slots (served_of gave buf) new.host.slots
     → (i : ℕ) (s : SlotState) → slice_get old.host.slots i ≡ Some s → (t : SlotState) × (slice_get new.host.slots i ≡ Some t)
 there-now gave buf old new given i s e = get-within new.host.slots i (let few : i < length old.host.slots = slice_get_within old.host.slots i s e in let as' : length new.host.slots ≡ length old.host.slots = given.count in omega arith)
 
@@ -315,7 +315,7 @@ record IsServed (gave : PeerRef × Addr × ℕ) (buf : List ℕ) (old new : Site
   there : IsThere old.host.slots e.name p
   after : SlotState
   is : slice_get new.host.slots e.name.slot ≡ Some after
-  gives : Gives old.host.clock gave.2 buf there.slot after
+  gives : PeerEmits old.host.clock gave.2 buf there.slot after
   slot : e.name.slot ≡ gave.0.slot
   generation : e.name.generation ≡ gave.0.generation
 
@@ -327,7 +327,7 @@ goes-turned gave buf old new e own far f low acts others k served = by (there-or
     c : Call
     c = call.Service (Some gave) buf
 
-    given : GivesInTurn old.host.clock old.host.service_from old.host.slots (served_of gave buf) new.host.slots
+    given : EmitsInTurn old.host.clock old.host.service_from old.host.slots (served_of gave buf) new.host.slots
     given = acts.0
 
     others-slot : e.name.slot ≢ gave.0.slot → KeepsLog old new e.connection
@@ -339,7 +339,7 @@ goes-turned gave buf old new e own far f low acts others k served = by (there-or
     by : ((k.peer.state ≢ state.Free) × IsThere old.host.slots e.name k.peer) ⊎ ((k.peer.state ≡ state.Free) × IsSpent old.host e.name) → Went own far new (cond (is_same_name e.name gave.0) f e)
     by (inr gone) =
         let t = there-now gave buf old new given gave.0.slot given.slot given.there in
-        let g : Gives old.host.clock gave.2 buf given.slot t.0 = (given.slots gave.0.slot given.slot t.0 given.there t.1).here refl in
+        let g : PeerEmits old.host.clock gave.2 buf given.slot t.0 = (given.slots gave.0.slot given.slot t.0 given.there t.1).here refl in
         let never : is_same_name e.name gave.0 ≡ false =
         not-there old.host.slots e.name gave.0 given.slot g.peer given.there (ap (λ (z : PeerRef). z.generation) (sym given.named)) g.held
         (λ q y. let z : ◌≡◌ {A = Option Peering} None (Some q) = sym (spent-nobody old.host e.name gone.1) ∙ there-named old.host.slots e.name q y in absurd (cc)) in
@@ -405,14 +405,14 @@ goes-served fars gave buf old new e own far low acts l apart theirs k = goes-tur
     served : IsServed gave buf old new e k.peer → Went own far new (record e { greatest = l.greatest })
     served h =
         let x : IsThere old.host.slots e.name k.peer = h.there in
-        let g : Gives old.host.clock gave.2 buf x.slot h.after = h.gives in
+        let g : PeerEmits old.host.clock gave.2 buf x.slot h.after = h.gives in
         let p : g.peer ≡ k.peer = same-some g.peer k.peer (sym g.held ∙ x.peer) in
         let named : gave.0 ≡ e.name = (λ i. record { slot = sym h.slot i; generation = sym h.generation i }) in
         let same : l.own ≡ e = apart l.own l.there (inl (l.name ∙ named)) in
         let counts : Counts (take gave.2 buf) e.greatest l.greatest (fars e.connection) l.marks = subst (λ (z : HostEnd). Counts (take gave.2 buf) z.greatest l.greatest (fars z.connection) l.marks) same l.counts in
         let shows : ShowsPeer new.host e.name g.after =
-        shows-after c old.host new.host e.name k.peer g.after x h.after (Rattle.enet_slot.specs.Serving.with_emitted x.slot gave.2).emitted low (same-generations c old.host new.host acts) h.is
-        (g.left ∙ emitted-apart x.slot g.after (Rattle.enet_slot.specs.Serving.with_emitted x.slot gave.2).emitted) in
+        shows-after c old.host new.host e.name k.peer g.after x h.after (Rattle.enet_slot.specs.Emitting.with_emitted x.slot gave.2).emitted low (same-generations c old.host new.host acts) h.is
+        (g.left ∙ emitted-apart x.slot g.after (Rattle.enet_slot.specs.Emitting.with_emitted x.slot gave.2).emitted) in
         goes-logged old new e own far old.host.clock gave.2 g.after buf k (subst (λ (y : Peering). PutsOut old.host.clock (Some gave.2) y g.after buf) p g.puts) shows l.greatest (fars e.connection) l.marks d counts theirs l.header l.commands l.read refl refl refl logs
 
 -- where a datagram was given to an address at which the end's peer isn't, the end puts nothing out
@@ -424,7 +424,7 @@ goes-unserved gave buf old new e own far low acts same away k = subst (Went own 
     same-either true f = refl
     same-either false f = refl
 
-    given : GivesInTurn old.host.clock old.host.service_from old.host.slots (served_of gave buf) new.host.slots
+    given : EmitsInTurn old.host.clock old.host.service_from old.host.slots (served_of gave buf) new.host.slots
     given = acts.0
 
     served : IsServed gave buf old new e k.peer → Went own far new e

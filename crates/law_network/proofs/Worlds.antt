@@ -33,7 +33,7 @@ use Rattle.law_network.specs.Law.{AreNamed, HasNothingOf, GoesOn, IsElsewhere, I
 use Rattle.law_network.specs.Log.{Logged, greatest_at}
 use Rattle.law_network.specs.Network.{HostEnd, Site, fresh_end, end_of, numbers_in, numbers_of}
 use Rattle.law_network.specs.Shown.{ShowsPeer, Shows, ShowsFar, RunsAt, IsApart}
-use Rattle.law_network.specs.Steps.{Around, Happening, Calls, Hears, HappensAmong, Logs, LogsIf, BringsOne, begun, count_after}
+use Rattle.law_network.specs.Steps.{Around, Happening, Calls, Delivers, HappensAmong, Logs, LogsIf, BringsOne, begun, count_after}
 use Rattle.law_network.proofs.Beginnings.{answered, free-there}
 use Rattle.law_network.proofs.Delivering.{end-there}
 use Rattle.law_network.proofs.Growing.{more_of, more_in, Grows, grows, from-before, stays-there, begins-there, begun-is}
@@ -59,7 +59,7 @@ pub record Pair (joined : Bool) (a b : Site) (x : ℕ) : Type 0 where
 -- no connection begins at a host that has an end of it
 abbrev pub BeginsOnce : Site → Site → Site → Happening → Type 0
 BeginsOnce from old new (Calls c) = Unit {0}
-BeginsOnce from old new (Hears k answer) =
+BeginsOnce from old new (Delivers k answer) =
     (d : Logged) → slice_get from.log k ≡ Some d → (e : HostEnd) → Has old.ends e → e.connection ≡ d.connection → (f : HostEnd) → Has (begun d.connection old.host new.host) f → ⊥
 
 -- what holds of a host where there were so many connections
@@ -80,7 +80,7 @@ AreAllOf s x P = (e : HostEnd) → Has s.ends e → e.connection ≡ x → P e
 
 -- a datagram of connection x comes of the host that has its other end
 abbrev pub ComesOf : Site → Happening → Site → ℕ → Type 0
-ComesOf from (Hears k answer) other x = (d : Logged) → slice_get from.log k ≡ Some d → d.connection ≡ x → from ≡ other
+ComesOf from (Delivers k answer) other x = (d : Logged) → slice_get from.log k ≡ Some d → d.connection ≡ x → from ≡ other
 ComesOf from (Calls c) other x = Unit {0}
 
 -- something happens at a host, of whose connection x this is the other one: how far its numbers have come is known, no stranger is at its
@@ -161,7 +161,7 @@ begins-by w from old new (Calls (call.Connect address channels info word (Ok nam
     absurd (let same : w.count ≡ x = ap (λ (z : HostEnd). z.connection) e ∙ of in omega arith)
 begins-by w from old new (Calls (call.Connect address channels info word (Ok name))) x other two happens k ko comes none low there f (inr h) of = absurd h
 begins-by w from old new (Calls c) x other two happens k ko comes none low there f h of = absurd h
-begins-by w from old new (Hears i answer) x other two happens k ko comes none low there f h of = by (slice_get from.log i) refl happens h
+begins-by w from old new (Delivers i answer) x other two happens k ko comes none low there f h of = by (slice_get from.log i) refl happens h
   where
     by : (found : Option Logged) → slice_get from.log i ≡ found → BringsOne from found answer old new → Has (more_in w.count old new found) f → Begins two new f
     by None is brings y = absurd y
@@ -179,7 +179,7 @@ faces w from what s other e far joins h shown = record {
 }
 
 between : (w : Around) (from : Site) (what : Happening) (s other : Site) (e : HostEnd) (far : End) → IsJoined w from what s other e.connection → Has s.ends e → ShowsFar other e.connection far → IsBetween from what s e far
-between w from (Hears k answer) s other e far joins h shown = elim joins.sender [ inl same ↦ inl (subst (λ (z : Site). ShowsFar z e.connection far) (sym same) shown) | inr away ↦ inr (away e h refl) ]
+between w from (Delivers k answer) s other e far joins h shown = elim joins.sender [ inl same ↦ inl (subst (λ (z : Site). ShowsFar z e.connection far) (sym same) shown) | inr away ↦ inr (away e h refl) ]
 between w from (Calls c) s other e far joins h shown = tt
 
 pub pair-goes : (j : Bool) (w : Around) (from old new : Site) (what : Happening) (other : Site) (x : ℕ) → HappensAmong w from what old new → IsHost old w.count → IsHost other w.count → AreNamed from.log → IsJoined w from what old other x → x < w.count
@@ -251,7 +251,7 @@ brought-acts from old new answer (Some d) x = (call.Receive from.address d.text 
 
 pub some-acts : (w : Around) (from old new : Site) (what : Happening) → HappensAmong w from what old new → (c : Call) × Acts c old.host new.host
 some-acts w from old new (Calls c) x = (c, acts-of w from old new c x)
-some-acts w from old new (Hears k answer) x = brought-acts from old new answer (slice_get from.log k) x
+some-acts w from old new (Delivers k answer) x = brought-acts from old new answer (slice_get from.log k) x
 
 -- its log grows by a datagram of one of its ends, or not
 record LogsOne (old new : Site) : Type 0 where
@@ -298,7 +298,7 @@ brought-log from old new answer (Some d) x = ap (λ (s : Site). s.log) x.1.1
 
 log-grows : (w : Around) (from old new : Site) (what : Happening) → HappensAmong w from what old new → (new.log ≡ old.log) ⊎ LogsOne old new
 log-grows w from old new (Calls c) x = calls-log w from old new c x
-log-grows w from old new (Hears k answer) x = inl (brought-log from old new answer (slice_get from.log k) x)
+log-grows w from old new (Delivers k answer) x = inl (brought-log from old new answer (slice_get from.log k) x)
 
 -- an end that begins has a name that no other has
 
@@ -340,7 +340,7 @@ fresh-more w from old new (Calls (call.Connect address channels info word (Ok na
     subst (λ (z : HostEnd). IsFresh old.host z.name) e (fresh-connected old.host address channels info word name (Ok name) old.host.slots new.host.slots refl x.1.0.0 refl)
 fresh-more w from old new (Calls (call.Connect address channels info word (Ok name))) x f (inr h) = absurd h
 fresh-more w from old new (Calls c) x f h = absurd h
-fresh-more w from old new (Hears k answer) x f h = by (slice_get from.log k) x h
+fresh-more w from old new (Delivers k answer) x f h = by (slice_get from.log k) x h
   where
     by : (found : Option Logged) → BringsOne from found answer old new → Has (more_in w.count old new found) f → IsFresh old.host f.name
     by None y m = absurd y
@@ -389,7 +389,7 @@ one-more next from old new (Calls (call.Connect address channels info word (Ok n
 one-more next from old new (Calls (call.Connect address channels info word (Ok name))) f g (inr e) h = absurd e
 one-more next from old new (Calls (call.Connect address channels info word (Ok name))) f g (inl e) (inr h) = absurd h
 one-more next from old new (Calls c) f g h k = absurd h
-one-more next from old new (Hears i answer) f g h k = by (slice_get from.log i) h k
+one-more next from old new (Delivers i answer) f g h k = by (slice_get from.log i) h k
   where
     by : (found : Option Logged) → Has (more_in next old new found) f → Has (more_in next old new found) g → f ≡ g
     by None a b = absurd a
@@ -401,7 +401,7 @@ new-connection next from old new (Calls (call.Connect address channels info word
     let a : f.connection ≡ next = ap (λ (z : HostEnd). z.connection) (sym is) in let b : e.connection < next = k.below e h in absurd (let c : e.connection ≡ f.connection = same in omega arith)
 new-connection next from old new (Calls (call.Connect address channels info word (Ok name))) k once f (inr is) e h same = absurd is
 new-connection next from old new (Calls c) k once f is e h same = absurd is
-new-connection next from old new (Hears i answer) k once f is e h same = by (slice_get from.log i) refl is
+new-connection next from old new (Delivers i answer) k once f is e h same = by (slice_get from.log i) refl is
   where
     by : (found : Option Logged) → slice_get from.log i ≡ found → Has (more_in next old new found) f → ⊥
     by None there m = absurd m
@@ -413,7 +413,7 @@ more-count : (next : ℕ) (from old new : Site) (what : Happening) → IsHost fr
 more-count next from old new (Calls (call.Connect address channels info word (Ok name))) ko f (inl is) = (let a : f.connection ≡ next = ap (λ (z : HostEnd). z.connection) (sym is) in let r : f.connection < next + 1 = omega arith in r)
 more-count next from old new (Calls (call.Connect address channels info word (Ok name))) ko f (inr is) = absurd is
 more-count next from old new (Calls c) ko f is = absurd is
-more-count next from old new (Hears i answer) ko f is = by (slice_get from.log i) refl is
+more-count next from old new (Delivers i answer) ko f is = by (slice_get from.log i) refl is
   where
     by : (found : Option Logged) → slice_get from.log i ≡ found → Has (more_in next old new found) f → f.connection < next
     by None there m = absurd m
@@ -428,7 +428,7 @@ more-count next from old new (Hears i answer) ko f is = by (slice_get from.log i
 pub count-grows : (next : ℕ) (what : Happening) → next ≤ count_after next what
 count-grows next (Calls (call.Connect address channels info word (Ok name))) = let r : next ≤ next + 1 = omega arith in r
 count-grows next (Calls c) = let r : next ≤ next = omega arith in r
-count-grows next (Hears k answer) = let r : next ≤ next = omega arith in r
+count-grows next (Delivers k answer) = let r : next ≤ next = omega arith in r
 
 pub host-goes : (w : Around) (from old new : Site) (what : Happening) → HappensAmong w from what old new → IsHost old w.count → IsHost from w.count → BeginsOnce from old new what → AreShown old → IsHost new (count_after w.count what)
 host-goes w from old new what x k ko once shown = record {

@@ -10,7 +10,7 @@ use Rattle.enet_peer.specs.declared.parts.PeerState.TheVariants as state
 use Rattle.enet_peer.specs.Peering.{Peering}
 use Rattle.enet_peer.specs.Heading.{IsRead, IsOffer}
 use Rattle.enet_slot.specs.Slot.{SlotState, greatest}
-use Rattle.enet_slot.specs.Hearing.{no_peer}
+use Rattle.enet_slot.specs.Receiving.{no_peer}
 use Rattle.enet_host.specs.Host.{Host, Keeps}
 use Rattle.enet_host.specs.Ticking.{clock_after}
 use Rattle.law_network.specs.Calls.{Call, Connect, Receive, Service, Tick, NextEvent, Acts}

@@ -16,7 +16,7 @@ use Rattle.law_network.specs.declared.event.WorldEvent.{WorldEvent}
 use Rattle.law_network.specs.declared.event.WorldEvent.TheVariants as happen
 use Rattle.law_network.specs.Log.{Logged}
 use Rattle.law_network.specs.Network.{Site}
-use Rattle.law_network.specs.Steps.{Happening, Calls, Hears}
+use Rattle.law_network.specs.Steps.{Happening, Calls, Delivers}
 use Rattle.law_network.specs.World.{World, site_of, other, address_of, AllHappen, side_of, Runs}
 use Rattle.law_network.specs.World as world
 
@@ -32,7 +32,7 @@ received_from address answer (Some d) = call.Receive address d.text answer ∷ [
 
 abbrev pub call_by : Site → Happening → List Call
 call_by from (Calls c) = c ∷ []
-call_by from (Hears k answer) = received_from from.address answer (slice_get from.log k)
+call_by from (Delivers k answer) = received_from from.address answer (slice_get from.log k)
 
 -- an event that is refused by its host, as the call which that refused; any other refusal comes without a call
 abbrev pub refused_call : WorldEvent → Refusal → List Call

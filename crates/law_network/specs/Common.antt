@@ -5,7 +5,7 @@ use Rattle.std.specs.List.{count_by, list_any}
 use Rattle.enet_codec.specs.declared.address.Addr.{Addr}
 use Rattle.enet_codec.specs.declared.config.Config.{Config}
 use Rattle.enet_slot.specs.Giving.{Basis}
-use Rattle.enet_slot.specs.Hearing.{is_connection}
+use Rattle.enet_slot.specs.Receiving.{is_connection}
 use Rattle.enet_slot.specs.Sharing.{is_standing}
 use Rattle.enet_host.specs.Host.{Host}
 use Rattle.enet_host.specs.Opening as opening

@@ -22,7 +22,7 @@ use Rattle.enet_peer.specs.Handling as handling
 use Rattle.enet_peer.specs.Heading.{IsUnreadable, IsRead, IsOffer}
 use Rattle.enet_slot.specs.Slot.{SlotState, name_of, greatest}
 use Rattle.enet_slot.specs.Giving.{asking, answering}
-use Rattle.enet_slot.specs.Hearing.{no_peer, refused_by_slot, stopped}
+use Rattle.enet_slot.specs.Receiving.{no_peer, refused_by_slot, stopped}
 use Rattle.enet_slot.specs.Sharing.{limit_for}
 use Rattle.enet_host.specs.Host.{slot_named}
 use Rattle.enet_host.specs.Receiving.{handled_one, offer_refused}

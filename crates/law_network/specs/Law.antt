@@ -25,7 +25,7 @@ use Rattle.law_network.specs.declared.event.WorldEvent.{WorldEvent}
 use Rattle.law_network.specs.Log.{Logged, greatest_at}
 use Rattle.law_network.specs.Network.{HostEnd, Site, fresh_end, is_at}
 use Rattle.law_network.specs.Shown.{Shows, ShowsFar, Went, IsApart}
-use Rattle.law_network.specs.Steps.{Around, Happening, Calls, Hears, HappensAmong, BringsOne, begun}
+use Rattle.law_network.specs.Steps.{Around, Happening, Calls, Delivers, HappensAmong, BringsOne, begun}
 use Rattle.law_network.specs.World.{World, AllHappen, Runs, open_world, joined_world}
 
 -- of each datagram of a log it is kept which peer id its header names
@@ -46,7 +46,7 @@ IsElsewhere s e address = is_at address (address_named s.host.slots e.name) ≡ 
 
 -- a datagram that is brought is of the host that has the other end of a connection, or of one at another address
 abbrev pub IsBetween : Site → Happening → Site → HostEnd → End → Type 0
-IsBetween from (Hears k answer) s e far = ShowsFar from e.connection far ⊎ IsElsewhere s e from.address
+IsBetween from (Delivers k answer) s e far = ShowsFar from e.connection far ⊎ IsElsewhere s e from.address
 IsBetween from (Calls c) s e far = Unit {0}
 
 -- what is around an end of a host, whose other end is `far`: how far the other's numbers have come, and no stranger is at the address of its peer

@@ -7,7 +7,7 @@ use Rattle.enet_codec.specs.declared.event.PeerRef.{PeerRef}
 use Rattle.enet_codec.specs.declared.refusal.Refusal.{Refusal}
 use Rattle.enet_codec.specs.declared.refusal.Refusal.TheVariants.{NoSuchDatagram, Late, Earlier}
 use Rattle.enet_peer.specs.Peering.{Peering}
-use Rattle.enet_slot.specs.Hearing.{is_same_address, no_peer, is_deaf}
+use Rattle.enet_slot.specs.Receiving.{is_same_address, no_peer, is_deaf}
 use Rattle.enet_host.specs.Host.{Host, named}
 use Rattle.enet_host.specs.Calls.{address_named}
 use Rattle.law_network.specs.Lateness.{has_late}

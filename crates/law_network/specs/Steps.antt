@@ -23,7 +23,7 @@ use Rattle.law_network.specs.Network.{HostEnd, Site, fresh_end, with_end, number
 
 pub data Happening : Type 0 where
   Calls : (call : Call) → Happening  -- its user or its service calls it
-  Hears : (k : ℕ) (answer : Received) → Happening  -- the network brings it datagram k of the other host, to which it answers this
+  Delivers : (k : ℕ) (answer : Received) → Happening  -- the network brings it datagram k of the other host, to which it answers this
 
 -- the user of an end submitted a packet, which goes by this mtu
 abbrev pub with_packet : ℕ → Packet → HostEnd → HostEnd
@@ -125,7 +125,7 @@ CallsAmong w from c old new = Called w.count c old new
 -- one thing at a host among others: a call, or the network brings it a datagram of the host `from`
 abbrev pub HappensAmong : Around → Site → Happening → Site → Site → Type 0
 HappensAmong w from (Calls c) old new = CallsAmong w from c old new
-HappensAmong w from (Hears k answer) old new = BringsOne from (slice_get from.log k) answer old new
+HappensAmong w from (Delivers k answer) old new = BringsOne from (slice_get from.log k) answer old new
 
 -- around a host that has one other there is no stranger
 abbrev pub beside : ℕ → Site → Around

@@ -20,7 +20,7 @@ use Rattle.law_network.specs.declared.event.WorldEvent.TheVariants as happen
 use Rattle.law_network.specs.Log.{fresh_channels, joined_greatest}
 use Rattle.law_network.specs.Network.{HostEnd, Site, delivery_refusal}
 use Rattle.law_network.specs.Running.{RunsBy}
-use Rattle.law_network.specs.Steps.{Happening, Calls, Hears, Happens, count_after}
+use Rattle.law_network.specs.Steps.{Happening, Calls, Delivers, Happens, count_after}
 
 -- both sides, and how many connections there have been
 pub record World : Type 0 where
@@ -65,7 +65,7 @@ side_of (happen.Disconnect side peer how info) = side
 abbrev pub Makes : World → WorldEvent → Answer → Happening → Type 0
 Makes w (happen.Connect side channels info word) (answers.Peer name) e = e ≡ Calls (call.Connect (address_of (other side)) channels info word (Ok name))
 Makes w (happen.Submit side peer channel flags body) answers.Done e = e ≡ Calls (call.Submit peer channel (record { flags = flags; body = body }) (Ok tt))
-Makes w (happen.Deliver side k) (answers.Received answer) e = e ≡ Hears k answer
+Makes w (happen.Deliver side k) (answers.Received answer) e = e ≡ Delivers k answer
 Makes w (happen.Turn side) (answers.Sent None) e = (buf : List ℕ) × (e ≡ Calls (call.Service None buf))
 Makes w (happen.Turn side) (answers.Sent (Some n)) e =
     (gave : PeerRef × Addr × ℕ) × (buf : List ℕ) × (e ≡ Calls (call.Service (Some gave) buf)) × (n ≡ length (site_of w side).log)

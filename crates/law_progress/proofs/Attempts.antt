@@ -459,9 +459,9 @@ pub unpinged : (k : Kind) (q : Peering) (n : ℕ) → q.state ≡ state_of k →
 unpinged k q n e = by k e
   where
     by : (k : Kind) → q.state ≡ state_of k → pinged q n ≡ q
-    by Asks h = ap (λ s. cond (is_connected s && outbox.is_quiet q.outbox && leb q.ping_interval (elapsed_time n q.heard)) (record q { outbox = outbox.with_control q.outbox control.Ping }) q) h
-    by Answers h = ap (λ s. cond (is_connected s && outbox.is_quiet q.outbox && leb q.ping_interval (elapsed_time n q.heard)) (record q { outbox = outbox.with_control q.outbox control.Ping }) q) h
-    by Leaves h = ap (λ s. cond (is_connected s && outbox.is_quiet q.outbox && leb q.ping_interval (elapsed_time n q.heard)) (record q { outbox = outbox.with_control q.outbox control.Ping }) q) h
+    by Asks h = ap (λ s. cond (is_connected s && outbox.has_nothing_reliable q.outbox && leb q.ping_interval (elapsed_time n q.heard)) (record q { outbox = outbox.with_control q.outbox control.Ping }) q) h
+    by Answers h = ap (λ s. cond (is_connected s && outbox.has_nothing_reliable q.outbox && leb q.ping_interval (elapsed_time n q.heard)) (record q { outbox = outbox.with_control q.outbox control.Ping }) q) h
+    by Leaves h = ap (λ s. cond (is_connected s && outbox.has_nothing_reliable q.outbox && leb q.ping_interval (elapsed_time n q.heard)) (record q { outbox = outbox.with_control q.outbox control.Ping }) q) h
 
 -- what is to be shown of channel 0xFF for it
 record Marked (G : ℕ → Transmission → Type 0) (a : Attempt) (now : ℕ) (p : Peering) : Type 0 where

@@ -22,7 +22,7 @@ use Rattle.law_network.specs.Calls.{Call}
 use Rattle.law_network.specs.Calls as call
 use Rattle.law_network.specs.Headline.{HasHeadlineAt, HasHeadlineBetween}
 use Rattle.law_network.specs.Network.{HostEnd, Site, fresh_end, end_of}
-use Rattle.law_network.specs.Steps.{Around, Happening, Calls, Hears, HappensAmong}
+use Rattle.law_network.specs.Steps.{Around, Happening, Calls, Delivers, HappensAmong}
 use Rattle.law_network.proofs.Growing.{Grows, grows, more_of, stays-there}
 use Rattle.law_network.proofs.Lists.{same-or, get-set, get-set_other, get-map, get-within}
 use Rattle.law_network.proofs.Owned.{are-ends, none-held}
@@ -50,11 +50,11 @@ push g hs h = flat_map-append g hs (h ∷ []) ∙ ap (λ (l : List _). flat_map 
 -- what a thing adds is what its call adds
 adds-packets : (what : Happening) (from : Site) (c : Call) → IsCall what from c → (q : PeerRef) (channel : ℕ) → submitted_by q channel what ≡ submitted_by q channel (Calls c)
 adds-packets (Calls d) from c is q channel = ap (λ (x : Call). submitted_by q channel (Calls x)) (sym is)
-adds-packets (Hears k answer) from c is q channel = sym (ap (λ (x : Call). submitted_by q channel (Calls x)) is.2)
+adds-packets (Delivers k answer) from c is q channel = sym (ap (λ (x : Call). submitted_by q channel (Calls x)) is.2)
 
 adds-events : (what : Happening) (from : Site) (c : Call) → IsCall what from c → (q : PeerRef) → taken_by q what ≡ taken_by q (Calls c)
 adds-events (Calls d) from c is q = ap (λ (x : Call). taken_by q (Calls x)) (sym is)
-adds-events (Hears k answer) from c is q = sym (ap (λ (x : Call). taken_by q (Calls x)) is.2)
+adds-events (Delivers k answer) from c is q = sym (ap (λ (x : Call). taken_by q (Calls x)) is.2)
 
 adds-asked : (n : Node) (what : Happening) (from : Site) (c : Call) → IsCall what from c → (l : List ℕ) → asked_after n what l ≡ l ++ map (λ (a : ℕ × PeerRef). a.0) (asks n c)
 adds-asked Server (Calls d) from c is l = sym (append-nil l)
@@ -64,8 +64,8 @@ adds-asked (Client i) (Calls d) from c is l = ap (λ (x : Call). asked_after (Cl
     by (call.Connect address channels info word (Ok name)) = refl
     by (call.Connect address channels info word (Err why)) = sym (append-nil l)
     by c = sym (append-nil l)
-adds-asked Server (Hears k answer) from c is l = sym (append-nil l)
-adds-asked (Client i) (Hears k answer) from c is l = sym (ap (λ (x : Call). l ++ map (λ (a : ℕ × PeerRef). a.0) (asks (Client i) x)) is.2 ∙ append-nil l)
+adds-asked Server (Delivers k answer) from c is l = sym (append-nil l)
+adds-asked (Client i) (Delivers k answer) from c is l = sym (ap (λ (x : Call). l ++ map (λ (a : ℕ × PeerRef). a.0) (asks (Client i) x)) is.2 ∙ append-nil l)
 
 -- an end begins with it
 begins-of : (n : Node) (what : Happening) (from : Site) (c : Call) → IsCall what from c → (j i : ℕ) (name : PeerRef) → slice_get (asks n c) j ≡ Some (i, name)
@@ -79,8 +79,8 @@ begins-of n (Calls d) from c is j i name h = subst (λ (x : Call). (n ≡ Client
     by (Client k) (call.Connect address channels info word (Ok given)) (suc j) h = absurd (let e : ◌≡◌ {A = Option (ℕ × PeerRef)} None (Some (i, name)) = h in cc)
     by Server c j h = absurd (let e : ◌≡◌ {A = Option (ℕ × PeerRef)} None (Some (i, name)) = h in cc)
     by (Client k) c j h = absurd (let e : ◌≡◌ {A = Option (ℕ × PeerRef)} None (Some (i, name)) = h in cc)
-begins-of Server (Hears k answer) from c is j i name h = absurd (let e : ◌≡◌ {A = Option (ℕ × PeerRef)} None (Some (i, name)) = h in cc)
-begins-of (Client m) (Hears k answer) from c is j i name h = absurd (let e : ◌≡◌ {A = Option (ℕ × PeerRef)} None (Some (i, name)) = ap (λ (x : Call). slice_get (asks (Client m) x) j) (sym is.2) ∙ h in cc)
+begins-of Server (Delivers k answer) from c is j i name h = absurd (let e : ◌≡◌ {A = Option (ℕ × PeerRef)} None (Some (i, name)) = h in cc)
+begins-of (Client m) (Delivers k answer) from c is j i name h = absurd (let e : ◌≡◌ {A = Option (ℕ × PeerRef)} None (Some (i, name)) = ap (λ (x : Call). slice_get (asks (Client m) x) j) (sym is.2) ∙ h in cc)
 
 -- hosts
 
@@ -211,7 +211,7 @@ calm-thing w (Calls d) from old new c x is none = by d x (ap (brings_guest w.is_
     by : (d : Call) → HappensAmong w from (Calls d) old new → brings_guest w.is_host d ≡ false → is_guest (Calls d) ≡ false
     by (call.Receive address bytes answer) x none = ap (λ (b : Bool). not b && answer.handled == 1) (sym x.0) ∙ none
     by d x none = refl
-calm-thing w (Hears k answer) from old new c x is none = refl
+calm-thing w (Delivers k answer) from old new c x is none = refl
 
 covered-away : (home : Node → Addr) (total : ℕ) (n m : Node) (ms : List (Node × Call)) (c : Call) (s : Site) → is_node m n ≡ false → (guests home total n ms ≡ false → IsCovered (is_host home total) (submitted_in (calls_at n ms)) (taken_in (calls_at n ms)) s)
     → guests home total n (ms ++ (m, c) ∷ []) ≡ false → IsCovered (is_host home total) (submitted_in (calls_at n (ms ++ (m, c) ∷ []))) (taken_in (calls_at n (ms ++ (m, c) ∷ []))) s

@@ -13,7 +13,7 @@ use Rattle.law_network.specs.Calls as call
 use Rattle.law_network.specs.Headline.{AreEnds}
 use Rattle.law_network.specs.Log.{Logged}
 use Rattle.law_network.specs.Network.{Site, delivery_refusal}
-use Rattle.law_network.specs.Steps.{Around, Happening, Calls, Hears, HappensAmong}
+use Rattle.law_network.specs.Steps.{Around, Happening, Calls, Delivers, HappensAmong}
 use Rattle.law_network.proofs.Lists.{get-set}
 use Rattle.law_network.proofs.Owned.{are-ends}
 use Rattle.law_network.proofs.Submitting.{same-some}
@@ -61,8 +61,8 @@ module _ (at : Node → Addr) (apart : AreApart at) (f : Net) (s : Sound at apar
       → (g : Net) × Makes at n (call.Receive from bytes answer) f g × (q : Place) × (place_of g n ≡ Some q) × (q.site.host ≡ host)
   brings n m p there from bytes answer host acts k =
       let same : call.Receive from bytes answer ≡ call.Receive k.sender.site.address k.datagram.text answer = (λ i. call.Receive (k.address i) (k.text i) answer) in
-      let r = each-call.hears (around at f n) k.sender.site p.site k.k k.datagram answer host k.sent k.in_time (subst (λ (c : Call). Acts c p.site.host host) same acts) in
-      goes at f n m p k.sender (call.Receive from bytes answer) (Hears k.k answer) host r.0 there k.there r.1 r.2
+      let r = each-call.delivers (around at f n) k.sender.site p.site k.k k.datagram answer host k.sent k.in_time (subst (λ (c : Call). Acts c p.site.host host) same acts) in
+      goes at f n m p k.sender (call.Receive from bytes answer) (Delivers k.k answer) host r.0 there k.there r.1 r.2
       (λ q is d sent. (let one : k.sender ≡ q = same-some k.sender q (sym k.there ∙ is) in
       let two : k.datagram ≡ d = same-some k.datagram d (sym k.sent ∙ ap (λ (z : Place). slice_get z.site.log k.k) one ∙ sent) in
       ap (λ (z : Logged). z.to) (sym two) ∙ k.to_it))

@@ -30,11 +30,11 @@ use Rattle.law_network.specs.Network.{is_same_name}
 use Rattle.law_network.specs.Steps.{Calls}
 use Rattle.law_network.proofs.Lists.{same-or}
 use Rattle.enet_service.specs.declared.service.Service.{Service}
-use Rattle.enet_service.specs.Phases.{Ordered, Wired, Offers, CarriesOut, refusal_event, left_over, Orders, HearsAll, EndsSending, at_limit, has_none, fails, SendsAll, TellsAll}
+use Rattle.enet_service.specs.Phases.{Ordered, Wired, Offers, AppliesSubmission, refusal_event, left_over, Orders, ReceivesAll, EndsEmitting, at_limit, has_none, fails, EmitsAll, TellsAll}
 use Rattle.enet_service.specs.Queues.{given, accepted}
-use Rattle.enet_service.specs.LoneTurn.{Kind, beside, lone, either, Obeyed, ObeysAll, Begins, LoneTurn, TurnOf, RoundsOf, gave_in, puts_in}
+use Rattle.enet_service.specs.LoneTurn.{Kind, beside, lone, either, Applied, AppliesAll, Begins, LoneTurn, TurnOf, RoundsOf, gave_in, puts_in}
 use Rattle.enet_service.specs.Run.{all_gave, all_puts}
-use Rattle.enet_service.specs.Turn.{Round, AfterHearing, AfterSending, Turn}
+use Rattle.enet_service.specs.Turn.{Round, AfterReceiving, AfterEmitting, Turn}
 use Rattle.law_headline.specs.Kept.{submitted_by, taken_by}
 use Rattle.law_headline.specs.Page.{is_of}
 use Rattle.law_service.specs.Noting.{Noted, Notes, IsOrder, noting, why_submitted}
@@ -157,21 +157,21 @@ refused-all : (x : Submission) (why : Option Refusal) → filter is_refused (opt
 refused-all x None = refl
 refused-all x (Some w) = refl
 
-carries : (old : Service Noted) (x : Submission) (puts : List (Event × Bool)) (new : Service Noted) → old.waiting ≡ None → CarriesOut noting old x puts new → Ledger old new (Some x ∷ []) puts
+carries : (old : Service Noted) (x : Submission) (puts : List (Event × Bool)) (new : Service Noted) → old.waiting ≡ None → AppliesSubmission noting old x puts new → Ledger old new (Some x ∷ []) puts
 carries old x puts new none h = record {
   calls = c ∷ [];
   made = option_to_list (refusal_event x h.why);
   answered = (x, h.why) ∷ [];
-  calls_are = h.obeyed.2.1;
+  calls_are = h.applied.2.1;
   put = ap (λ (o : Option Event). option_to_list o ++ option_to_list (refusal_event x h.why)) none ∙ sym (offered (refusal_event x h.why) puts new.waiting h.told);
   given_are = refl;
-  packets = λ name channel. ap (λ (l : List Packet). l ++ []) (order-packets x.order h.why c h.obeyed.1 name channel);
-  taken_are = λ name. refused-of x h.why name ∙ sym (ap (λ (l : List Event). l ++ []) (order-taken x.order h.why c h.obeyed.1 name));
+  packets = λ name channel. ap (λ (l : List Packet). l ++ []) (order-packets x.order h.why c h.applied.1 name channel);
+  taken_are = λ name. refused-of x h.why name ∙ sym (ap (λ (l : List Event). l ++ []) (order-taken x.order h.why c h.applied.1 name));
   refusals = refused-all x h.why;
 }
   where
     c : Call
-    c = h.obeyed.0
+    c = h.applied.0
 
 orders-ledger : (left : ℕ) (old : Service Noted) (gave : List (Option Submission)) (after : Ordered Noted) → Orders noting left old gave after → Ledger old after.service gave after.puts
 orders-ledger left old [] after h = subst (λ (p : List (Event × Bool)). Ledger old after.service [] p) (sym h.1) (subst (λ (s : Service Noted). Ledger old s [] []) (sym h.2) (nothing old [] refl))
@@ -183,7 +183,7 @@ orders-ledger left old (Some x ∷ rest) after h =
 
 -- datagrams
 
-hears-ledger : (waiting : Option Event) (left : ℕ) (old : Noted) (came : List Told) (after : Wired Noted) → HearsAll noting left old came after → Ledger (over old waiting) (over after.host waiting) [] []
+hears-ledger : (waiting : Option Event) (left : ℕ) (old : Noted) (came : List Told) (after : Wired Noted) → ReceivesAll noting left old came after → Ledger (over old waiting) (over after.host waiting) [] []
 hears-ledger waiting left old [] after h = subst (λ (k : Noted). Ledger (over old waiting) (over k waiting) [] []) (sym h.1) (nothing (over old waiting) [] refl)
 hears-ledger waiting left old (NothingCame ∷ rest) after h = subst (λ (k : Noted). Ledger (over old waiting) (over k waiting) [] []) (sym h.3) (nothing (over old waiting) [] refl)
 hears-ledger waiting left old (Came from bytes ∷ rest) after h =
@@ -191,10 +191,10 @@ hears-ledger waiting left old (Came from bytes ∷ rest) after h =
     (quiet old h.1 waiting (call.Receive from bytes h.2.0) h.2.1 (λ name channel. refl) (λ name. refl)) (hears-ledger waiting (left - 1) h.1 rest after h.3)
 hears-ledger waiting left old (x ∷ rest) after h = absurd h
 
-gives-ledger : (waiting : Option Event) (old : Noted) (given : Option (Rattle.enet_codec.specs.declared.address.Addr.Addr × List ℕ)) (new : Noted) → Rattle.law_service.specs.Noting.Gives old given new → Ledger (over old waiting) (over new waiting) [] []
+gives-ledger : (waiting : Option Event) (old : Noted) (given : Option (Rattle.enet_codec.specs.declared.address.Addr.Addr × List ℕ)) (new : Noted) → Rattle.law_service.specs.Noting.EmitsDatagram old given new → Ledger (over old waiting) (over new waiting) [] []
 gives-ledger waiting old given new h = quiet old new waiting (call.Service h.0 h.1) h.3 (λ name channel. refl) (λ name. refl)
 
-sends-ledger : (waiting : Option Event) (left : ℕ) (old : Noted) (went : List Told) (after : Wired Noted) → SendsAll noting left old went after → Ledger (over old waiting) (over after.host waiting) [] []
+sends-ledger : (waiting : Option Event) (left : ℕ) (old : Noted) (went : List Told) (after : Wired Noted) → EmitsAll noting left old went after → Ledger (over old waiting) (over after.host waiting) [] []
 sends-ledger waiting left old [] after (at_limit none sound same) = subst (λ (k : Noted). Ledger (over old waiting) (over k waiting) [] []) (sym same) (nothing (over old waiting) [] refl)
 sends-ledger waiting left old [] after (has_none some sound gives) = gives-ledger waiting old None after.host gives
 sends-ledger waiting left old [] after (fails some failed to bytes gives) = gives-ledger waiting old (Some (to, bytes)) after.host gives
@@ -203,7 +203,7 @@ sends-ledger waiting left old (Went to bytes ∷ rest) after h =
 sends-ledger waiting left old (Blocked to bytes ∷ rest) after h = gives-ledger waiting old (Some (to, bytes)) after.host h.1
 sends-ledger waiting left old (x ∷ rest) after h = absurd h
 
-sending-ledger : (waiting : Option Event) (heard : Wired Noted) (went : List Told) (sent : Wired Noted) (b : Bool) → heard.failed ≡ b → AfterHearing noting heard went sent → Ledger (over heard.host waiting) (over sent.host waiting) [] []
+sending-ledger : (waiting : Option Event) (heard : Wired Noted) (went : List Told) (sent : Wired Noted) (b : Bool) → heard.failed ≡ b → AfterReceiving noting heard went sent → Ledger (over heard.host waiting) (over sent.host waiting) [] []
 sending-ledger waiting heard went sent false is h = sends-ledger waiting 256 heard.host went sent (h.sound is)
 sending-ledger waiting heard went sent true is h =
     subst (λ (w : Wired Noted). Ledger (over heard.host waiting) (over w.host waiting) [] []) (sym (h.failed is).1) (nothing (over heard.host waiting) [] refl)
@@ -244,7 +244,7 @@ tells-ledger old (x ∷ rest) new h =
     subst (λ (w : Option Event). Ledger (over old.host w) new [] (x ∷ rest)) (sym h.0)
     (join (over old.host None) (over h.1 (left_over x.0 x.1)) new [] [] (x ∷ []) rest (one-told old.host h.1 x.0 x.1 h.2) (tells-ledger (over h.1 (left_over x.0 x.1)) rest new h.3))
 
-telling-ledger : (sent : Wired Noted) (waiting : Option Event) (puts : List (Event × Bool)) (new : Service Noted) (b : Bool) → sent.failed ≡ b → AfterSending noting sent waiting puts new → Ledger (over sent.host waiting) new [] puts
+telling-ledger : (sent : Wired Noted) (waiting : Option Event) (puts : List (Event × Bool)) (new : Service Noted) (b : Bool) → sent.failed ≡ b → AfterEmitting noting sent waiting puts new → Ledger (over sent.host waiting) new [] puts
 telling-ledger sent waiting puts new false is h = tells-ledger (over sent.host waiting) puts new (h.sound is)
 telling-ledger sent waiting puts new true is h =
     subst (λ (p : List (Event × Bool)). Ledger (over sent.host waiting) new [] p) (sym (h.failed is).0)
@@ -278,20 +278,20 @@ begins-ledger old ms came puts new t =
     join old (over t.ticked old.waiting) new [] [] [] (t.again ++ t.of_events) (quiet old.host t.ticked old.waiting (call.Tick ms) t.tick (λ name channel. refl) (λ name. refl)) b in
     subst (λ (p : List (Event × Bool)). Ledger old new [] p) (sym t.put) all
 
-obeys-ledger : (old : Service Noted) (obeyed : List Obeyed) (new : Service Noted) → ObeysAll noting old obeyed new → Ledger old new (gave_in obeyed) (puts_in obeyed)
+obeys-ledger : (old : Service Noted) (applied : List Applied) (new : Service Noted) → AppliesAll noting old applied new → Ledger old new (gave_in applied) (puts_in applied)
 obeys-ledger old [] new r = subst (λ (s : Service Noted). Ledger old s [] []) (sym r) (nothing old [] refl)
-obeys-ledger old (o ∷ obeyed) new r =
-    join old r.0 new o.gave (gave_in obeyed) o.puts (puts_in obeyed) (orders-ledger 256 old o.gave (record { service = r.0; puts = o.puts }) r.1) (obeys-ledger r.0 obeyed new r.2)
+obeys-ledger old (o ∷ applied) new r =
+    join old r.0 new o.gave (gave_in applied) o.puts (puts_in applied) (orders-ledger 256 old o.gave (record { service = r.0; puts = o.puts }) r.1) (obeys-ledger r.0 applied new r.2)
 
 lone-ledger : (old : Service Noted) (round : Round) (new : Service Noted) → LoneTurn noting old round new → Ledger old new round.gave round.puts
 lone-ledger old round new t =
     let c : Ledger t.ordered new [] [] =
     subst (λ (w : Option Event). Ledger t.ordered (over new.host w) [] []) (sym t.waits) (sends-ledger t.ordered.waiting 256 t.ordered.host t.went (record { host = new.host; failed = false }) t.sends) in
-    let b : Ledger t.begun new (gave_in t.obeyed ++ []) (puts_in t.obeyed ++ []) = join t.begun t.ordered new (gave_in t.obeyed) [] (puts_in t.obeyed) [] (obeys-ledger t.begun t.obeyed t.ordered t.obeys) c in
-    let a : Ledger old new (gave_in t.obeyed ++ []) (t.told_first ++ (puts_in t.obeyed ++ [])) =
-    join old t.begun new [] (gave_in t.obeyed ++ []) t.told_first (puts_in t.obeyed ++ []) (begins-ledger old round.ms t.came t.told_first t.begun t.begins) b in
-    subst (λ (p : List (Event × Bool)). Ledger old new round.gave p) (ap (λ (p : List (Event × Bool)). t.told_first ++ p) (append-nil (puts_in t.obeyed)) ∙ sym t.put)
-    (subst (λ (g : List (Option Submission)). Ledger old new g (t.told_first ++ (puts_in t.obeyed ++ []))) (append-nil (gave_in t.obeyed) ∙ sym t.gave) a)
+    let b : Ledger t.begun new (gave_in t.applied ++ []) (puts_in t.applied ++ []) = join t.begun t.ordered new (gave_in t.applied) [] (puts_in t.applied) [] (obeys-ledger t.begun t.applied t.ordered t.applies) c in
+    let a : Ledger old new (gave_in t.applied ++ []) (t.told_first ++ (puts_in t.applied ++ [])) =
+    join old t.begun new [] (gave_in t.applied ++ []) t.told_first (puts_in t.applied ++ []) (begins-ledger old round.ms t.came t.told_first t.begun t.begins) b in
+    subst (λ (p : List (Event × Bool)). Ledger old new round.gave p) (ap (λ (p : List (Event × Bool)). t.told_first ++ p) (append-nil (puts_in t.applied)) ∙ sym t.put)
+    (subst (λ (g : List (Option Submission)). Ledger old new g (t.told_first ++ (puts_in t.applied ++ []))) (append-nil (gave_in t.applied) ∙ sym t.gave) a)
 
 -- a turn of any kind
 turn-of-ledger : (kind : Kind) (old : Service Noted) (round : Round) (new : Service Noted) → TurnOf kind noting old round new → Ledger old new round.gave round.puts
@@ -305,7 +305,7 @@ rounds-ledger kind old [] new r = subst (λ (s : Service Noted). Ledger old s []
 rounds-ledger kind old (x ∷ rounds) new r = join old r.0 new x.gave (all_gave rounds) x.puts (all_puts rounds) (turn-of-ledger kind old x r.0 r.1) (rounds-ledger kind r.0 rounds new r.2)
 
 -- partings, which submit nothing and tell nothing
-parted : (how : DisconnectMode) (old : Service Noted) (peer : PeerRef) (new : Service Noted) (why : Option Refusal) → noting.obeys old.host (orders.Disconnect peer how 0) why new.host → new.waiting ≡ old.waiting → Ledger old new [] []
+parted : (how : DisconnectMode) (old : Service Noted) (peer : PeerRef) (new : Service Noted) (why : Option Refusal) → noting.applies old.host (orders.Disconnect peer how 0) why new.host → new.waiting ≡ old.waiting → Ledger old new [] []
 parted how old peer new why h same = subst (λ (w : Option Event). Ledger old (over new.host w) [] []) (sym same)
     (quiet old.host new.host old.waiting h.0 h.2 (λ name channel. ap (λ (d : Call). submitted_by name channel (Calls d)) h.1.1) (λ name. ap (λ (d : Call). taken_by name (Calls d)) h.1.1))
 

@@ -14,7 +14,7 @@ use Rattle.law_network.specs.Calls.{Call, Acts}
 use Rattle.law_network.specs.Calls as call
 use Rattle.law_network.specs.Log.{Logged}
 use Rattle.law_network.specs.Network.{Site, delivery_refusal}
-use Rattle.law_network.specs.Steps.{Happening, Calls, Hears}
+use Rattle.law_network.specs.Steps.{Happening, Calls, Delivers}
 use Rattle.enet_site.specs.Places.{Place}
 use Rattle.law_headline.specs.Nets.{Net, place_of, AreApart, is_host, HappensAt, IsAllowed, open_net}
 use Rattle.law_headline.specs.Page.{User, IsHeadline, is_of}
@@ -59,7 +59,7 @@ configs rs = map (λ r. r.config) rs
 -- the call that a thing at a host is; the network brings it a datagram of the host `from`
 abbrev pub IsCall : Happening → Site → Call → Type 0
 IsCall (Calls c) from made = made ≡ c
-IsCall (Hears k answer) from made = (d : Logged) × (slice_get from.log k ≡ Some d) × (made ≡ call.Receive from.address d.text answer)
+IsCall (Delivers k answer) from made = (d : Logged) × (slice_get from.log k ≡ Some d) × (made ≡ call.Receive from.address d.text answer)
 
 -- a call of a host among the others: what comes from a host's address was put out by that host for this one, and is neither late nor of an
 -- earlier connection (`HappensAt`)

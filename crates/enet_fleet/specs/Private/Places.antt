@@ -1,7 +1,7 @@
 -- Whether a host of a fleet is at an address, by the address's numbers.
 use Rattle.std.specs.Prelude.{ℕ, ◌+◌, ◌==◌, ◌&&◌, ◌||◌, nat_le, nat_lt, Bool}
 use Rattle.enet_codec.specs.declared.address.Addr.{Addr}
-use Rattle.enet_slot.specs.Hearing.{is_same_address}
+use Rattle.enet_slot.specs.Receiving.{is_same_address}
 use Rattle.law_headline.specs.declared.node.Node.TheVariants.{Server}
 use Rattle.enet_fleet.specs.Fleets.{address_of}
 

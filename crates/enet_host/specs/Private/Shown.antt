@@ -4,18 +4,18 @@ use Rattle.enet_codec.specs.declared.event.PeerRef.{PeerRef}
 use Rattle.enet_codec.specs.declared.event.Event.{Event}
 use Rattle.enet_codec.specs.declared.packet.Packet.{Packet}
 use Rattle.enet_slot.specs.Slot.{SlotState, name_of}
-use Rattle.enet_slot.specs.Serving.{Gives, Passes}
+use Rattle.enet_slot.specs.Emitting.{PeerEmits, Passes}
 use Rattle.enet_slot.specs.Calls.{tells, peer_packet, GivesEvent}
 use Rattle.enet_host.specs.Serving.{Served}
 
 -- slot i gives a datagram
-pub record SlotGives (now : ℕ) (old : List SlotState) (i : ℕ) (gave : Served) (new : List SlotState) : Type 0 where
+pub record SlotEmits (now : ℕ) (old : List SlotState) (i : ℕ) (gave : Served) (new : List SlotState) : Type 0 where
   pub slot : SlotState
   pub left : SlotState
   pub there : slice_get old i ≡ Some slot
   pub named : gave.name ≡ name_of i slot
   pub addressed : gave.address ≡ slot.address
-  pub gives : Gives now gave.len gave.buf slot left
+  pub gives : PeerEmits now gave.len gave.buf slot left
   pub after : new ≡ slice_set old i left
 
 -- slot i is asked in vain

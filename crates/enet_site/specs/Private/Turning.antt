@@ -11,11 +11,11 @@ use Rattle.enet_site.specs.declared.put_out.Turned.TheVariants.{Sent, Away}
 use Rattle.enet_site.specs.Private.Sites.{Recorded}
 
 -- it has none
-abbrev pub Rests : Host → Host → Type 0
-Rests old new = (buf : List ℕ) × Serves old None buf new
+abbrev pub EmitsNothing : Host → Host → Type 0
+EmitsNothing old new = (buf : List ℕ) × Serves old None buf new
 
 -- it gives one of a peer
-pub record Gives (old : Host) (given : Given) (new : Host) : Type 0 where
+pub record EmitsOne (old : Host) (given : Given) (new : Host) : Type 0 where
   pub len : ℕ
   pub buf : List ℕ
   pub serves : Serves old (Some (given.name, given.to, len)) buf new
@@ -24,7 +24,7 @@ pub record Gives (old : Host) (given : Given) (new : Host) : Type 0 where
 -- the datagram is a host's, and is logged last; `far` has the greatest numbers that the other end of a connection sent
 pub record Puts (hosts : Addr → Bool) (far : ℕ → List ℕ) (old new : Recorded) : Type 0 where
   pub given : Given
-  pub gives : Gives old.host given new.host
+  pub gives : EmitsOne old.host given new.host
   pub host : hosts given.to ≡ true
   pub logged : Logged
   pub notes : Notes far given old.records.ends new.records.ends logged
@@ -32,7 +32,7 @@ pub record Puts (hosts : Addr → Bool) (far : ℕ → List ℕ) (old new : Reco
 
 -- what it was: a host's datagram got the next number, and of a stranger's nothing is kept
 abbrev pub Turns : (Addr → Bool) → (ℕ → List ℕ) → Option Turned → Recorded → Recorded → Type 0
-Turns hosts far None old new = Rests old.host new.host × (new.records ≡ old.records)
+Turns hosts far None old new = EmitsNothing old.host new.host × (new.records ≡ old.records)
 Turns hosts far (Some (Sent n)) old new = (n ≡ length old.records.log) × Puts hosts far old new
 Turns hosts far (Some (Away to text)) old new =
-    (name : PeerRef) × Gives old.host (record { name = name; to = to; text = text }) new.host × (hosts to ≡ false) × (new.records ≡ old.records)
+    (name : PeerRef) × EmitsOne old.host (record { name = name; to = to; text = text }) new.host × (hosts to ≡ false) × (new.records ≡ old.records)

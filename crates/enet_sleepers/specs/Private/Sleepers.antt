@@ -4,7 +4,7 @@ use Rattle.enet_deadlines.specs.Sets.{IsIn}
 use Rattle.enet_slot.specs.Slot.{SlotState}
 use Rattle.enet_codec.specs.declared.address.Addr.{Addr}
 use Rattle.enet_slot.specs.Giving.{unused_slot, is_available}
-use Rattle.enet_slot.specs.Hearing.{is_connection}
+use Rattle.enet_slot.specs.Receiving.{is_connection}
 
 -- all slots are awake
 abbrev pub AllIn : List Bool → Type 0

@@ -7,6 +7,6 @@ use Rattle.enet_host.proofs.calls.disconnect.Goals as goal
 
 pub returns-clause-does : goal.returns-clause-does
 returns-clause-does c =
-    does-named c.args.slots.now.items c.args.name _ c.in-Some.place c.index_mut.result.now c.leave.new.self c.leave.result c.in-Some.ensures.place.0
+    does-named c.args.slots.now.items c.args.name _ c.in-Some.place c.index_mut.result.now c.disconnect.new.self c.disconnect.result c.in-Some.ensures.place.0
     (subst (λ (xs : List Slot). c.in-Some.place < length xs) c.deref.ensures.value c.in-Some.ensures.place.1) c.index_mut.ensures.value
-    (subst (λ (xs : List Slot). IsTrue (is_some (slot_named (all_shown xs) c.args.name))) c.deref.ensures.value c.in-Some.ensures.found) c.leave.ensures
+    (subst (λ (xs : List Slot). IsTrue (is_some (slot_named (all_shown xs) c.args.name))) c.deref.ensures.value c.in-Some.ensures.found) c.disconnect.ensures

@@ -3,7 +3,7 @@ use Rattle.enet_codec.specs.declared.event.Received.{Received}
 use Rattle.enet_host.specs.Receiving.{Arrives, unreadable, no_offer, offered, turned_away}
 use Rattle.enet_slot.specs.Giving.{basis_of}
 use Rattle.enet_slot.specs.Slotted.{all_shown}
-use Rattle.enet_host.proofs.Hearing.{refused-in, heard-at}
+use Rattle.enet_host.proofs.Receptions.{refused-in, heard-at}
 use Rattle.enet_sleepers.specs.Sleeping.{KeepsSleepers}
 use Rattle.enet_host.proofs.Sleeping.{keeps-woken-at}
 use Rattle.enet_host.proofs.receiving.receive.Goals as goal
@@ -31,13 +31,13 @@ returns-in-Some-refused_by-clause-arrives c =
 
 pub returns-clause-arrives : goal.returns-clause-arrives
 returns-clause-arrives c =
-    heard-at (basis_of c.args.start.now) c.args.slots.now.items c.args.from c.args.bytes.now c.in-Ok.found.0 c.in-Ok.found.1.now c.from-2.result c.index_mut-slot.result.now c.hear.new.self
-    c.hear.result c.in-Ok.ensures.read c.if-header-eq-NO_PEER.false
+    heard-at (basis_of c.args.start.now) c.args.slots.now.items c.args.from c.args.bytes.now c.in-Ok.found.0 c.in-Ok.found.1.now c.from-2.result c.index_mut-slot.result.now c.receive.new.self
+    c.receive.result c.in-Ok.ensures.read c.if-header-eq-NO_PEER.false
     (refused-in c.args.slots.now.items c.deref.result.now c.args.from c.in-Ok.found.0 _ _ c.refused_by.ensures.stop c.deref.ensures.value c.in_default.is) c.from-2.ensures
-    (let within = c.in_default.ensures.within in let len = c.deref.ensures.len in let e = c.from-2.ensures in grind (arith, within, len, e)) c.index_mut-slot.ensures.value c.hear.ensures.hears
+    (let within = c.in_default.ensures.within in let len = c.deref.ensures.len in let e = c.from-2.ensures in grind (arith, within, len, e)) c.index_mut-slot.ensures.value c.receive.ensures.receives
 
 pub returns-clause-sleepers : goal.returns-clause-sleepers
 returns-clause-sleepers c =
     let same : c.from.result ≡ c.from-2.result = c.from.ensures ∙ sym c.from-2.ensures in
-    subst (λ (i : ℕ). KeepsSleepers c.args.start.now.clock c.wake.new.self (all_shown (slice_set c.args.slots.now.items i c.hear.new.self))) same
-    (keeps-woken-at c.args.start.now.clock c.from.result c.args.sleepers.now c.wake.new.self c.args.slots.now.items c.hear.new.self c.requires.sleepers c.wake.ensures.kept c.wake.ensures.awake)
+    subst (λ (i : ℕ). KeepsSleepers c.args.start.now.clock c.wake.new.self (all_shown (slice_set c.args.slots.now.items i c.receive.new.self))) same
+    (keeps-woken-at c.args.start.now.clock c.from.result c.args.sleepers.now c.wake.new.self c.args.slots.now.items c.receive.new.self c.requires.sleepers c.wake.ensures.kept c.wake.ensures.awake)

@@ -7,90 +7,90 @@ use Rattle.enet_sender.specs.declared.outgoing.Due.TheVariants as due
 use Rattle.enet_outbox.proofs.ChannelTurns.{called, some-sender, turn-begin, turn-put, turn-drop, turn-full, turn-none, turn-falls, skip-falls, turn-length, called-room, called-adds}
 use Rattle.enet_outbox.proofs.packing.pack_channel.Goals as goal
 
-pub turns-init : goal.turns-init
-turns-init c = λ s there. turn-begin s there
+pub commands-init : goal.commands-init
+commands-init c = λ s there. turn-begin s there
 
 pub next_due-requires : goal.next_due-requires
 next_due-requires c =
     let first = some-sender c.args.senders.now c.args.channel c.requires in
-    let same = turn-length (c.turns.invariant first.0 first.1) in
+    let same = turn-length (c.commands.invariant first.0 first.1) in
     omega (arith, c.requires)
 
-pub turns-preserved : goal.turns-preserved
-turns-preserved c = λ s there.
-    let did = called c.args.pace c.args.channel c.turns.flow c.turns.progress c.turns.senders c.next_due.new.self c.turns.buf c.next_due.new.buf (due.Sent c.in-Sent.past c.in-Sent.added c.in-Sent.kind)
+pub commands-preserved : goal.commands-preserved
+commands-preserved c = λ s there.
+    let did = called c.args.pace c.args.channel c.commands.flow c.commands.progress c.commands.senders c.next_due.new.self c.commands.buf c.next_due.new.buf (due.Sent c.in-Sent.past c.in-Sent.added c.in-Sent.kind)
     c.transit_limit-most.result c.place-place.result c.transit_limit-most.ensures c.place-place.ensures c.in-Sent.ensures in
-    rw (c.refuses.ensures.asked, c.with-progress.ensures) (turn-put c.in-Sent.added c.in-Sent.kind (c.turns.invariant s there) did (sym c.refuses.ensures.answer ∙ c.if-refuses.false))
+    rw (c.refuses.ensures.asked, c.with-progress.ensures) (turn-put c.in-Sent.added c.in-Sent.kind (c.commands.invariant s there) did (sym c.refuses.ensures.answer ∙ c.if-refuses.false))
 
-pub turns-preserved-then-refuses : goal.turns-preserved-then-refuses
-turns-preserved-then-refuses c = λ s there.
-    let did = called c.args.pace c.args.channel c.turns.flow c.turns.progress c.turns.senders c.next_due.new.self c.turns.buf c.next_due.new.buf (due.Sent c.in-Sent.past c.in-Sent.added c.in-Sent.kind)
+pub commands-preserved-then-refuses : goal.commands-preserved-then-refuses
+commands-preserved-then-refuses c = λ s there.
+    let did = called c.args.pace c.args.channel c.commands.flow c.commands.progress c.commands.senders c.next_due.new.self c.commands.buf c.next_due.new.buf (due.Sent c.in-Sent.past c.in-Sent.added c.in-Sent.kind)
     c.transit_limit-most.result c.place-place.result c.transit_limit-most.ensures c.place-place.ensures c.in-Sent.ensures in
-    rw c.refuses.ensures.asked (turn-drop c.in-Sent.past c.in-Sent.added c.in-Sent.kind (c.turns.invariant s there) did (sym c.refuses.ensures.answer ∙ c.if-refuses.true) c.skip.ensures)
+    rw c.refuses.ensures.asked (turn-drop c.in-Sent.past c.in-Sent.added c.in-Sent.kind (c.commands.invariant s there) did (sym c.refuses.ensures.answer ∙ c.if-refuses.true) c.skip.ensures)
 
-pub turns-smaller : goal.turns-smaller
-turns-smaller c =
+pub commands-smaller : goal.commands-smaller
+commands-smaller c =
     let first = some-sender c.args.senders.now c.args.channel c.requires in
-    let a = c.turns.invariant first.0 first.1 in
-    turn-falls c.args.pace c.args.channel c.turns.flow c.turns.progress c.turns.senders c.next_due.new.self c.turns.buf c.next_due.new.buf c.in-Sent.past c.in-Sent.added c.in-Sent.kind a.s a.there
-    (called c.args.pace c.args.channel c.turns.flow c.turns.progress c.turns.senders c.next_due.new.self c.turns.buf c.next_due.new.buf (due.Sent c.in-Sent.past c.in-Sent.added c.in-Sent.kind)
+    let a = c.commands.invariant first.0 first.1 in
+    turn-falls c.args.pace c.args.channel c.commands.flow c.commands.progress c.commands.senders c.next_due.new.self c.commands.buf c.next_due.new.buf c.in-Sent.past c.in-Sent.added c.in-Sent.kind a.s a.there
+    (called c.args.pace c.args.channel c.commands.flow c.commands.progress c.commands.senders c.next_due.new.self c.commands.buf c.next_due.new.buf (due.Sent c.in-Sent.past c.in-Sent.added c.in-Sent.kind)
     c.transit_limit-most.result c.place-place.result c.transit_limit-most.ensures c.place-place.ensures c.in-Sent.ensures)
 
 pub skip-requires : goal.skip-requires
 skip-requires c =
     let first = some-sender c.args.senders.now c.args.channel c.requires in
-    let a = c.turns.invariant first.0 first.1 in
+    let a = c.commands.invariant first.0 first.1 in
     let same = turn-length a in
     let r = c.in-Sent.ensures a.s a.there in
-    let len : length c.next_due.new.self ≡ length c.turns.senders = ap (λ (xs : List SendingEnd). length xs) r.1.0 ∙ length-set c.turns.senders c.args.channel r.0 in
+    let len : length c.next_due.new.self ≡ length c.commands.senders = ap (λ (xs : List SendingEnd). length xs) r.1.0 ∙ length-set c.commands.senders c.args.channel r.0 in
     omega (arith, c.requires)
 
-pub turns-smaller-then-refuses : goal.turns-smaller-then-refuses
-turns-smaller-then-refuses c =
+pub commands-smaller-then-refuses : goal.commands-smaller-then-refuses
+commands-smaller-then-refuses c =
     let first = some-sender c.args.senders.now c.args.channel c.requires in
-    let a = c.turns.invariant first.0 first.1 in
-    let did = called c.args.pace c.args.channel c.turns.flow c.turns.progress c.turns.senders c.next_due.new.self c.turns.buf c.next_due.new.buf (due.Sent c.in-Sent.past c.in-Sent.added c.in-Sent.kind)
+    let a = c.commands.invariant first.0 first.1 in
+    let did = called c.args.pace c.args.channel c.commands.flow c.commands.progress c.commands.senders c.next_due.new.self c.commands.buf c.next_due.new.buf (due.Sent c.in-Sent.past c.in-Sent.added c.in-Sent.kind)
     c.transit_limit-most.result c.place-place.result c.transit_limit-most.ensures c.place-place.ensures c.in-Sent.ensures in
-    let falls = turn-falls c.args.pace c.args.channel c.turns.flow c.turns.progress c.turns.senders c.next_due.new.self c.turns.buf c.next_due.new.buf c.in-Sent.past c.in-Sent.added c.in-Sent.kind a.s a.there did in
+    let falls = turn-falls c.args.pace c.args.channel c.commands.flow c.commands.progress c.commands.senders c.next_due.new.self c.commands.buf c.next_due.new.buf c.in-Sent.past c.in-Sent.added c.in-Sent.kind a.s a.there did in
     let r = did a.s a.there in
-    let there : slice_get c.next_due.new.self c.args.channel ≡ Some r.0 = ap (λ (xs : List SendingEnd). slice_get xs c.args.channel) r.1.0 ∙ get-set c.turns.senders c.args.channel a.s r.0 a.there in
+    let there : slice_get c.next_due.new.self c.args.channel ≡ Some r.0 = ap (λ (xs : List SendingEnd). slice_get xs c.args.channel) r.1.0 ∙ get-set c.commands.senders c.args.channel a.s r.0 a.there in
     let skip = skip-falls c.args.channel c.next_due.new.self c.skip.new.self r.0 there c.skip.ensures in
     omega arith
 
 pub overflow_add-flow : goal.overflow_add-flow
 overflow_add-flow c =
     let first = some-sender c.args.senders.now c.args.channel c.requires in
-    let a = c.turns.invariant first.0 first.1 in
-    let low : c.turns.flow.transit < 4294967296 = omega arith in
+    let a = c.commands.invariant first.0 first.1 in
+    let low : c.commands.flow.transit < 4294967296 = omega arith in
     let most : c.transit_limit-most.result < 4294967296 = omega arith in
-    let fits = called-adds c.args.pace c.args.channel c.turns.flow c.transit_limit-most.result c.place-place.result c.turns.senders c.next_due.new.self c.turns.buf c.next_due.new.buf c.in-Sent.past c.in-Sent.added c.in-Sent.kind a.s a.there
+    let fits = called-adds c.args.pace c.args.channel c.commands.flow c.transit_limit-most.result c.place-place.result c.commands.senders c.next_due.new.self c.commands.buf c.next_due.new.buf c.in-Sent.past c.in-Sent.added c.in-Sent.kind a.s a.there
     c.in-Sent.ensures 4294967296 low most in
     omega arith
 
 pub with-progress-requires-clause-within : goal.with-progress-requires-clause-within
 with-progress-requires-clause-within c =
     let first = some-sender c.args.senders.now c.args.channel c.requires in
-    let a = c.turns.invariant first.0 first.1 in
-    (called-room c.args.pace c.args.channel c.turns.flow c.turns.progress c.turns.senders c.next_due.new.self c.turns.buf c.next_due.new.buf c.in-Sent.past c.in-Sent.added c.in-Sent.kind a.s a.there
-    (called c.args.pace c.args.channel c.turns.flow c.turns.progress c.turns.senders c.next_due.new.self c.turns.buf c.next_due.new.buf (due.Sent c.in-Sent.past c.in-Sent.added c.in-Sent.kind)
+    let a = c.commands.invariant first.0 first.1 in
+    (called-room c.args.pace c.args.channel c.commands.flow c.commands.progress c.commands.senders c.next_due.new.self c.commands.buf c.next_due.new.buf c.in-Sent.past c.in-Sent.added c.in-Sent.kind a.s a.there
+    (called c.args.pace c.args.channel c.commands.flow c.commands.progress c.commands.senders c.next_due.new.self c.commands.buf c.next_due.new.buf (due.Sent c.in-Sent.past c.in-Sent.added c.in-Sent.kind)
     c.transit_limit-most.result c.place-place.result c.transit_limit-most.ensures c.place-place.ensures c.in-Sent.ensures)).1
 
 pub with-progress-requires-clause-more : goal.with-progress-requires-clause-more
 with-progress-requires-clause-more c =
     let first = some-sender c.args.senders.now c.args.channel c.requires in
-    let a = c.turns.invariant first.0 first.1 in
-    (called-room c.args.pace c.args.channel c.turns.flow c.turns.progress c.turns.senders c.next_due.new.self c.turns.buf c.next_due.new.buf c.in-Sent.past c.in-Sent.added c.in-Sent.kind a.s a.there
-    (called c.args.pace c.args.channel c.turns.flow c.turns.progress c.turns.senders c.next_due.new.self c.turns.buf c.next_due.new.buf (due.Sent c.in-Sent.past c.in-Sent.added c.in-Sent.kind)
+    let a = c.commands.invariant first.0 first.1 in
+    (called-room c.args.pace c.args.channel c.commands.flow c.commands.progress c.commands.senders c.next_due.new.self c.commands.buf c.next_due.new.buf c.in-Sent.past c.in-Sent.added c.in-Sent.kind a.s a.there
+    (called c.args.pace c.args.channel c.commands.flow c.commands.progress c.commands.senders c.next_due.new.self c.commands.buf c.next_due.new.buf (due.Sent c.in-Sent.past c.in-Sent.added c.in-Sent.kind)
     c.transit_limit-most.result c.place-place.result c.transit_limit-most.ensures c.place-place.ensures c.in-Sent.ensures)).0
 
 pub returns-in-NoRoom : goal.returns-in-NoRoom
 returns-in-NoRoom c = λ s there.
-    rw c.shut.ensures (turn-full (c.turns.invariant s there)
-    (called c.args.pace c.args.channel c.turns.flow c.turns.progress c.turns.senders c.next_due.new.self c.turns.buf c.next_due.new.buf due.NoRoom
+    rw c.shut.ensures (turn-full (c.commands.invariant s there)
+    (called c.args.pace c.args.channel c.commands.flow c.commands.progress c.commands.senders c.next_due.new.self c.commands.buf c.next_due.new.buf due.NoRoom
     c.transit_limit-most.result c.place-place.result c.transit_limit-most.ensures c.place-place.ensures c.in-NoRoom.ensures))
 
 pub returns-in-Nothing : goal.returns-in-Nothing
 returns-in-Nothing c = λ s there.
-    turn-none (c.turns.invariant s there)
-    (called c.args.pace c.args.channel c.turns.flow c.turns.progress c.turns.senders c.next_due.new.self c.turns.buf c.next_due.new.buf due.Nothing
+    turn-none (c.commands.invariant s there)
+    (called c.args.pace c.args.channel c.commands.flow c.commands.progress c.commands.senders c.next_due.new.self c.commands.buf c.next_due.new.buf due.Nothing
     c.transit_limit-most.result c.place-place.result c.transit_limit-most.ensures c.place-place.ensures c.in-Nothing.ensures)

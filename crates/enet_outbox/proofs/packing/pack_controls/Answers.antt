@@ -13,38 +13,38 @@ pub returns-then-from-clause-packs : goal.returns-then-from-clause-packs
 returns-then-from-clause-packs c = λ f h e.
     leads-by (repeated-closed (control_turns f.outbox) (with_one_control c.args.pace) f (h.is_closed ∙ c.if-from.true)) h (ap (λ (c : Commands). record f.outbox { control = c }) e)
 
-pub turns-init : goal.turns-init
-turns-init c = record { stage = λ f h e. control-begin h (h.is_closed ∙ c.if-from.false) e; room = omega arith }
+pub commands-init : goal.commands-init
+commands-init c = record { stage = λ f h e. control-begin h (h.is_closed ∙ c.if-from.false) e; room = omega arith }
 
-pub turns-smaller : goal.turns-smaller
-turns-smaller c =
-    let s = did-sent (next c.args.pace.now c.args.pace.timeout c.turns.control.commands) c.in-Sent.past c.turns.control.commands c.next_due.new.self.commands c.turns.buf c.place-place.result c.next_due.new.buf c.in-Sent.ensures.written in
-    let P : Commands → Type 0 = λ new. control_left new < control_left c.turns.control.commands in
-    subst P (sym s.3) (control-falls c.args.pace.now c.args.pace.timeout c.turns.control.commands s.0 s.1)
+pub commands-smaller : goal.commands-smaller
+commands-smaller c =
+    let s = did-sent (next c.args.pace.now c.args.pace.timeout c.commands.control.commands) c.in-Sent.past c.commands.control.commands c.next_due.new.self.commands c.commands.buf c.place-place.result c.next_due.new.buf c.in-Sent.ensures.written in
+    let P : Commands → Type 0 = λ new. control_left new < control_left c.commands.control.commands in
+    subst P (sym s.3) (control-falls c.args.pace.now c.args.pace.timeout c.commands.control.commands s.0 s.1)
 
-pub turns-preserved : goal.turns-preserved
-turns-preserved c =
-    let P : ℕ → Type 0 = λ at. Did (next c.args.pace.now c.args.pace.timeout c.turns.control.commands) (written.Sent c.in-Sent.past) c.turns.control.commands c.next_due.new.self.commands (record { old = c.turns.buf; at = at; new = c.next_due.new.buf }) in
-    let d : P (place_in c.turns.progress c.turns.buf) = subst P c.place-place.ensures c.in-Sent.ensures.written in
+pub commands-preserved : goal.commands-preserved
+commands-preserved c =
+    let P : ℕ → Type 0 = λ at. Did (next c.args.pace.now c.args.pace.timeout c.commands.control.commands) (written.Sent c.in-Sent.past) c.commands.control.commands c.next_due.new.self.commands (record { old = c.commands.buf; at = at; new = c.next_due.new.buf }) in
+    let d : P (place_in c.commands.progress c.commands.buf) = subst P c.place-place.ensures c.in-Sent.ensures.written in
     record {
-      stage = λ f h e. rw c.with-progress.ensures (control-put (c.turns.invariant.stage f h e) d);
+      stage = λ f h e. rw c.with-progress.ensures (control-put (c.commands.invariant.stage f h e) d);
       room = omega arith;
     }
 
 pub with-progress-requires-clause-within : goal.with-progress-requires-clause-within
 with-progress-requires-clause-within c =
-    let P : ℕ → Type 0 = λ at. Did (next c.args.pace.now c.args.pace.timeout c.turns.control.commands) (written.Sent c.in-Sent.past) c.turns.control.commands c.next_due.new.self.commands (record { old = c.turns.buf; at = at; new = c.next_due.new.buf }) in
-    let d : P (place_in c.turns.progress c.turns.buf) = subst P c.place-place.ensures c.in-Sent.ensures.written in
-    (control-room c.turns.progress c.turns.control.commands c.next_due.new.self.commands c.turns.buf c.next_due.new.buf c.in-Sent.past (next c.args.pace.now c.args.pace.timeout c.turns.control.commands) d).1
+    let P : ℕ → Type 0 = λ at. Did (next c.args.pace.now c.args.pace.timeout c.commands.control.commands) (written.Sent c.in-Sent.past) c.commands.control.commands c.next_due.new.self.commands (record { old = c.commands.buf; at = at; new = c.next_due.new.buf }) in
+    let d : P (place_in c.commands.progress c.commands.buf) = subst P c.place-place.ensures c.in-Sent.ensures.written in
+    (control-room c.commands.progress c.commands.control.commands c.next_due.new.self.commands c.commands.buf c.next_due.new.buf c.in-Sent.past (next c.args.pace.now c.args.pace.timeout c.commands.control.commands) d).1
 
 pub returns-in-NoRoom-clause-packs : goal.returns-in-NoRoom-clause-packs
 returns-in-NoRoom-clause-packs c = λ f h e.
-    let P : ℕ → Type 0 = λ at. Did (next c.args.pace.now c.args.pace.timeout c.turns.control.commands) written.NoRoom c.turns.control.commands c.next_due.new.self.commands (record { old = c.turns.buf; at = at; new = c.next_due.new.buf }) in
-    let d : P (place_in c.turns.progress c.turns.buf) = subst P c.place-place.ensures c.in-NoRoom.ensures.written in
-    rw c.shut.ensures (control-full (c.turns.invariant.stage f h e) d)
+    let P : ℕ → Type 0 = λ at. Did (next c.args.pace.now c.args.pace.timeout c.commands.control.commands) written.NoRoom c.commands.control.commands c.next_due.new.self.commands (record { old = c.commands.buf; at = at; new = c.next_due.new.buf }) in
+    let d : P (place_in c.commands.progress c.commands.buf) = subst P c.place-place.ensures c.in-NoRoom.ensures.written in
+    rw c.shut.ensures (control-full (c.commands.invariant.stage f h e) d)
 
 pub returns-in-Nothing-clause-packs : goal.returns-in-Nothing-clause-packs
 returns-in-Nothing-clause-packs c = λ f h e.
-    let P : ℕ → Type 0 = λ at. Did (next c.args.pace.now c.args.pace.timeout c.turns.control.commands) written.Nothing c.turns.control.commands c.next_due.new.self.commands (record { old = c.turns.buf; at = at; new = c.next_due.new.buf }) in
-    let d : P (place_in c.turns.progress c.turns.buf) = subst P c.place-place.ensures c.in-Nothing.ensures.written in
-    control-none (c.turns.invariant.stage f h e) d
+    let P : ℕ → Type 0 = λ at. Did (next c.args.pace.now c.args.pace.timeout c.commands.control.commands) written.Nothing c.commands.control.commands c.next_due.new.self.commands (record { old = c.commands.buf; at = at; new = c.next_due.new.buf }) in
+    let d : P (place_in c.commands.progress c.commands.buf) = subst P c.place-place.ensures c.in-Nothing.ensures.written in
+    control-none (c.commands.invariant.stage f h e) d

@@ -1,5 +1,5 @@
 use Rattle.std.proofs.Common.{◌∙◌}
-use Rattle.enet_slot.specs.Hearing.{is_connection}
+use Rattle.enet_slot.specs.Receiving.{is_connection}
 use Rattle.enet_slot.proofs.Shown.{any-shown}
 use Rattle.enet_slot.proofs.all.any_is_connection.Goals as goal
 

@@ -11,23 +11,23 @@ use Rattle.enet_host.proofs.host.HostCore.service.Goals as goal
 pub invariant_of-self : goal.invariant_of-self
 invariant_of-self c =
     keeps-after c.self.inside.start.config.peers c.self.inside.start.clock c.self.inside.start.clock c.self.inside.start.config.generations c.self.inside.start.config.max_packet c.self.inside.start.config.max_waiting c.self.inside.service_from c.self.inside.event_from c.self.inside.service_from c.self.inside.event_from c.self.inside.sleepers c.self.inside.sleepers
-    c.self.inside.slots.items c.serve.new.slots.items c.self.invariant
-    c.serve.ensures.count c.self.invariant.service c.self.invariant.event
-    (passed-held _ (all_shown c.self.inside.slots.items) (all_shown c.serve.new.slots.items) c.self.invariant.held c.in_default.ensures.passes, c.serve.ensures.sleepers)
-    (passed-limited _ _ _ (all_shown c.self.inside.slots.items) (all_shown c.serve.new.slots.items) c.self.invariant.limited c.in_default.ensures.passes)
+    c.self.inside.slots.items c.emit.new.slots.items c.self.invariant
+    c.emit.ensures.count c.self.invariant.service c.self.invariant.event
+    (passed-held _ (all_shown c.self.inside.slots.items) (all_shown c.emit.new.slots.items) c.self.invariant.held c.in_default.ensures.passes, c.emit.ensures.sleepers)
+    (passed-limited _ _ _ (all_shown c.self.inside.slots.items) (all_shown c.emit.new.slots.items) c.self.invariant.limited c.in_default.ensures.passes)
 
 pub invariant_of-self-2 : goal.invariant_of-self-2
 invariant_of-self-2 c =
     keeps-after c.self.inside.start.config.peers c.self.inside.start.clock c.self.inside.start.clock c.self.inside.start.config.generations c.self.inside.start.config.max_packet c.self.inside.start.config.max_waiting c.self.inside.service_from c.self.inside.event_from c.slot_after-self-inside.result c.self.inside.event_from c.self.inside.sleepers c.self.inside.sleepers
-    c.self.inside.slots.items c.serve.new.slots.items c.self.invariant
-    c.serve.ensures.count c.slot_after-self-inside.ensures.within c.self.invariant.event
-    (served-held _ _ (all_shown c.self.inside.slots.items) (all_shown c.serve.new.slots.items) _ c.self.invariant.held c.in-Some.ensures.gives, c.serve.ensures.sleepers)
-    (served-limited _ _ _ _ (all_shown c.self.inside.slots.items) (all_shown c.serve.new.slots.items) _ c.self.invariant.limited c.in-Some.ensures.gives)
+    c.self.inside.slots.items c.emit.new.slots.items c.self.invariant
+    c.emit.ensures.count c.slot_after-self-inside.ensures.within c.self.invariant.event
+    (served-held _ _ (all_shown c.self.inside.slots.items) (all_shown c.emit.new.slots.items) _ c.self.invariant.held c.in-Some.ensures.gives, c.emit.ensures.sleepers)
+    (served-limited _ _ _ _ (all_shown c.self.inside.slots.items) (all_shown c.emit.new.slots.items) _ c.self.invariant.limited c.in-Some.ensures.gives)
 
 pub returns-clause-serves : goal.returns-clause-serves
 returns-clause-serves c =
     let inside = c.self.inside in
-    serves-at (the_view inside) c.args.self.now (all_shown c.serve.new.slots.items) c.slot_after-self-inside.result c.with_datagram_out-self-inside.result c.in-Some.sent c.serve.new.buf c.self.view_is
+    serves-at (the_view inside) c.args.self.now (all_shown c.emit.new.slots.items) c.slot_after-self-inside.result c.with_datagram_out-self-inside.result c.in-Some.sent c.emit.new.buf c.self.view_is
     c.in-Some.ensures.gives
     (c.slot_after-self-inside.ensures.after ∙ ap (λ (m : ℕ). slot_after m c.in-Some.sent.0.slot) (sym (length-shown inside.slots.items ∙ c.self.invariant.count)))
     c.with_datagram_out-self-inside.ensures

@@ -1,7 +1,7 @@
 use Rattle.std.proofs.Common.{◌≡◌, ◌-◌, ◌<◌, ℕ, false, length, get_or}
 use Rattle.enet_deadlines.specs.Sets.{IsIn}
 use Rattle.enet_slot.specs.Giving.{unused_slot}
-use Rattle.enet_slot.specs.Hearing.{is_connection}
+use Rattle.enet_slot.specs.Receiving.{is_connection}
 use Rattle.enet_slot.specs.Slotted.{all_shown}
 use Rattle.enet_sleepers.proofs.sleepers.Sleepers.awake_knows.Given as goal
 

@@ -1,6 +1,6 @@
 use Rattle.std.proofs.Common.{◌≡◌, ℕ, inl, inr, false, List, get_or, ap, sym, subst, ◌∙◌}
 use Rattle.enet_slot.specs.Giving.{unused_slot}
-use Rattle.enet_slot.specs.Hearing.{is_connection}
+use Rattle.enet_slot.specs.Receiving.{is_connection}
 use Rattle.enet_slot.specs.Slotted.{all_shown}
 use Rattle.enet_sleepers.specs.declared.marks.Mark.{Mark}
 use Rattle.enet_sleepers.specs.declared.marks.Mark.TheVariants as mark

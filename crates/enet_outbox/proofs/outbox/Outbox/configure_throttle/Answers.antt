@@ -1,5 +1,0 @@
-use Rattle.std.proofs.Common.{rules}
-use Rattle.enet_outbox.proofs.outbox.Outbox.configure_throttle.Goals as goal
-
-pub returns-clause-outbox : goal.returns-clause-outbox
-returns-clause-outbox c = search rules

@@ -1,0 +1,30 @@
+use Rattle.std.proofs.Common.{◌≡◌, Bool, List, [], ◌∷◌, ◌++◌, length, sym, ap, subst, ◌∙◌}
+use Rattle.law_network.specs.Log.{Logged}
+use Rattle.law_network.specs.Network.{HostEnd, fresh_end}
+use Rattle.enet_records.specs.Records.{Records, AreKept}
+use Rattle.enet_records.proofs.Fresh.{fresh-kept}
+use Rattle.enet_records.proofs.Keeps.{kept-more}
+use Rattle.enet_site.specs.Sites.{AreShown}
+use Rattle.enet_site.specs.Private.Sites.{begun_if}
+use Rattle.enet_site.proofs.Beginning.{next-other}
+use Rattle.enet_site.proofs.Hears.{brought-by}
+use Rattle.enet_site.proofs.arriving.receive_datagram.Goals as goal
+
+pub invariant_of-own-2 : goal.invariant_of-own-2
+invariant_of-own-2 c =
+    let x = c.datagram.inside.connection in
+    let name = c.in-Some.name in
+    let items : c.push_reserved.new.self.items ≡ c.own.inside.ends.items ++ fresh_end x name ∷ [] = c.push_reserved.ensures.items ∙ (λ k. c.reserve.ensures.items k ++ c.in_ok-end.ensures.fresh k ∷ []) in
+    subst (AreKept c.own.inside.log.items) (sym items)
+    (kept-more c.own.inside.log.items c.own.inside.ends.items (fresh_end x name) c.own.invariant (fresh-kept (length c.own.inside.log.items) x name)
+    (next-other c.args.host.now c.own.inside.ends.items name (subst (λ (r : Records). AreShown c.args.host.now r.ends) (sym c.own.view_is) c.requires.shown) c.in-Some.ensures.next))
+
+pub returns-clause-brings : goal.returns-clause-brings
+returns-clause-brings c =
+    let x = c.datagram.inside.connection in
+    let name = c.in-Some.name in
+    let more : List HostEnd = fresh_end x name ∷ [] in
+    brought-by c.args.from c.args.datagram.now x c.deref-2.result.now c.receive-begins.result.0 c.args.host.now c.receive-begins.new.host c.args.own.now c.own.inside.log.items c.own.inside.ends.items c.push_reserved.new.self.items more
+    (ap (λ (d : Logged). d.connection) c.datagram.view_is) (c.deref-2.ensures.value ∙ ap (λ (d : Logged). d.text) c.datagram.view_is) c.own.view_is c.receive-begins.ensures.receives
+    (c.receive-begins.ensures.begins x ∙ ap (λ (b : Bool). begun_if b x name) c.if-not-begins.false)
+    (c.push_reserved.ensures.items ∙ (λ k. c.reserve.ensures.items k ++ c.in_ok-end.ensures.fresh k ∷ []))

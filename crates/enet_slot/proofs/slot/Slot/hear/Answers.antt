@@ -1,9 +1,0 @@
-use Rattle.std.proofs.Common.{ap}
-use Rattle.enet_slot.specs.Slotted.{Slotted, peer_shown}
-use Rattle.enet_slot.proofs.Changes.{hears-of}
-use Rattle.enet_slot.proofs.slot.Slot.hear.Goals as goal
-
-pub returns-clause-hears : goal.returns-clause-hears
-returns-clause-hears c = λ occupied.
-    hears-of (record { now = c.args.now; sent = c.args.sent }) c.args.commands.now _ c.args.self.now.slot c.let_go.new.self.slot c.in-Some.peer.peer c.obey-answer.new.peer.peer c.obey-answer.result
-    (ap (λ (v : Slotted). v.slot) c.self.view_is) (ap peer_shown c.in-Some.is) c.obey-answer.ensures c.let_go.ensures
