@@ -1,8 +1,8 @@
 //! The demonstration, as it tells of itself.
 
-use crate::command_line::DemoOptions;
 use crate::failure::Failure;
 use enet_codec::Addr;
+use enet_console::DemoOptions;
 use enet_serve::Demonstration;
 use std::net::Net;
 use std::rt::Clock;

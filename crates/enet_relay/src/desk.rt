@@ -1,9 +1,8 @@
 //! What the server does at its operator's word.
 
-use crate::control::{Control, Word};
-use crate::outlet::{Outlet, Stream};
 use bytes::Bytes;
 use enet_codec::{DisconnectMode, PeerRef, Refusal};
+use enet_console::{Control, Outlet, Stream, Word};
 use enet_serve::{ChatServer, Met, Note, WatchedHost};
 use enet_submit::Order;
 use std::alloc::{AllocError, Global};

@@ -2,6 +2,7 @@
 
 use enet_captured::TimelineFault;
 use enet_codec::Refusal;
+use enet_console::Unread;
 use enet_lab::LabFault;
 use enet_serve::Unopened;
 use enet_text::InspectFault;
@@ -55,6 +56,16 @@ impl Failure {
             Failure::Inspect(fault) if fault.is_unreadable() => 2,
             Failure::Timeline(fault) if fault.is_unreadable() => 2,
             _ => 1,
+        }
+    }
+}
+
+impl From<Unread> for Failure {
+    fn from(why: Unread) -> Failure {
+        match why {
+            Unread::Refused => Failure::CommandLine,
+            Unread::Memory => Failure::Memory,
+            Unread::Io => Failure::Io,
         }
     }
 }

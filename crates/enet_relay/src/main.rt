@@ -16,22 +16,18 @@
 //! Neither: that `serve` ends, since threads may wait.
 #![tactic(auto)]
 
-mod admission;
-mod command_line;
-mod control;
 mod demonstrating;
 mod desk;
 mod drawing;
 mod failure;
 mod inspecting;
 mod monitor;
-mod outlet;
 mod serving;
 mod watching;
 
-use command_line::{InspectOptions, Task, read_task};
 use demonstrating::demonstrate;
 use drawing::draw_capture;
+use enet_console::{InspectOptions, Task, read_task};
 use enet_lab::lab;
 use failure::Failure;
 use inspecting::inspect_input;

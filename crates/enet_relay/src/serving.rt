@@ -1,12 +1,12 @@
 //! The server, as it tells of itself.
 
-use crate::command_line::{Length, ServeOptions, ServerThreads};
 use crate::failure::Failure;
 use crate::monitor::Monitor;
 use crate::watching::Operator;
 use enet_codec::Refusal;
+use enet_console::{Admission, Length, ServeOptions, ServerThreads};
 use enet_metrics::{Figures, Pages};
-use enet_serve::{ChatServer, Gauge, RunLength, Settings, Unopened, Watch};
+use enet_serve::{ChatServer, Gauge, Rules, RunLength, Settings, Unopened, Watch};
 use enet_service::Report;
 use std::alloc::Global;
 use std::net::{Ipv4Addr, Net, SocketAddr};
@@ -31,7 +31,7 @@ where
         queue_capacity: options.queue_capacity,
         mtu: options.admission.mtu,
         receive_buffer: options.admission.receive_buffer,
-        rules: options.admission.rules,
+        rules: rules_of(&options.admission),
     };
     // Where no thread can be made, a join does its parts one after the other: nothing would be relayed until the run is over.
     let wants_thread = options.threads == ServerThreads::Two || options.metrics.is_some();
@@ -44,6 +44,15 @@ where
     server.take_leave(rt);
     server.close();
     served
+}
+
+// Whom it lets in.
+fn rules_of(admission: &Admission) -> Rules {
+    Rules {
+        peers_of_address: admission.per_address,
+        connects_of_address: admission.connects_per_address,
+        connects: admission.connects_per_second,
+    }
 }
 
 // Where it listens, and with what. A line that can't be written ends nothing.

@@ -1,10 +1,9 @@
 //! What the server's operator is told while it serves.
 
-use crate::control::Word;
 use crate::desk::Desk;
 use crate::monitor::{Counted, Monitor};
-use crate::outlet::{Outlet, Stream};
 use enet_codec::Refusal;
+use enet_console::{Outlet, Stream, Word};
 use enet_serve::{ChatServer, Gauge, Met, Note, Watch, WatchedHost};
 use enet_service::Report;
 use std::alloc::{AllocError, Global};

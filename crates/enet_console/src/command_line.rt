@@ -1,7 +1,6 @@
 //! What the program can be told.
 
 use crate::admission::{Admission, read_admission, with_admission};
-use crate::failure::Failure;
 use clap::error::ErrorKind;
 use clap::{Arg, ArgAction, ArgMatches, Command, Error, value_parser};
 use enet_codec::Addr;
@@ -22,16 +21,23 @@ pub enum Length {
 /// What `serve` was told.
 #[derive(Drop)]
 pub struct ServeOptions {
+    /// Where it listens.
     pub address: Addr,
+    /// How many clients it has room for, 1 to 4,095.
     pub peers: u16,
+    /// How many channels a client is granted at most, 1 to 255.
     pub channels: u8,
+    /// How many places each queue between its threads has, 1 to 65,536.
     pub queue_capacity: u32,
+    /// How long it serves.
     pub length: Length,
     /// Whether each connection, each end of one and each refused order is told.
     pub logs: bool,
+    /// Which threads serve.
     pub threads: ServerThreads,
     /// Whether standard input is read.
     pub is_controlled: bool,
+    /// How it meets those who come.
     pub admission: Admission,
     /// Where figures are told over HTTP.
     pub metrics: Option<SocketAddrV4>,
@@ -49,7 +55,9 @@ pub enum ServerThreads {
 /// What `demo` was told.
 #[derive(Clone, Copy)]
 pub struct DemoOptions {
+    /// How many clients there are, 1 to 8.
     pub clients: u8,
+    /// How many turns each service takes.
     pub turns: u32,
     /// The port of the server that is there; None where one is to be started.
     pub port: Option<u16>,
@@ -68,38 +76,59 @@ pub struct InspectOptions {
 pub enum Task {
     /// The help was printed, and nothing is left to do.
     Nothing,
+    /// To run a script of the lab.
     Lab,
+    /// To tell what datagrams say.
     Inspect(InspectOptions),
+    /// To relay chat.
     Serve(ServeOptions),
+    /// To show a server with clients.
     Demo(DemoOptions),
 }
 
+/// Why there is nothing to do.
+#[derive(Clone, Copy, Debug)]
+pub enum Unread {
+    /// The command line was refused.
+    Refused,
+    /// There was no memory to read it.
+    Memory,
+    /// The help couldn't be written.
+    Io,
+}
+
+impl From<AllocError> for Unread {
+    fn from(_error: AllocError) -> Unread {
+        Unread::Memory
+    }
+}
+
 /// Reads the command line. `--help` is answered here.
-pub fn read_task<R: Env + Print + Eprint + AllocGlobal>(rt: &R) -> Result<Task, Failure> {
+pub fn read_task<R: Env + Print + Eprint + AllocGlobal>(rt: &R) -> Result<Task, Unread> {
     let words = words_of(rt)?;
     match command(rt.alloc())?.try_get_matches_from(words.as_slice()) {
-        Ok(found) => task_of(rt.alloc(), &found)?.ok_or(Failure::CommandLine),
+        Ok(found) => task_of(rt.alloc(), &found)?.ok_or(Unread::Refused),
         Err(error) => answer(rt, &error),
     }
 }
 
 // The words of the command line. A word that isn't text is refused.
-fn words_of<R: Env + AllocGlobal>(rt: &R) -> Result<Vec<String>, Failure> {
+fn words_of<R: Env + AllocGlobal>(rt: &R) -> Result<Vec<String>, Unread> {
     match env::args(rt) {
         Ok(words) => Ok(words.collect(rt.alloc())?),
-        Err(error) if error.kind() == io::ErrorKind::OutOfMemory => Err(Failure::Memory),
-        Err(_) => Err(Failure::CommandLine),
+        Err(error) if error.kind() == io::ErrorKind::OutOfMemory => Err(Unread::Memory),
+        Err(_) => Err(Unread::Refused),
     }
 }
 
-fn answer<R: Print + Eprint>(rt: &R, error: &Error) -> Result<Task, Failure> {
+fn answer<R: Print + Eprint>(rt: &R, error: &Error) -> Result<Task, Unread> {
     match error.kind() {
         ErrorKind::DisplayHelp => match error.print(rt) {
             Ok(()) => Ok(Task::Nothing),
-            Err(_) => Err(Failure::Io),
+            Err(_) => Err(Unread::Io),
         },
-        ErrorKind::OutOfMemory => Err(Failure::Memory),
-        _ => Err(Failure::CommandLine),
+        ErrorKind::OutOfMemory => Err(Unread::Memory),
+        _ => Err(Unread::Refused),
     }
 }
 

@@ -8,7 +8,9 @@ use std::alloc::AllocError;
 /// Where lines go.
 #[derive(Clone, Copy, PartialEq, Eq)]
 pub enum Stream {
+    /// Standard output.
     Output,
+    /// Standard error.
     Error,
 }
 
@@ -21,6 +23,7 @@ pub struct Outlet {
 }
 
 impl Outlet {
+    /// To this stream, with no line missed yet.
     pub fn new(stream: Stream) -> Outlet {
         Outlet { stream, missed: 0 }
     }

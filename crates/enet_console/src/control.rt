@@ -52,6 +52,7 @@ pub struct Control {
 }
 
 impl Control {
+    /// Of which nothing was read yet.
     pub fn new() -> Control {
         Control {
             chunk: [0; CHUNK],

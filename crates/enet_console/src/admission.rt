@@ -1,7 +1,6 @@
 //! What `serve` can be told of its socket and of whom it lets in.
 
 use clap::{Arg, ArgAction, ArgMatches, Command, value_parser};
-use enet_serve::Rules;
 use std::alloc::{AllocError, Global};
 use std::net::Ipv4Addr;
 
@@ -12,7 +11,12 @@ pub struct Admission {
     pub mtu: u32,
     /// How many bytes the system is asked to keep until they are received.
     pub receive_buffer: Option<u32>,
-    pub rules: Rules,
+    /// How many clients of one address there are at most.
+    pub per_address: Option<u32>,
+    /// How many CONNECTs of one address are let in within a second.
+    pub connects_per_address: Option<u32>,
+    /// The same in all.
+    pub connects_per_second: Option<u32>,
     /// The addresses that are banned.
     pub banned: Vec<u32>,
 }
@@ -84,15 +88,12 @@ pub fn read_admission(
     let Some(banned) = banned(alloc, found)? else {
         return Ok(None);
     };
-    let rules = Rules {
-        peers_of_address: found.get_one::<u32>("per-address"),
-        connects_of_address: found.get_one::<u32>("connects-per-address"),
-        connects: found.get_one::<u32>("connects-per-second"),
-    };
     Ok(Some(Admission {
         mtu,
         receive_buffer: found.get_one::<u32>("receive-buffer"),
-        rules,
+        per_address: found.get_one::<u32>("per-address"),
+        connects_per_address: found.get_one::<u32>("connects-per-address"),
+        connects_per_second: found.get_one::<u32>("connects-per-second"),
         banned,
     }))
 }
