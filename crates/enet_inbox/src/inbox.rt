@@ -197,6 +197,7 @@ impl Inbox {
         ensures few { result < 2 ^ 27 }
     {
         look_at(&self.receivers);
+        let _max_waiting = self.max_waiting;
         places_taken(self.packets, self.untaken.len())
     }
 
@@ -210,6 +211,8 @@ impl Inbox {
         ensures light { result < 2 ^ 42 }
     {
         look_at(&self.receivers);
+        let _max_packet = self.max_packet;
+        let _max_waiting = self.max_waiting;
         self.waiting
     }
 
