@@ -21,6 +21,9 @@
 //!   peers. `due_in` is in how many milliseconds time brings something: a tick of fewer changes the clock alone (`IsDueIn`).
 //! - `slot_counts` counts the slots that are free, with a generation left or without, and of the others how far their connections have
 //!   come (`Counts`).
+//! - `sent_again` counts the commands of all peers that are unacknowledged and were sent more than once.
+//! - `held` counts what the host holds of what others sent (`held_by`). Whatever datagrams come, and whether or not its user takes, that is
+//!   no more than `most_held` of its settings: each peer has their limits (`AreLimited`, by the invariant of `HostCore`).
 //!
 //! Of every host: no slot holds a peer that is free (`HostCore::keeps`). By the invariant of `HostCore` a slot that sleeps has nothing to
 //! put out or to tell, and it is noted when time brings it something (`KeepsSleepers` of `enet_sleepers`). Want of memory, of which no

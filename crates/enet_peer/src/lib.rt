@@ -12,6 +12,7 @@
 //! - `next_event` (`Takes`), `next_body`, `next_packet`; the makers `joined`, `connecting`, `answering`; and what the user sets
 //!   (`bandwidth`, `throttle_configure`, `throttle_limit`, `ping_interval`, `timeout`, `reserve`).
 //! - A peer of which `only_waits` answers true has nothing that goes and nothing to tell (`Waits`).
+//! - `held` tells how much a peer holds of what the other end sent: no more than the limits with which it began allow (specs/Held).
 //!
 //! `bandwidth` and `throttle_configure` ask for room for a command of channel 0xFF, which `reserve` makes; the second also for a connected
 //! peer. What has no answer for want of memory does the same whatever memory is left. S11 comes only where something of a command is kept
