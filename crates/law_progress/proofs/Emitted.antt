@@ -4,7 +4,8 @@ use Rattle.std.specs.List.{slice_get, slice_set}
 use Rattle.enet_codec.specs.Message.{Message}
 use Rattle.enet_fragment.specs.declared.data.DataCommand.{DataCommand}
 use Rattle.enet_fragment.specs.DataCommand.{message_of}
-use Rattle.enet_sender.specs.Sender.{Occasion, Sender, Next, again, begun, with_skipped}
+use Rattle.enet_sender.specs.declared.outgoing.Occasion.{Occasion}
+use Rattle.enet_sender.specs.Sender.{Sender, Next, again, begun, with_skipped}
 use Rattle.enet_sender.specs.declared.sent.Sent.{Sent}
 use Rattle.enet_sender.specs.Due.{SendingEnd}
 use Rattle.enet_outbox.specs.declared.parts.Pace.{Pace}
