@@ -247,7 +247,7 @@ int main(int words, char **word)
     talkers = words > 7 ? (int)number_of(words, word, 7, 1, count) : count;
     talkers = talkers < on_the_way() ? talkers : on_the_way();
     count = count == 1 ? 2 : count;
-    double seconds = (double)number_of(words, word, 6, 1, 60), each_second, each_processor_second;
+    double seconds = (double)number_of(words, word, 6, 1, 600), each_second, each_processor_second;
     for (int i = 0; i < THREADS; i++)
         if ((bells[i] = eventfd(0, EFD_NONBLOCK)) < 0)
             give_up("load: no bell");
