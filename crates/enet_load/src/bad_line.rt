@@ -1,10 +1,8 @@
 //! A bad line: loss, repeats, datagrams out of order, long ways, and much in flight.
 
-use crate::digest::Digest;
-use crate::line::Line;
-use crate::world::{Plan, Rule, World};
 use anyhow::Result;
 use enet_codec::{RELIABLE, UNRELIABLE_FRAGMENT, UNSEQUENCED};
+use enet_testbed::{Digest, Line, Plan, Rule, World};
 use std::alloc::Global;
 
 /// How many clients there are.

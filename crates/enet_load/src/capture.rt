@@ -3,10 +3,9 @@
 ghost use Rattle.std.specs.Prelude.{◌<◌, ◌^◌, length};
 ghost use Rattle.enet_codec.specs.Message.{payload_of, view};
 
-use crate::digest::Digest;
-use crate::draw::Draw;
 use anyhow::{Result, bail};
 use enet_codec::{Command, Fragment, Head, Header, write_command, write_header};
+use enet_testbed::{Digest, Draw};
 use enet_text::inspect;
 use std::alloc::Global;
 

@@ -1,14 +1,11 @@
 //! A server's whole turns: its service and its relay in one thread, over a wire in memory, with clients that are hosts, too.
 
-use crate::client::{Client, address};
-use crate::digest::Digest;
-use crate::draw::Draw;
-use crate::line::{Datagram, Line, Network, Way};
 use anyhow::{Result, bail};
 use bytes::Bytes;
 use enet_chat::{Gauge, LoneRelay, Table};
 use enet_codec::{Config, RELIABLE};
 use enet_service::{BoundService, MemoryWire, Report, Step, Told, Unwatched, Wire};
+use enet_testbed::{Client, Datagram, Digest, Draw, Line, Network, Way, address};
 use std::alloc::Global;
 use std::collections::VecDeque;
 use std::rt::Clock;

@@ -1,12 +1,9 @@
 //! Many slots: a rush of joins at a host of 4,095, some hundreds of peers that talk now and then, and strangers.
 
-use crate::client::address;
-use crate::digest::Digest;
-use crate::line::Line;
-use crate::world::{Plan, Rule, World};
 use anyhow::Result;
 use enet_codec::{Addr, Config, RELIABLE};
 use enet_host::HostCore;
+use enet_testbed::{Digest, Line, Plan, Rule, World, address};
 use std::alloc::Global;
 
 /// How many clients there are in the end.

@@ -1,10 +1,9 @@
 //! Rows with much in flight, of which something is acknowledged.
 
-use crate::digest::Digest;
-use crate::guests::{House, rest};
 use crate::worst::Size;
 use anyhow::Result;
 use enet_codec::RELIABLE;
+use enet_testbed::{Digest, House, rest};
 use std::alloc::Global;
 
 /// Over how many channels what is in flight is spread.

@@ -1,10 +1,8 @@
 //! Large packets: maps to those who join, saves and patches, with others beside them.
 
-use crate::digest::Digest;
-use crate::line::Line;
-use crate::world::{Plan, Rule, World};
 use anyhow::{Result, bail};
 use enet_codec::{RELIABLE, UNRELIABLE_FRAGMENT};
+use enet_testbed::{Digest, Line, Plan, Rule, World};
 use std::alloc::Global;
 
 /// How many clients there are.

@@ -14,22 +14,16 @@
 mod bad_line;
 mod capture;
 mod chat;
-mod client;
 mod crowd;
-mod digest;
-mod draw;
 mod flying;
-mod guests;
 mod large;
-mod line;
 mod resting;
 mod talking;
-mod world;
 mod worst;
 
-use crate::digest::Digest;
 use crate::worst::{Size, run_row};
 use anyhow::{Context, Result, bail};
+use enet_testbed::Digest;
 use std::alloc::Global;
 use std::env;
 use std::rt::{Clock, Env};

@@ -1,10 +1,9 @@
 //! Rows with slots that rest, of which some are woken.
 
-use crate::digest::Digest;
-use crate::guests::{House, rest};
 use crate::worst::{Seconds, Size, Waking};
 use anyhow::Result;
 use enet_codec::RELIABLE;
+use enet_testbed::{Digest, House, rest};
 use std::alloc::Global;
 
 /// How many peers talk in the last slots.

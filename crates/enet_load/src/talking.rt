@@ -1,10 +1,8 @@
 //! Clients that talk, and a server that hands each of their packets to others: small packets in real proportions.
 
-use crate::digest::Digest;
-use crate::line::Line;
-use crate::world::{Plan, Rule, World};
 use anyhow::Result;
 use enet_codec::{RELIABLE, UNSEQUENCED};
+use enet_testbed::{Digest, Line, Plan, Rule, World};
 use std::alloc::Global;
 
 /// How many clients there are.

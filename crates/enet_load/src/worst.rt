@@ -1,10 +1,9 @@
 //! Inputs that cost most.
 
-use crate::digest::Digest;
 use crate::flying::{block, take_newest, take_oldest};
-use crate::guests::House;
 use crate::resting::{ask, share_out, talk_behind, wake};
 use anyhow::{Result, bail};
+use enet_testbed::{Digest, House};
 use std::alloc::Global;
 
 /// How much of a row is done.
