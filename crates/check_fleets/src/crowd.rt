@@ -1,9 +1,9 @@
 //! A server and clients that are connected and talk.
 
 use crate::list::stepped;
-use crate::seen::{FIRST_CLIENT, SERVER};
 use anyhow::{Result, bail};
 use bytes::Bytes;
+use check_outcome::{FIRST_CLIENT, SERVER};
 use enet_codec::{Addr, Config, Event, PeerRef};
 use enet_fleet::{Answer, Fleet, FleetEvent, Node};
 use std::alloc::Global;

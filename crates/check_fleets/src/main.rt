@@ -18,7 +18,7 @@ mod drawing;
 mod late;
 mod list;
 mod pace;
-mod page;
+mod played;
 mod seen;
 mod stranger;
 
@@ -82,7 +82,7 @@ fn list_in(
     let mut events = Vec::new(alloc);
     let connections = list::happens(alloc, fleet, draw, hosts.setting, counts, &mut events)?;
     judge(fleet, number, hosts.setting, connections)?;
-    page::judge(alloc, number, hosts, fleet, &events)?;
+    played::judge(alloc, number, hosts, fleet, &events)?;
     counts.add_list(fleet, connections);
     Ok(())
 }

@@ -1,23 +1,11 @@
 //! What was seen of the hosts of a fleet.
 
-use check_outcome::{Known, Peers, SLOTS, Way};
+use check_outcome::{FIRST_CLIENT, Known, Peers, SERVER, SLOTS, Way};
 use enet_codec::{Addr, Event, PeerRef};
 use enet_fleet::{Fleet, Node};
 
 /// How many clients a fleet has.
 pub const CLIENTS: u16 = 4;
-
-/// Where the server is.
-pub const SERVER: Addr = Addr {
-    ip: 0x0A00_0001,
-    port: 7001,
-};
-
-/// Where the first client is; the others are at the ports behind.
-pub const FIRST_CLIENT: Addr = Addr {
-    ip: 0x0A00_0002,
-    port: 7002,
-};
 
 /// What was seen of a client.
 #[derive(Clone, Copy)]

@@ -1,8 +1,8 @@
 //! What strangers send: random bytes, and bytes that were put out, turned.
 
-use crate::seen::{CLIENTS, FIRST_CLIENT, Guest, SERVER, Seen};
+use crate::seen::{CLIENTS, Guest, Seen};
 use bytes::Bytes;
-use check_outcome::Draw;
+use check_outcome::{Draw, FIRST_CLIENT, SERVER};
 use enet_codec::Addr;
 use enet_fleet::{Fleet, FleetEvent, Node};
 use std::alloc::{AllocError, Global};

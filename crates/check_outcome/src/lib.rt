@@ -7,7 +7,8 @@
 //! (`FollowsFrom`, which from the first packet on is `Follows`), `is_life` exactly where a user's events are one life of some peer
 //! (`IsSomeLife`), and `is_sound` exactly where both hold at each connection, side and channel (`IsSound`), as does `is_fleet_sound` of a
 //! fleet's connections and ends (`IsFleetSound`).
-//! Only tested, by `check_lists`: that worked cases are judged as by hand. Neither: what is drawn.
+//! Only tested, by `check_lists`: that worked cases are judged as by hand. Neither: what is drawn, and whether events of a fleet and their
+//! answers are judged as the page has it (`Page`).
 #![tactic(auto)]
 
 mod doing;
@@ -16,6 +17,7 @@ mod fleet;
 mod following;
 mod life;
 mod lives;
+mod page;
 mod peers;
 mod setting;
 mod sound;
@@ -26,6 +28,7 @@ pub use fleet::{is_end_sound, is_fleet_sound};
 pub use following::follows;
 pub use life::is_life;
 pub use lives::{Lives, Told};
+pub use page::{FIRST_CLIENT, Page, SERVER, peer_of};
 pub use peers::{Peers, SLOTS};
 pub use setting::Setting;
 pub use sound::{is_side_sound, is_sound};

@@ -1,67 +1,38 @@
-//! The page of a list that is played: its definitions as functions of the events and of the answers to them.
+//! The page of the events of a fleet: its definitions as functions of the events and of the answers to them.
 
-use crate::drawing::Hosts;
-use crate::list::configs;
-use crate::seen::{CLIENTS, FIRST_CLIENT, SERVER};
-use anyhow::{Result, bail};
-use check_outcome::CHANNELS;
-use enet_codec::{Addr, Event, PeerRef, Received};
-use enet_fleet::{Answer, End, Fleet, FleetEvent, Node};
+use crate::draw::CHANNELS;
+use enet_codec::{Addr, Event, PeerRef, Received, Refusal};
+use enet_fleet::{Answer, FleetEvent, Node};
 use std::alloc::{AllocError, Global};
 
-/// What was answered to an event.
-type Outcome = Result<Answer, enet_codec::Refusal>;
+/// Where a fleet has its server.
+pub const SERVER: Addr = Addr {
+    ip: 0x0A00_0001,
+    port: 7001,
+};
+
+/// Where a fleet has its first client; the others are at the ports behind.
+pub const FIRST_CLIENT: Addr = Addr {
+    ip: 0x0A00_0002,
+    port: 7002,
+};
 
 /// A packet that was submitted: its bytes and flags.
 type Packet<'a> = (&'a [u8], u8);
 
-/// Events with what was answered to each; for each connection, who asked for it, what that client calls its peer, and the server its own.
+/// Events of a fleet of so many clients with what was answered to each; for each connection, who asked for it, what that client calls
+/// its peer, and the server its own.
 #[derive(Clone, Copy)]
-struct Page<'a> {
-    alloc: Global,
-    events: &'a [FleetEvent],
-    answers: &'a [Outcome],
-    connections: &'a [(u16, PeerRef, Option<PeerRef>)],
-}
-
-/// Plays a list that happened in this fleet, and tests the page. The names that it gives to connections are those of this fleet's ends.
-pub fn judge(
-    alloc: Global,
-    number: u32,
-    hosts: Hosts,
-    fleet: &Fleet,
-    events: &[FleetEvent],
-) -> Result<()> {
-    let (server, client) = configs(hosts);
-    let answers = Fleet::play(alloc, server, &[client; CLIENTS as usize], events)?;
-    let mut connections = Vec::new(alloc);
-    for (event, answer) in events.iter().zip(answers.iter()) {
-        if let (FleetEvent::Connect { client, .. }, Ok(Answer::Peer(there))) = (event, answer) {
-            let told = fleet.events(connections.len() as u64, End::Server);
-            connections.push((
-                *client,
-                *there,
-                told.first().and_then(|event| peer_of(event)),
-            ))?;
-        }
-    }
-    let page = Page {
-        alloc,
-        events,
-        answers: &answers,
-        connections: &connections,
-    };
-    if !page.is_headline()? {
-        bail!("list {number}, played: a connection isn't in order");
-    }
-    if !page.are_told() {
-        bail!("list {number}, played: an event isn't of the connection that its address says");
-    }
-    Ok(())
+pub struct Page<'a> {
+    pub alloc: Global,
+    pub clients: u16,
+    pub events: &'a [FleetEvent],
+    pub answers: &'a [Result<Answer, Refusal>],
+    pub connections: &'a [(u16, PeerRef, Option<PeerRef>)],
 }
 
 /// Of which peer an event is.
-fn peer_of(event: &Event) -> Option<PeerRef> {
+pub fn peer_of(event: &Event) -> Option<PeerRef> {
     match event {
         Event::Connect { peer, .. }
         | Event::Receive { peer, .. }
@@ -86,15 +57,15 @@ fn address_of(client: u16) -> Addr {
 }
 
 /// Whether bodies are those of some of the packets, in order, each whole and once, none flagged RELIABLE left out before the last.
-fn follows(packets: &[Packet], bodies: &[&[u8]]) -> bool {
+fn come_from(packets: &[Packet], bodies: &[&[u8]]) -> bool {
     let Some((body, bodies_left)) = bodies.split_first() else {
         return true;
     };
     let Some((packet, left)) = packets.split_first() else {
         return false;
     };
-    (packet.0 == *body && follows(left, bodies_left))
-        || (packet.1 % 2 == 0 && follows(left, bodies))
+    (packet.0 == *body && come_from(left, bodies_left))
+        || (packet.1 % 2 == 0 && come_from(left, bodies))
 }
 
 /// The packets of a channel among events, those that came unsequenced left out.
@@ -198,15 +169,15 @@ impl Page<'_> {
                 Some(peer) => self.submitted(from, peer, channel)?,
                 None => Vec::new(self.alloc),
             };
-            if !follows(&packets, &came(self.alloc, channel, taken)?) {
+            if !come_from(&packets, &came(self.alloc, channel, taken)?) {
                 return Ok(false);
             }
         }
         Ok(true)
     }
 
-    /// Whether each connection is in order, and no two share a name.
-    fn is_headline(&self) -> Result<bool, AllocError> {
+    /// Whether each connection is in order, and no two share a name. An error for want of memory.
+    pub fn is_headline(&self) -> Result<bool, AllocError> {
         for (x, (client, there, here)) in self.connections.iter().enumerate() {
             let client_took = self.taken(Node::Client(*client), *there)?;
             let server_took = match here {
@@ -229,7 +200,7 @@ impl Page<'_> {
 
     /// Whether each event that was taken is told with an address that is its connection's: a peer at a host's address is a connection's, so is
     /// each where no stranger was taken in, and no connection's peer is elsewhere.
-    fn are_told(&self) -> bool {
+    pub fn are_told(&self) -> bool {
         let is_quiet = !self.has_guests(Node::Server);
         for (event, answer) in self.events.iter().zip(self.answers.iter()) {
             let (FleetEvent::Take { node }, Ok(Answer::Taken(Some((told, from))))) = (event, answer)
@@ -249,7 +220,7 @@ impl Page<'_> {
     }
 
     fn is_told_to_server(&self, peer: Option<PeerRef>, from: Addr, is_quiet: bool) -> bool {
-        let is_host = (0..CLIENTS).any(|client| from == address_of(client));
+        let is_host = (0..self.clients).any(|client| from == address_of(client));
         let mut is_one = false;
         for (client, _there, here) in self.connections.iter() {
             if *here == peer {
