@@ -4,7 +4,7 @@ use Rattle.std.proofs.lemmas.Option.{slice_get-get_or}
 use Rattle.enet_codec.specs.declared.address.Addr.{Addr}
 use Rattle.enet_captured.specs.declared.timeline.Connection.{Connection}
 use Rattle.enet_captured.specs.Counts.{count_below}
-use Rattle.enet_captured.specs.Belonging.{IsLast, holds_at, is_between, is_between_at}
+use Rattle.enet_captured.specs.Private.Belonging.{IsLast, holds_at, is_between, is_between_at}
 
 pub count_below_yes : (test : ℕ → Bool) (n : ℕ) → test n ≡ true → count_below test (n + 1) ≡ count_below test n + 1
 count_below_yes test n holds = ap (count_below test) (add-one n) ∙ ap (λ (b : Bool). (if b then (count_below test n + 1) else (count_below test n))) holds

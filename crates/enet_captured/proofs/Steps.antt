@@ -9,8 +9,8 @@ use Rattle.enet_codec.specs.Message.{Message, Spells}
 use Rattle.enet_codec.proofs.Datagrams.{some-bytes}
 use Rattle.enet_text.specs.Described.{SpellsNone}
 use Rattle.enet_captured.specs.declared.told.Told.{Told}
-use Rattle.enet_captured.specs.Commands.{told_of}
-use Rattle.enet_captured.specs.Readings.{Says, SaysRest, stop_at, compressed, plain}
+use Rattle.enet_captured.specs.Private.Commands.{told_of}
+use Rattle.enet_captured.specs.Private.Readings.{Says, SaysRest, stop_at, compressed, plain}
 
 pub ends : SaysRest [] [] None
 ends = record {

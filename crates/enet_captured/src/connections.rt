@@ -1,7 +1,7 @@
 //! Which connection a datagram belongs to.
 
 ghost use Rattle.std.specs.Prelude.{◌≡◌, length};
-ghost use Rattle.enet_captured.specs.Belonging.{IsLast, goes_on, is_between, is_between_at, same_address, way_in};
+ghost use Rattle.enet_captured.specs.Private.Belonging.{IsLast, goes_on, is_between, is_between_at, same_address, way_in};
 
 use crate::timeline::{Connection, Way};
 use enet_codec::Addr;

@@ -3,7 +3,7 @@
 ghost use Rattle.std.specs.Prelude.{◌≡◌, ◌≤◌, ◌++◌, List, length, drop, IfOk};
 ghost use Rattle.enet_text.specs.Described.{is_compressed, why_unread};
 ghost use Rattle.enet_captured.specs.declared.told.Told.{Told};
-ghost use Rattle.enet_captured.specs.Readings.{Says, SaysRest};
+ghost use Rattle.enet_captured.specs.Private.Readings.{Says, SaysRest};
 
 use crate::told::{Told, told_of};
 use enet_codec::{Stop, read_command, read_header};

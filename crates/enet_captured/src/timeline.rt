@@ -2,7 +2,7 @@
 
 ghost use Rattle.std.specs.Prelude.{◌≡◌, ◌++◌, map, OnOk};
 ghost use Rattle.enet_captured.specs.Counts.{same_way};
-ghost use Rattle.enet_captured.specs.Timelines.{mark_of, moment_of};
+ghost use Rattle.enet_captured.specs.Private.Timelines.{mark_of, moment_of};
 
 use crate::connections::{Seat, seat_for};
 use crate::fault::TimelineFault;

@@ -2,7 +2,8 @@
 
 ghost use Rattle.std.specs.Prelude.{◌≡◌};
 ghost use Rattle.enet_codec.specs.Message.{view};
-ghost use Rattle.enet_captured.specs.Commands.{name_of, number_of, same_kind, told_of};
+ghost use Rattle.enet_captured.specs.Commands.{name_of, number_of, same_kind};
+ghost use Rattle.enet_captured.specs.Private.Commands.{told_of};
 
 use enet_codec::{Command, Fragment};
 

@@ -1,4 +1,4 @@
-use Rattle.enet_captured.specs.Belonging.{IsLast, is_between_at}
+use Rattle.enet_captured.specs.Private.Belonging.{IsLast, is_between_at}
 use Rattle.enet_captured.proofs.connections.last_between.Given as goal
 
 -- the last one so far

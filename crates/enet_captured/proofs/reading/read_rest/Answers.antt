@@ -2,8 +2,8 @@ use Rattle.std.proofs.Common.{◌≤◌, ◌++◌, ◌∷◌, List, [], ℕ, Opt
 use Rattle.enet_codec.specs.declared.stop.Stop.TheVariants as stop
 use Rattle.enet_codec.specs.Message.{view}
 use Rattle.enet_captured.specs.declared.told.Told.{Told}
-use Rattle.enet_captured.specs.Commands.{told_of}
-use Rattle.enet_captured.specs.Readings.{SaysRest}
+use Rattle.enet_captured.specs.Private.Commands.{told_of}
+use Rattle.enet_captured.specs.Private.Readings.{SaysRest}
 use Rattle.enet_captured.proofs.Steps.{ends_at, goes_on_at, one_behind, stops_at}
 use Rattle.enet_captured.proofs.reading.read_rest.Goals as goal
 

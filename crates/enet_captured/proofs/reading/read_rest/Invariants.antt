@@ -1,7 +1,7 @@
 use Rattle.std.proofs.Common.{length, ◌-◌, ◌≡◌, ◌≤◌, ◌++◌, drop, List, ℕ, Option}
 use Rattle.enet_codec.specs.declared.stop.Stop.{Stop}
 use Rattle.enet_captured.specs.declared.told.Told.{Told}
-use Rattle.enet_captured.specs.Readings.{SaysRest}
+use Rattle.enet_captured.specs.Private.Readings.{SaysRest}
 use Rattle.enet_captured.proofs.reading.read_rest.Given as goal
 
 -- what the bytes that are left say, behind what was said, is what all say

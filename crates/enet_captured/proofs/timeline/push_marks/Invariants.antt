@@ -1,5 +1,5 @@
 use Rattle.std.proofs.Common.{◌≡◌, ◌++◌, map, take}
-use Rattle.enet_captured.specs.Timelines.{mark_of}
+use Rattle.enet_captured.specs.Private.Timelines.{mark_of}
 use Rattle.enet_captured.proofs.timeline.push_marks.Given as goal
 
 -- so far each command is put behind those that were there

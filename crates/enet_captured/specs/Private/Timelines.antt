@@ -1,11 +1,7 @@
 -- What a capture holds.
-use Rattle.std.specs.Prelude.{◌≡◌, ◌⊎◌, ◌+◌, ◌*◌, ◌/◌, ℕ, min, Bool, true, false, if◌then◌else◌, List, [], ◌∷◌, ◌++◌, map, length, Option, Some, None}
-use Rattle.enet_codec.specs.declared.stop.Stop.{Stop}
+use Rattle.std.specs.Prelude.{◌+◌, ◌*◌, ◌/◌, ℕ, Bool, if◌then◌else◌}
 use Rattle.enet_text.specs.declared.pcap.Captured.{Captured}
-use Rattle.enet_text.specs.declared.pcap.Datagram.{Datagram}
 use Rattle.enet_captured.specs.declared.told.Told.{Told}
-use Rattle.enet_captured.specs.declared.told.Detail.{Detail}
-use Rattle.enet_captured.specs.declared.told.Detail.TheVariants.{Nothing, Received, Offered, Unreliable, Group, Piece}
 use Rattle.enet_captured.specs.declared.timeline.Way.{Way}
 use Rattle.enet_captured.specs.declared.timeline.Mark.{Mark}
 

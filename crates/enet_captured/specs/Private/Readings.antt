@@ -8,7 +8,7 @@ use Rattle.enet_codec.specs.Message.{Message}
 use Rattle.enet_codec.specs.Datagram.{SpellsAll}
 use Rattle.enet_text.specs.Described.{SpellsNoHeader, SpellsNone, why_unread}
 use Rattle.enet_captured.specs.declared.told.Told.{Told}
-use Rattle.enet_captured.specs.Commands.{told_of}
+use Rattle.enet_captured.specs.Private.Commands.{told_of}
 
 -- Why bytes at whose front no command stands can't be read: there is nothing to read where there are none.
 abbrev pub stop_at : List ℕ → Option Stop

@@ -1,0 +1,5 @@
+-- What no public contract needs.
+pub mod Belonging
+pub mod Readings
+pub mod Timelines
+pub mod Commands
