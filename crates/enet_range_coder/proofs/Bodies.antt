@@ -3,7 +3,8 @@ use Rattle.std.proofs.Common.{◌≡◌, ℕ, ◌+◌, ◌-◌, ◌<◌, ◌≤�
 use Rattle.std.proofs.Math.ListN.{length-set}
 use Rattle.std.proofs.Math.Seq.{take-suc-set}
 use Rattle.enet_range_coder.specs.declared.coder.Coder.{Coder}
-use Rattle.enet_range_coder.specs.Span.{Span, IsWide, whole, ending}
+use Rattle.enet_range_coder.specs.Span.{Span, whole, ending}
+use Rattle.enet_range_coder.specs.Private.Span.{IsWide}
 use Rattle.enet_range_coder.specs.Context.{Context, coding, guess}
 use Rattle.enet_range_coder.specs.Body.{strip, behind, packed, is_end, rest_on, strip_on, unpacked}
 use Rattle.enet_range_coder.specs.Memory.{contexts}

@@ -3,9 +3,11 @@ use Rattle.std.proofs.Math.Nat.{mul-div-le, mul-le-mul, mul-le-mul_right, div-lt
 use Rattle.std.proofs.Math.Seq.{drop-append_seam}
 use Rattle.std.proofs.lemmas.Nat.{le-div}
 use Rattle.std.proofs.lemmas.Bool.Decides.{nat_tests}
-use Rattle.enet_range_coder.specs.Span.{Span, Cut, IsSpan, IsWide, IsCut, narrowed, is_apart, is_settled, shifted, before, put_out, coded, ending, window}
+use Rattle.enet_range_coder.specs.Span.{Span, Cut, narrowed, is_apart, is_settled, shifted, before, put_out, coded, ending, window}
+use Rattle.enet_range_coder.specs.Private.Span.{IsSpan, IsWide, IsCut}
 use Rattle.enet_range_coder.specs.Body.{strip, behind, pack_on, packed, is_nothing, is_end, rest_on, strip_on, unpack_on, unpacked}
-use Rattle.enet_range_coder.specs.Context.{Context, weigh, total, find, reach, serves, escape, share_of, then_code, coding, aim, Pass, Leave, At, aimed, aim_at, IsAim, IsShare, Nothing, Escape, Found, guess}
+use Rattle.enet_range_coder.specs.Context.{Context, weigh, total, find, reach, serves, escape, share_of, then_code, coding, aim, Pass, Leave, At, aimed, aim_at, Nothing, Escape, Found, guess}
+use Rattle.enet_range_coder.specs.Private.Context.{IsAim, IsShare}
 
 -- the bytes lie in the interval
 pub record Holds (s : Span) (bytes : List ℕ) : Type 0 where

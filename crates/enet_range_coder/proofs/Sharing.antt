@@ -6,8 +6,10 @@ use Rattle.enet_range_coder.specs.declared.cell.Cell.{Cell}
 use Rattle.enet_range_coder.specs.declared.chain.Place.{Place}
 use Rattle.enet_range_coder.specs.declared.coder.Coder.{Coder}
 use Rattle.enet_range_coder.specs.declared.interval.Coded.{Coded}
-use Rattle.enet_range_coder.specs.Span.{Span, Cut, IsCut, coded}
-use Rattle.enet_range_coder.specs.Context.{Context, weigh, total, find, reach, Nothing, Escape, Found, share_of, IsShare, then_code, coding, aim, Pass, Leave, At, aim_at, IsAim, guess}
+use Rattle.enet_range_coder.specs.Span.{Span, Cut, coded}
+use Rattle.enet_range_coder.specs.Private.Span.{IsCut}
+use Rattle.enet_range_coder.specs.Context.{Context, weigh, total, find, reach, Nothing, Escape, Found, share_of, then_code, coding, aim, Pass, Leave, At, aim_at, guess}
+use Rattle.enet_range_coder.specs.Private.Context.{IsShare, IsAim}
 use Rattle.enet_range_coder.specs.Memory.{cell_at, chain, all_from, context_at, contexts_from}
 use Rattle.enet_range_coder.specs.Private.Meant.{span_meant, place_meant, said, Puts}
 use Rattle.enet_range_coder.proofs.Round.{find_within, is_share, is_aim}

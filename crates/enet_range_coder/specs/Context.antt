@@ -1,6 +1,6 @@
 -- How a context shares out an interval among an escape and the bytes that it has.
 use Rattle.std.specs.Prelude.{ℕ, ◌+◌, ◌-◌, ◌/◌, Bool, ◌&&◌, ◌==◌, nat_le, nat_lt, max, if◌then◌else◌, List, [], ◌∷◌, length, drop, Option, Some, None}
-use Rattle.enet_range_coder.specs.Span.{Span, Cut, IsCut, before, coded, window}
+use Rattle.enet_range_coder.specs.Span.{Span, Cut, before, coded, window}
 
 pub record Context : Type 0 where
   pub unseen : ℕ  -- the weight of all bytes that it hasn't
@@ -45,12 +45,6 @@ found c (Some p) = Found (record { start = c.unseen + p.0; size = p.1; total = t
 abbrev pub share_of : Context → ℕ → Share
 share_of c byte = if serves c then found c (find c.bytes byte 0) else Nothing
 
--- what is coded is a part
-abbrev pub IsShare : Share → Type 0
-IsShare Nothing = Unit {0}
-IsShare (Escape c) = IsCut c
-IsShare (Found c) = IsCut c
-
 abbrev pub then_code : Option (List ℕ × Span) → (Span → Option (List ℕ × Span)) → Option (List ℕ × Span)
 then_code None more = None
 then_code (Some q) more = before q.0 (more q.1)
@@ -80,11 +74,6 @@ aimed c (Some byte) = At byte
 
 abbrev pub aim_at : Context → ℕ → Aim
 aim_at c aim = if serves c then (if nat_lt aim c.unseen then Leave (escape c) else aimed c (reach c.bytes (aim - c.unseen) 0)) else Pass
-
-abbrev pub IsAim : Aim → Type 0
-IsAim Pass = Unit {0}
-IsAim (Leave c) = IsCut c
-IsAim (At byte) = Unit {0}
 
 abbrev pub guess_behind : Option (List ℕ × Span) → List ℕ → (Span → List ℕ → Option ℕ) → Option ℕ
 guess_behind None bytes more = None

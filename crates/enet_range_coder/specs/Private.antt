@@ -1,2 +1,4 @@
 -- What only private functions and proofs speak of: no caller is promised anything by it.
 pub mod Meant
+pub mod Span
+pub mod Context

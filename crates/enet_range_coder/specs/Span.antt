@@ -1,5 +1,5 @@
 -- The interval that a coder narrows, and the bytes that it puts out.
-use Rattle.std.specs.Prelude.{ℕ, ◌+◌, ◌-◌, ◌*◌, ◌/◌, ◌%◌, ◌≤◌, ◌<◌, Bool, not, ◌&&◌, ◌==◌, nat_le, if◌then◌else◌, List, [], ◌∷◌, ◌++◌, Option, Some, None, zero, suc, slice_index}
+use Rattle.std.specs.Prelude.{ℕ, ◌+◌, ◌-◌, ◌*◌, ◌/◌, ◌%◌, Bool, not, ◌&&◌, ◌==◌, nat_le, if◌then◌else◌, List, [], ◌∷◌, ◌++◌, Option, Some, None, zero, suc, slice_index}
 
 -- the numbers from `low` on, below `low + range`
 pub record Span : Type 0 where
@@ -16,25 +16,7 @@ pub record Cut : Type 0 where
 abbrev pub whole : Span
 whole = record { low = 0; range = 4294967295 }
 
--- numbers of 32 bits
-pub record IsSpan (s : Span) : Type 0 where
-  pub within : s.low + s.range ≤ 4294967296
-  pub some : 0 < s.range
-
--- what a part may be taken of
-pub record IsWide (s : Span) : Type 0 where
-  pub within : s.low + s.range ≤ 4294967296
-  pub wide : 65536 ≤ s.range
-
-pub record IsCut (c : Cut) : Type 0 where
-  pub some : 0 < c.size
-  pub within : c.start + c.size ≤ c.total
-  pub bound : c.total ≤ 65536
-
 -- a share's numbers; what the division leaves is lost
-abbrev pub unit : Span → ℕ → ℕ
-unit s total = s.range / total
-
 abbrev pub narrowed : Span → Cut → Span
 narrowed s c = record { low = s.low + c.start * (s.range / c.total); range = c.size * (s.range / c.total) }
 

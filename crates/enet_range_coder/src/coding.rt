@@ -1,7 +1,8 @@
 //! How a byte is coded, and what byte a code stands for.
 
 ghost use Rattle.std.specs.Prelude.{◌≡◌, ◌+◌, ◌-◌, ◌*◌, ◌<◌, ◌≤◌, ◌==◌, if◌then◌else◌, length, drop, take, slice_index, IfSome};
-ghost use Rattle.enet_range_coder.specs.Span.{IsWide, window};
+ghost use Rattle.enet_range_coder.specs.Span.{window};
+ghost use Rattle.enet_range_coder.specs.Private.Span.{IsWide};
 ghost use Rattle.enet_range_coder.specs.Context.{total, coding, guess, aim, aim_at};
 ghost use Rattle.enet_range_coder.specs.Memory.{context_at, contexts, contexts_from};
 ghost use Rattle.enet_range_coder.specs.Private.Meant.{span_meant, aim_meant, said, Puts, put_of};

@@ -1,7 +1,8 @@
 //! The interval of 32 bits that a coder narrows.
 
 ghost use Rattle.std.specs.Prelude.{◌≡◌, ◌+◌, ◌-◌, ◌/◌, ◌<◌, ◌≤◌, max, [], ◌∷◌, ◌++◌, IfSome};
-ghost use Rattle.enet_range_coder.specs.Span.{whole, narrowed, is_apart, is_settled, shifted, IsSpan, IsWide, IsCut, put_out, coded, ending};
+ghost use Rattle.enet_range_coder.specs.Span.{whole, narrowed, is_apart, is_settled, shifted, put_out, coded, ending};
+ghost use Rattle.enet_range_coder.specs.Private.Span.{IsSpan, IsWide, IsCut};
 ghost use Rattle.enet_range_coder.specs.Private.Meant.{span_meant, cut_meant, said, Puts};
 
 use crate::context::Part;

@@ -2,7 +2,7 @@
 
 ghost use Rattle.std.specs.Prelude.{◌≡◌, ◌≤◌, length, take, IfSome};
 ghost use Rattle.enet_range_coder.specs.Code.{answered, body_of};
-ghost use Rattle.enet_range_coder.specs.Span.{IsWide};
+ghost use Rattle.enet_range_coder.specs.Private.Span.{IsWide};
 ghost use Rattle.enet_range_coder.specs.Body.{strip, is_end};
 ghost use Rattle.enet_range_coder.specs.Private.Meant.{span_meant, said, rest_meant};
 

@@ -1,5 +1,5 @@
 use Rattle.std.proofs.Common.{◌≡◌, ◌≤◌, length, take, drop}
-use Rattle.enet_range_coder.specs.Span.{IsWide}
+use Rattle.enet_range_coder.specs.Private.Span.{IsWide}
 use Rattle.enet_range_coder.specs.Body.{behind, packed}
 use Rattle.enet_range_coder.specs.Memory.{contexts}
 use Rattle.enet_range_coder.specs.Learning.{learned}

@@ -1,5 +1,5 @@
 use Rattle.std.proofs.Common.{sym, subst}
-use Rattle.enet_range_coder.specs.Span.{IsSpan}
+use Rattle.enet_range_coder.specs.Private.Span.{IsSpan}
 use Rattle.enet_range_coder.specs.Private.Meant.{span_meant, cut_meant}
 use Rattle.enet_range_coder.proofs.Round.{narrow_span}
 use Rattle.enet_range_coder.proofs.interval.Coded.take.Goals as goal
