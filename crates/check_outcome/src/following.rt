@@ -2,7 +2,8 @@
 
 ghost use Rattle.std.specs.Prelude.{◌≡◌, ◌≤◌, ◌↔◌, IsTrue};
 ghost use Rattle.enet_sender.specs.CommandChoice.{is_long, goes_reliable};
-ghost use Rattle.check_outcome.specs.Following.{submission, goes_in_sequence, came_in_sequence, FollowsFrom};
+ghost use Rattle.check_outcome.specs.Following.{FollowsFrom};
+ghost use Rattle.check_outcome.specs.Private.Following.{submission, goes_in_sequence, came_in_sequence};
 
 use enet_codec::{Packet, RELIABLE, UNRELIABLE_FRAGMENT, UNSEQUENCED};
 
