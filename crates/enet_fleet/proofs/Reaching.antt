@@ -28,7 +28,8 @@ use Rattle.law_headline.specs.declared.node.Node.TheVariants.{Server, Client}
 use Rattle.enet_fleet.specs.Fleets.{Fleet, place_of, with_place, address_of, is_host, gone_to, logged_in, logged_to, node_of, lacks, refused_there, refused_delivery, Refuses, RefusesIf, Steps, open_fleet}
 use Rattle.enet_fleet.specs.Headline.{HasHeadline}
 use Rattle.enet_fleet.specs.Law.{OfEachRun}
-use Rattle.enet_fleet.specs.Reached.{fit, IsReached}
+use Rattle.enet_fleet.specs.Reached.{fit}
+use Rattle.enet_fleet.specs.Private.Reached.{IsReached}
 use Rattle.law_headline.proofs.Net as net
 use Rattle.enet_fleet.proofs.Places.{apart, server-apart, Sound}
 use Rattle.enet_fleet.proofs.Runs.{sound-run, IsAcross, goes-across}

@@ -7,7 +7,7 @@ ghost use Rattle.law_network.specs.Steps.{Calls, Happens};
 ghost use Rattle.law_network.specs.World.{RefusesCall};
 ghost use Rattle.enet_fleet.specs.declared.event.FleetEvent.TheVariants as happen;
 ghost use Rattle.enet_fleet.specs.Fleets.{Steps};
-ghost use Rattle.enet_fleet.specs.Reached.{IsReached};
+ghost use Rattle.enet_fleet.specs.Private.Reached.{IsReached};
 
 use crate::answer::Answer;
 use crate::hosts::Hosts;

@@ -6,7 +6,7 @@ ghost use Rattle.law_network.specs.World.{IsRefusedFor};
 ghost use Rattle.enet_fleet.specs.declared.event.FleetEvent.TheVariants as happen;
 ghost use Rattle.law_headline.specs.declared.node.Node.TheVariants as node;
 ghost use Rattle.enet_fleet.specs.Fleets.{Steps, Refuses, logged_to, refused_there};
-ghost use Rattle.enet_fleet.specs.Reached.{IsReached};
+ghost use Rattle.enet_fleet.specs.Private.Reached.{IsReached};
 
 use crate::answer::Answer;
 use crate::hosts::{Hosts, SERVER, client_address};

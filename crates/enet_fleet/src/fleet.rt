@@ -36,7 +36,7 @@ pub struct Fleet {
 
 impl Model for Fleet {
     ghost use Rattle.enet_fleet.specs.Fleets.{Fleet};
-    ghost use Rattle.enet_fleet.specs.Reached.{IsReached};
+    ghost use Rattle.enet_fleet.specs.Private.Reached.{IsReached};
     ghost use Rattle.std.specs.Coded.{codes};
     ghost use Rattle.enet_inbox.specs.Codes.{inbox_code};
 

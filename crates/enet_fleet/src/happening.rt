@@ -4,7 +4,7 @@ ghost use Rattle.std.specs.Prelude.{◌≡◌};
 ghost use Rattle.std.specs.Option.{option_zip};
 ghost use Rattle.enet_fleet.specs.declared.event.FleetEvent.TheVariants as happen;
 ghost use Rattle.enet_fleet.specs.Fleets.{Steps};
-ghost use Rattle.enet_fleet.specs.Reached.{IsReached};
+ghost use Rattle.enet_fleet.specs.Private.Reached.{IsReached};
 
 use crate::answer::Answer;
 use crate::connecting::connect;

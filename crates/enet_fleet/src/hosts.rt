@@ -8,7 +8,7 @@ ghost use Rattle.enet_codec.specs.Config.{is_in_range};
 ghost use Rattle.law_headline.specs.declared.node.Node.TheVariants as node;
 ghost use Rattle.enet_fleet.specs.Fleets.{place_of, address_of, is_host, client_in, open_fleet, sent_by};
 ghost use Rattle.enet_fleet.specs.Headline.{place_at};
-ghost use Rattle.enet_fleet.specs.Lending.{LendsPlace};
+ghost use Rattle.enet_fleet.specs.Private.Lending.{LendsPlace};
 ghost use Rattle.enet_fleet.specs.Private.Places.{is_host_by};
 
 use crate::event::End;

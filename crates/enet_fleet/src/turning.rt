@@ -5,7 +5,7 @@ ghost use Rattle.law_network.specs.Headline.{AreEnds};
 ghost use Rattle.enet_fleet.specs.declared.event.FleetEvent.TheVariants as happen;
 ghost use Rattle.law_headline.specs.declared.node.Node.TheVariants as node;
 ghost use Rattle.enet_fleet.specs.Fleets.{Steps};
-ghost use Rattle.enet_fleet.specs.Reached.{IsReached};
+ghost use Rattle.enet_fleet.specs.Private.Reached.{IsReached};
 ghost use Rattle.enet_fleet.specs.Private.Turning.{PutsOutByTurn, sent_of};
 
 use crate::answer::Answer;

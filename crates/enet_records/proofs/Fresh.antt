@@ -5,7 +5,8 @@ use Rattle.law_connection.specs.LinkSteps.{Has}
 use Rattle.law_network.specs.Log.{Logged, ChannelPackets, no_packets, fresh_channels, fresh_greatest, joined_greatest, greatest_at}
 use Rattle.law_network.specs.Network.{HostEnd, fresh_end}
 use Rattle.law_network.specs.World.{joined_end}
-use Rattle.enet_records.specs.Records.{first_numbers, AreBelow, IsKept, AreApart, AreKept}
+use Rattle.enet_records.specs.Records.{AreBelow, AreApart}
+use Rattle.enet_records.specs.Private.Records.{first_numbers, IsKept, AreKept}
 
 pub channels-of : (n : ℕ) (all : List ChannelPackets) → n ≡ 256 → all ≡ replicate n no_packets → all ≡ fresh_channels
 unfolding fresh_channels

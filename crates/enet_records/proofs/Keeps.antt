@@ -13,7 +13,8 @@ use Rattle.law_network.specs.Log.{Logged, packets_at, with_submitted_packet, wit
 use Rattle.law_network.specs.Network.{HostEnd, is_same_name, with_end}
 use Rattle.law_network.specs.Steps.{with_packet, with_event}
 use Rattle.law_network.proofs.Counting.{counted-long}
-use Rattle.enet_records.specs.Records.{AreBelow, IsKept, AreApart, AreKept, Notes}
+use Rattle.enet_records.specs.Records.{AreBelow, AreApart, Notes}
+use Rattle.enet_records.specs.Private.Records.{IsKept, AreKept}
 use Rattle.enet_records.proofs.Bounds.{below-after}
 use Rattle.enet_records.proofs.Places.{has-set}
 

@@ -1,5 +1,5 @@
 -- What is kept of a host, apart from the host itself.
-use Rattle.std.specs.Prelude.{◌≡◌, ℕ, ◌+◌, ◌*◌, ◌^◌, ◌<◌, List, [], ◌∷◌, ◌++◌, replicate, length, Some, slice_get}
+use Rattle.std.specs.Prelude.{◌≡◌, ℕ, ◌<◌, List, Some, slice_get}
 use Rattle.enet_codec.specs.declared.address.Addr.{Addr}
 use Rattle.enet_codec.specs.declared.event.PeerRef.{PeerRef}
 use Rattle.enet_codec.specs.declared.header.Header.{Header}
@@ -14,28 +14,13 @@ pub record Records : Type 0 where
   pub log : List Logged
   pub ends : List HostEnd
 
--- the numbers sent at first, with this one on channel 0xFF
-unfoldable pub first_numbers : ℕ → List ℕ
-first_numbers control = replicate 255 0 ++ control ∷ []
-
 -- each of the greatest numbers is below a bound
 abbrev pub AreBelow : ℕ → List ℕ → Type 0
 AreBelow bound greatest = (channel : ℕ) → greatest_at greatest channel < bound
 
--- what holds of an end once its host has put so many datagrams out: a datagram has at most 32 commands, and by each a number rises by less than 2 ^ 15
-pub record IsKept (count : ℕ) (e : HostEnd) : Type 0 where
-  pub channels : length e.channels ≡ 256
-  pub numbers : length e.greatest ≡ 256
-  pub below : AreBelow (2 + 2 ^ 20 * count) e.greatest
-
 -- no two ends have one name
 abbrev pub AreApart : List HostEnd → Type 0
 AreApart ends = (i j : ℕ) (e f : HostEnd) → slice_get ends i ≡ Some e → slice_get ends j ≡ Some f → e.name ≡ f.name → i ≡ j
-
--- what holds of all that is kept
-pub record AreKept (log : List Logged) (ends : List HostEnd) : Type 0 where
-  pub each : (e : HostEnd) → Has ends e → IsKept (length log) e
-  pub apart : AreApart ends
 
 -- some end has this name
 abbrev pub HasEnd : List HostEnd → PeerRef → Type 0

@@ -4,7 +4,7 @@ ghost use Rattle.std.specs.Prelude.{◌≡◌, [], ◌∷◌, IfOk, IfErr};
 ghost use Rattle.law_network.specs.Log.{no_packets, fresh_channels};
 ghost use Rattle.law_network.specs.Network.{fresh_end};
 ghost use Rattle.law_network.specs.World.{joined_end};
-ghost use Rattle.enet_records.specs.Records.{first_numbers};
+ghost use Rattle.enet_records.specs.Private.Records.{first_numbers};
 
 use crate::end::{Channel, End};
 use crate::records::Records;

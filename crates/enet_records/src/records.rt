@@ -49,7 +49,8 @@ pub struct Records {
 }
 
 impl Model for Records {
-    ghost use Rattle.enet_records.specs.Records.{Records, AreKept};
+    ghost use Rattle.enet_records.specs.Records.{Records};
+    ghost use Rattle.enet_records.specs.Private.Records.{AreKept};
 
     ghost Value = { Records };
 

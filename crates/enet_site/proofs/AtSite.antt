@@ -14,8 +14,8 @@ use Rattle.law_network.specs.Network.{Site, delivery_refusal}
 use Rattle.law_network.specs.Steps.{Calls, Delivers, beside, Happens, Called, BringsOne}
 use Rattle.law_network.specs.World.{IsRefusedFor, RefusesCall}
 use Rattle.enet_records.specs.Records.{Records}
-use Rattle.enet_site.specs.Sites.{site, IsWhole, CallsAt}
-use Rattle.enet_site.specs.Private.Sites.{CallsOn}
+use Rattle.enet_site.specs.Sites.{site, CallsAt}
+use Rattle.enet_site.specs.Private.Sites.{IsWhole, CallsOn}
 use Rattle.enet_site.proofs.Going.{whole-goes, whole-after}
 
 pub refuses-at : {T : Type 0} (r : Result T Refusal) (c : Refusal → Call) (a : Addr) (h : Host) (was : Records) (s : Site) → site a h was ≡ s → IfErr r (λ why. Acts (c why) h h) → IfErr r (λ why. RefusesCall (c why) s)

@@ -27,8 +27,7 @@ use Rattle.law_network.specs.Network.{HostEnd, fresh_end}
 use Rattle.law_network.specs.Steps.{end_in, end_in_slot, begun_in, begun}
 use Rattle.law_network.proofs.Beginnings.{free-there}
 use Rattle.law_network.proofs.Worlds.{IsFresh, not-fresh, kept-generation}
-use Rattle.enet_site.specs.Sites.{AreShown}
-use Rattle.enet_site.specs.Private.Sites.{begun_if}
+use Rattle.enet_site.specs.Private.Sites.{AreShown, begun_if}
 
 -- the next name is that of the slot that is given out next
 pub record IsNext (h : Host) (name : PeerRef) : Type 0 where

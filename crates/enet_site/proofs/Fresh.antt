@@ -16,7 +16,7 @@ use Rattle.law_network.specs.Shown.{ShowsPeer}
 use Rattle.law_network.specs.World.{joined_end}
 use Rattle.law_network.proofs.Peers.{shows-held}
 use Rattle.enet_records.specs.Records.{Records}
-use Rattle.enet_site.specs.Sites.{AreShown, IsWhole}
+use Rattle.enet_site.specs.Private.Sites.{AreShown, IsWhole}
 
 first : (c : Config) (far : Addr) → SlotState
 first c far = given unused_slot far (joined_peer c.clock (joined_terms c) (limits_of c))

@@ -21,7 +21,8 @@ use Rattle.law_network.proofs.Growing.{more_of, more_in, Grows, grows, from-befo
 use Rattle.law_network.proofs.Peers.{shows-held, is_gone, goes, Moved, moved}
 use Rattle.law_network.proofs.Worlds.{some-acts}
 use Rattle.enet_records.specs.Records.{Records}
-use Rattle.enet_site.specs.Sites.{site, AreShown, IsWhole}
+use Rattle.enet_site.specs.Sites.{site}
+use Rattle.enet_site.specs.Private.Sites.{AreShown, IsWhole}
 
 -- an end that begins has a peer
 

@@ -12,7 +12,8 @@ use Rattle.law_network.specs.Network.{Site}
 use Rattle.law_network.specs.Steps.{Calls, beside}
 use Rattle.law_network.specs.World.{RefusesCall}
 use Rattle.enet_records.specs.Records.{Records}
-use Rattle.enet_site.specs.Sites.{site, IsWhole, CallsAt}
+use Rattle.enet_site.specs.Sites.{site, CallsAt}
+use Rattle.enet_site.specs.Private.Sites.{IsWhole}
 use Rattle.enet_site.proofs.Going.{whole-goes}
 
 same-host : (how : DisconnectMode) (name : PeerRef) (info : ℕ) (why : Refusal) (old new : Host) → Acts (call.Disconnect how name info (Err why)) old new → new ≡ old

@@ -13,7 +13,8 @@ use Rattle.law_network.specs.Steps.{Around, Calls, LogsIf}
 use Rattle.enet_records.specs.Records.{Records, Notes}
 use Rattle.enet_site.specs.declared.put_out.Turned.{Turned}
 use Rattle.enet_site.specs.declared.put_out.Turned.TheVariants.{Sent, Away}
-use Rattle.enet_site.specs.Sites.{site, IsWhole}
+use Rattle.enet_site.specs.Sites.{site}
+use Rattle.enet_site.specs.Private.Sites.{IsWhole}
 use Rattle.enet_site.specs.Turning.{CallsAround, TurnsAmong}
 use Rattle.enet_site.specs.Private.Turning.{Puts, Turns}
 use Rattle.enet_site.proofs.Going.{Goes, whole-after}

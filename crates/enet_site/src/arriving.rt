@@ -13,8 +13,8 @@ ghost use Rattle.law_network.specs.Calls as call;
 ghost use Rattle.law_network.specs.Network.{delivery_refusal};
 ghost use Rattle.law_network.specs.Steps.{BringsOne, Brought, begun};
 ghost use Rattle.law_network.specs.World.{IsRefusedFor};
-ghost use Rattle.enet_site.specs.Sites.{site, IsWhole};
-ghost use Rattle.enet_site.specs.Private.Sites.{begun_if};
+ghost use Rattle.enet_site.specs.Sites.{site};
+ghost use Rattle.enet_site.specs.Private.Sites.{IsWhole, begun_if};
 
 use crate::delivery::refused_delivery;
 use enet_codec::{Addr, NO_PEER, PeerRef, Received, Refusal};

@@ -5,8 +5,7 @@ ghost use Rattle.enet_codec.specs.declared.address.Addr.{Addr};
 ghost use Rattle.enet_host.specs.Foretelling.{next_name};
 ghost use Rattle.law_network.specs.Calls.{Acts};
 ghost use Rattle.law_network.specs.Calls as call;
-ghost use Rattle.enet_site.specs.Sites.{IsWhole};
-ghost use Rattle.enet_site.specs.Private.Sites.{CallsOn};
+ghost use Rattle.enet_site.specs.Private.Sites.{IsWhole, CallsOn};
 
 use enet_codec::{Addr, PeerRef, Refusal};
 use enet_host::HostCore;

@@ -40,7 +40,8 @@ pub struct Site {
 
 impl Model for Site {
     ghost use Rattle.law_network.specs.Network.{Site};
-    ghost use Rattle.enet_site.specs.Sites.{site, IsWhole};
+    ghost use Rattle.enet_site.specs.Sites.{site};
+    ghost use Rattle.enet_site.specs.Private.Sites.{IsWhole};
     ghost use Rattle.std.specs.Coded.{codes};
     ghost use Rattle.enet_inbox.specs.Codes.{inbox_code};
 

@@ -8,8 +8,7 @@ ghost use Rattle.enet_host.specs.Calls.{on_named};
 ghost use Rattle.law_network.specs.Calls.{Acts};
 ghost use Rattle.law_network.specs.Calls as call;
 ghost use Rattle.law_network.specs.Steps.{with_packet};
-ghost use Rattle.enet_site.specs.Sites.{IsWhole};
-ghost use Rattle.enet_site.specs.Private.Sites.{CallsOn};
+ghost use Rattle.enet_site.specs.Private.Sites.{IsWhole, CallsOn};
 
 use bytes::Bytes;
 use enet_codec::{Packet, PeerRef, Refusal};

@@ -6,8 +6,7 @@ ghost use Rattle.enet_host.specs.Calls.{Takes, address_named};
 ghost use Rattle.enet_host.specs.Foretelling.{teller_of, packet_of, Foretells};
 ghost use Rattle.law_network.specs.Calls as call;
 ghost use Rattle.law_network.specs.World.{RefusesTake};
-ghost use Rattle.enet_site.specs.Sites.{IsWhole};
-ghost use Rattle.enet_site.specs.Private.Sites.{CallsOn, told};
+ghost use Rattle.enet_site.specs.Private.Sites.{IsWhole, CallsOn, told};
 
 use enet_codec::{Addr, Event, Refusal};
 use enet_host::HostCore;

@@ -3,7 +3,7 @@ use Rattle.std.specs.Prelude.{ℕ, Bool, true, false, List, [], ◌∷◌, Optio
 use Rattle.enet_codec.specs.declared.address.Addr.{Addr}
 use Rattle.enet_codec.specs.declared.event.Event.{Event}
 use Rattle.enet_codec.specs.declared.event.PeerRef.{PeerRef}
-use Rattle.enet_host.specs.Host.{Host}
+use Rattle.enet_host.specs.Host.{Host, Keeps}
 use Rattle.enet_slot.specs.Giving.{no_address}
 use Rattle.law_network.specs.Calls.{Call}
 use Rattle.law_network.specs.Log.{Logged}
@@ -11,6 +11,18 @@ use Rattle.law_network.specs.Network.{HostEnd, Site, fresh_end}
 use Rattle.law_network.specs.Steps.{Called, with_event}
 use Rattle.enet_records.specs.Records.{Records}
 use Rattle.enet_site.specs.Sites.{site}
+use Rattle.enet_peer.specs.Peering.{Peering}
+use Rattle.law_connection.specs.LinkSteps.{Has}
+use Rattle.law_network.specs.Shown.{ShowsPeer}
+
+-- of each end the host has the peer, or gave it up, so that nobody is called so any more
+abbrev pub AreShown : Host → List HostEnd → Type 0
+AreShown h ends = (e : HostEnd) → Has ends e → (p : Peering) × ShowsPeer h e.name p
+
+-- what holds of each site
+pub record IsWhole (h : Host) (ends : List HostEnd) : Type 0 where
+  pub keeps : Keeps h
+  pub shown : AreShown h ends
 
 -- a host with these ends, and a datagram of a connection to a peer id: all that the test for earlier connections looks at
 abbrev pub with_ends : Host → List HostEnd → Site

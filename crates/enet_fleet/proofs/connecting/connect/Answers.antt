@@ -7,7 +7,7 @@ use Rattle.enet_fleet.specs.contracts.hosts.Hosts.{the_view}
 use Rattle.enet_fleet.specs.declared.event.FleetEvent.TheVariants as happen
 use Rattle.law_headline.specs.declared.node.Node.TheVariants.{Server}
 use Rattle.enet_fleet.specs.Fleets.{Fleet}
-use Rattle.enet_fleet.specs.Reached.{IsReached}
+use Rattle.enet_fleet.specs.Private.Reached.{IsReached}
 use Rattle.enet_fleet.proofs.Reaching.{at-its-address}
 use Rattle.enet_fleet.proofs.Stepping.{asks, ask-refused, at-client}
 use Rattle.enet_fleet.proofs.connecting.connect.Goals as goal

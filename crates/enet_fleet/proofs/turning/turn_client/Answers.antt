@@ -8,7 +8,7 @@ use Rattle.enet_fleet.specs.contracts.hosts.Hosts.{the_view}
 use Rattle.enet_fleet.specs.declared.event.FleetEvent.TheVariants as happen
 use Rattle.law_headline.specs.declared.node.Node.TheVariants.{Client}
 use Rattle.enet_fleet.specs.Fleets.{Fleet, is_host}
-use Rattle.enet_fleet.specs.Reached.{IsReached}
+use Rattle.enet_fleet.specs.Private.Reached.{IsReached}
 use Rattle.enet_fleet.specs.Private.Turning.{PutsOutByTurn}
 use Rattle.enet_fleet.proofs.Reaching.{owned-at}
 use Rattle.enet_fleet.proofs.Stepping.{turned, not-turned, at-client}

@@ -6,7 +6,7 @@ use Rattle.enet_site.specs.Places.{Place}
 use Rattle.enet_fleet.specs.declared.event.FleetEvent.TheVariants as happen
 use Rattle.law_headline.specs.declared.node.Node.TheVariants.{Server}
 use Rattle.enet_fleet.specs.Fleets.{Fleet, is_host, numbers_at, client_in, Steps}
-use Rattle.enet_fleet.specs.Reached.{IsReached}
+use Rattle.enet_fleet.specs.Private.Reached.{IsReached}
 use Rattle.enet_fleet.specs.Private.Turning.{PutsOutByTurn}
 use Rattle.enet_fleet.proofs.Reaching.{owned-at}
 use Rattle.enet_fleet.proofs.Stepping.{turned, not-turned}

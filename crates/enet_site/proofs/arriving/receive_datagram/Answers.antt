@@ -1,11 +1,11 @@
 use Rattle.std.proofs.Common.{◌≡◌, Bool, List, [], ◌∷◌, ◌++◌, length, sym, ap, subst, ◌∙◌}
 use Rattle.law_network.specs.Log.{Logged}
 use Rattle.law_network.specs.Network.{HostEnd, fresh_end}
-use Rattle.enet_records.specs.Records.{Records, AreKept}
+use Rattle.enet_records.specs.Records.{Records}
+use Rattle.enet_records.specs.Private.Records.{AreKept}
 use Rattle.enet_records.proofs.Fresh.{fresh-kept}
 use Rattle.enet_records.proofs.Keeps.{kept-more}
-use Rattle.enet_site.specs.Sites.{AreShown}
-use Rattle.enet_site.specs.Private.Sites.{begun_if}
+use Rattle.enet_site.specs.Private.Sites.{AreShown, begun_if}
 use Rattle.enet_site.proofs.Beginning.{next-other}
 use Rattle.enet_site.proofs.Hears.{brought-by}
 use Rattle.enet_site.proofs.arriving.receive_datagram.Goals as goal
