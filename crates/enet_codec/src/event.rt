@@ -7,8 +7,9 @@ use crate::{Packet, Refusal, Stop};
 use bytes::Bytes;
 
 /// A peer of a host: its slot and the slot's generation. Each time that a slot is freed and taken again it gets the next
-/// generation, so a name of an earlier peer never means a later one (our profile: ENet names a peer by its slot alone).
-#[derive(Clone, Copy, Debug, PartialEq, Eq)]
+/// generation, so a name of an earlier peer never means a later one (our profile: ENet names a peer by its slot alone). Peers are in the
+/// order of their slots, those of one slot in the order in which they had it, so that a map can have them as its keys.
+#[derive(Clone, Copy, Debug, PartialEq, Eq, PartialOrd, Ord, Hash)]
 pub struct PeerRef {
     /// 0 to 4,094.
     pub slot: u16,
