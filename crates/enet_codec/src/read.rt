@@ -3,8 +3,7 @@
 ghost use Rattle.std.specs.Prelude.{◌≡◌, ℕ, ◌≤◌, ◌+◌, ◌<◌, length, drop, take, slice_index, List, [], ◌++◌, true, IfSome, IfNone, IsSomeAnd};
 ghost use Rattle.enet_codec.specs.Message.{Message, Spells, view};
 ghost use Rattle.std.specs.Int.{w8, w16, w32, from_be_bytes};
-ghost use Rattle.enet_codec.specs.Reading.{command_at, head_at, is_kind, layout, message_at, message_of, numbers_at, size_of, offer_of, verify_of, fragment_of};
-ghost use Rattle.enet_codec.specs.Private.Reading.{Gives};
+ghost use Rattle.enet_codec.specs.Private.Reading.{command_at, head_at, is_kind, layout, message_at, message_of, numbers_at, size_of, offer_of, verify_of, fragment_of, Gives};
 
 use crate::command::{ACKNOWLEDGE, Command, Fragment, Head, Offer, UNSEQUENCED, Verify};
 use crate::table::row_of;
@@ -253,7 +252,7 @@ fn after_head(kind: u8, head: Head, bytes: &[u8]) -> Option<(Command<'_>, &[u8])
 }
 
 // The command at the front, and the bytes behind it.
-#[tactic(auto, unfolding(crate::specs::Reading::message_at))]
+#[tactic(auto, unfolding(crate::specs::Private::Reading::message_at))]
 fn read(bytes: &[u8]) -> Option<(Command<'_>, &[u8])>
     ensures { Gives result (message_at bytes.now) }
 {

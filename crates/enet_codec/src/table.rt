@@ -1,8 +1,7 @@
 //! The table of the commands, by which they are read and written.
 
 ghost use Rattle.std.specs.Prelude.{◌≡◌, ◌+◌, ◌≤◌, length, IfSome, IfNone, None, Some, false};
-ghost use Rattle.enet_codec.specs.Reading.{is_kind};
-ghost use Rattle.enet_codec.specs.Private.Reading.{Tells, len_at};
+ghost use Rattle.enet_codec.specs.Private.Reading.{is_kind, Tells, len_at};
 
 use crate::read::u16_at;
 
