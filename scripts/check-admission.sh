@@ -6,14 +6,8 @@
 # where one failed. It takes two minutes.
 cd "$(dirname "$0")/.." || exit 1
 . scripts/clients.sh
+. scripts/tally.sh
 program=${1:-crates/enet_relay/out/enet_relay}
-passed=0
-failed=0
-
-fail() {
-    echo "FAILED $1: $2"
-    failed=$((failed + 1))
-}
 
 # A server with the words from $1 on, whose control is descriptor 8 and whose log is $room/log.
 begin() {

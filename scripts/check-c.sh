@@ -30,9 +30,8 @@
 cd "$(dirname "$0")/.." || exit 1
 . scripts/clients.sh
 . scripts/in-memory.sh
+. scripts/tally.sh
 archive=${1:-crates/enet_c/out/libenet_c.a}
-passed=0
-failed=0
 
 fail() {
     echo "FAILED $1: $(tail -n 20 "$2" 2> /dev/null)"

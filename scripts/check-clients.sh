@@ -12,16 +12,10 @@
 # failed'; the status is 1 where one failed. It ends within 4 minutes.
 cd "$(dirname "$0")/.." || exit 1
 . scripts/clients.sh
+. scripts/tally.sh
 program=${1:-crates/enet_relay/out/enet_relay}
 example=crates/example_echo/out/example_echo
 game=crates/example_game/out/example_game
-passed=0
-failed=0
-
-fail() {
-    echo "FAILED $1: $2"
-    failed=$((failed + 1))
-}
 
 # Ends what an attempt started.
 end_attempt() {

@@ -7,9 +7,8 @@
 # failed, and as last line 'N passed, M failed'; the status is 1 where one failed.
 cd "$(dirname "$0")/.." || exit 1
 . scripts/clients.sh
+. scripts/tally.sh
 program=$(realpath "${1:-crates/enet_relay/out/enet_relay}")
-passed=0
-failed=0
 room=$(mktemp -d) || exit 1
 started=()
 trap 'kill "${started[@]}" 2> "$room/gone"; rm -rf "$room"' EXIT

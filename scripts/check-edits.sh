@@ -19,13 +19,7 @@
 # each that fits passes. Prints what failed, and for each crate how many edits became what, in how many seconds. The last line is 'N passed, M
 # failed'; the status is 1 where one failed, or nothing was tried.
 cd "$(dirname "$0")/.." || exit 1
-passed=0
-failed=0
-
-fail() {
-    echo "FAILED $1: $2"
-    failed=$((failed + 1))
-}
+. scripts/tally.sh
 
 # Whether there are edits of the crate $1.
 has_edits() {

@@ -5,15 +5,9 @@
 # them. The last line is 'N passed, M failed'; the status is 1 where one fails. The
 # program is the one that `rt ci`, or `rt run` in crates/enet_relay, leaves; another can be named as argument.
 cd "$(dirname "$0")/.." || exit 1
+. scripts/tally.sh
 program=$(realpath -m "${1:-crates/enet_relay/out/enet_relay}")
 captures=trials/captured
-passed=0
-failed=0
-
-fail() {
-    echo "FAILED $1: $2"
-    failed=$((failed + 1))
-}
 
 # An input: its name here, the file that has it, the files of the wanted output and standard error, and the wanted status. It is read from
 # standard input, and by its name.

@@ -9,14 +9,8 @@
 # It ends within a minute. A row has at most so many growths as the argument says, 1,000 where none is given.
 cd "$(dirname "$0")/.." || exit 1
 . scripts/clients.sh
+. scripts/tally.sh
 most=${1:-1000}
-passed=0
-failed=0
-
-fail() {
-    echo "FAILED $1: $2"
-    failed=$((failed + 1))
-}
 
 # Runs the program $1 with growth $2 refused (none where that is 0), and the standard input $room/input.
 run_with() {

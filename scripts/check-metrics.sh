@@ -9,9 +9,8 @@
 # Prints what failed, and as last line 'N passed, M failed'; the status is 1 where one failed. It takes two and a half minutes.
 cd "$(dirname "$0")/.." || exit 1
 . scripts/clients.sh
+. scripts/tally.sh
 program=${1:-crates/enet_relay/out/enet_relay}
-passed=0
-failed=0
 
 fail() {
     echo "FAILED $1 in $threads threads: $2"

@@ -13,13 +13,7 @@ program=${1:-crates/enet_relay/out/enet_relay}
 lists=crates/check_memory/out/check_memory
 rows=scripts/rows
 . scripts/clients.sh
-passed=0
-failed=0
-
-fail() {
-    echo "FAILED $1: $2"
-    failed=$((failed + 1))
-}
+. scripts/tally.sh
 
 # A script: its name, its file, and the files of the wanted output, of the wanted standard error, and the wanted status.
 script() {

@@ -9,16 +9,10 @@
 #     check-speed.sh --print CHECKOUT  prints for each line what the programs of another built checkout take
 cd "$(dirname "$0")/.." || exit 1
 . bench/input.sh
+. scripts/tally.sh
 counts=bench/instructions.txt
 task=${1:-compare}
 top=$PWD
-passed=0
-failed=0
-
-fail() {
-    echo "FAILED $1: $2"
-    failed=$((failed + 1))
-}
 
 # Valgrind, installed as root where it is missing.
 have_valgrind() {
