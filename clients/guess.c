@@ -3,9 +3,7 @@
 // and told how many guesses there were, all that came on channel 1 was the news that somebody else has won, and the server ended the
 // connection then; else it says why on standard error, with status 2 where something came too late, and status 1 where anything else is
 // amiss.
-#include <enet/enet.h>
-
-#include "common.h"
+#include "visitor.h"
 
 enum { GREATEST = 1000, LIMIT = 60 };
 
@@ -60,12 +58,8 @@ static void hear_news(const ENetPacket *packet)
 
 int main(int count, char **words)
 {
-    ENetAddress address = { .port = (enet_uint16)number_of(count, words, 1, 1, 65535) };
-    enet_address_set_host_ip(&address, "127.0.0.1");
-    ENetHost *host = enet_initialize() == 0 ? enet_host_create(NULL, 1, 2, 0, 0) : NULL;
-    ENetPeer *peer = host == NULL ? NULL : enet_host_connect(host, &address, 2, 0);
-    if (peer == NULL)
-        give_up("there is no host");
+    ENetPeer *peer;
+    ENetHost *host = visit(count, words, &peer);
     ENetEvent event;
     double begun = now();
     while (now() < begun + LIMIT) {

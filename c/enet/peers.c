@@ -207,15 +207,19 @@ static void let_go(Layer *layer, ENetPeer *peer, enet_uint32 data) {
     layer_release_of(layer, peer);
 }
 
-/* A connection that the program wasn't told of ends with no event. */
+/* The slot of a peer whose connection the program was told of, which is to end; else NULL: a connection that it wasn't told of ends at once,
+ * with no event. */
+static Slot *slot_to_end(Layer *layer, ENetPeer *peer, enet_uint32 data) {
+    Slot *slot = slot_of(peer);
+    if (slot->known && slot->told) return slot;
+    if (slot->known) let_go(layer, peer, data);
+    return NULL;
+}
+
 void enet_peer_disconnect(ENetPeer *peer, enet_uint32 data) {
     Layer *layer = layer_of(peer->host);
-    Slot *slot = slot_of(peer);
-    if (!slot->known) return;
-    if (!slot->told) {
-        let_go(layer, peer, data);
-        return;
-    }
+    Slot *slot = slot_to_end(layer, peer, data);
+    if (slot == NULL) return;
     if (gofnjerta_disconnect(&layer->core, slot->name, data)) return;
     layer_drop_kept(layer, peer);
     slot->is_mute = true;
@@ -225,12 +229,8 @@ void enet_peer_disconnect(ENetPeer *peer, enet_uint32 data) {
 
 void enet_peer_disconnect_later(ENetPeer *peer, enet_uint32 data) {
     Layer *layer = layer_of(peer->host);
-    Slot *slot = slot_of(peer);
-    if (!slot->known) return;
-    if (!slot->told) {
-        let_go(layer, peer, data);
-        return;
-    }
+    Slot *slot = slot_to_end(layer, peer, data);
+    if (slot == NULL) return;
     gofnjerta_disconnect_later(&layer->core, slot->name, data);
     layer_show_peer(layer, peer);
 }
