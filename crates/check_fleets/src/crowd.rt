@@ -3,9 +3,8 @@
 use crate::list::stepped;
 use anyhow::{Result, bail};
 use bytes::Bytes;
-use check_outcome::{FIRST_CLIENT, SERVER};
 use enet_codec::{Addr, Config, Event, PeerRef};
-use enet_fleet::{Answer, Fleet, FleetEvent, Node};
+use enet_fleet::{Answer, FIRST_CLIENT, Fleet, FleetEvent, Node, SERVER};
 use std::alloc::Global;
 
 /// What hosts do by turns.

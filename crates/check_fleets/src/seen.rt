@@ -1,8 +1,8 @@
 //! What was seen of the hosts of a fleet.
 
-use check_outcome::{FIRST_CLIENT, Known, Peers, SERVER, SLOTS, Way};
+use check_outcome::{Known, Peers, SLOTS, Way};
 use enet_codec::{Addr, Event, PeerRef};
-use enet_fleet::{Fleet, Node};
+use enet_fleet::{FIRST_CLIENT, Fleet, Node, SERVER};
 
 /// How many clients a fleet has.
 pub const CLIENTS: u16 = 4;

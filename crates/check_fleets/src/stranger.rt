@@ -2,9 +2,9 @@
 
 use crate::seen::{CLIENTS, Guest, Seen};
 use bytes::Bytes;
-use check_outcome::{Draw, FIRST_CLIENT, SERVER};
+use check_outcome::Draw;
 use enet_codec::Addr;
-use enet_fleet::{Fleet, FleetEvent, Node};
+use enet_fleet::{FIRST_CLIENT, Fleet, FleetEvent, Node, SERVER};
 use std::alloc::{AllocError, Global};
 
 /// Where the first stranger is; two others are at the ports behind.

@@ -28,7 +28,7 @@ pub use fleet::{is_end_sound, is_fleet_sound};
 pub use following::follows;
 pub use life::is_life;
 pub use lives::{Lives, Told};
-pub use page::{FIRST_CLIENT, Page, SERVER, peer_of};
+pub use page::{Page, peer_of};
 pub use peers::{Peers, SLOTS};
 pub use setting::Setting;
 pub use sound::{is_side_sound, is_sound};

@@ -2,20 +2,8 @@
 
 use crate::draw::CHANNELS;
 use enet_codec::{Addr, Event, PeerRef, Received, Refusal};
-use enet_fleet::{Answer, FleetEvent, Node};
+use enet_fleet::{Answer, FIRST_CLIENT, FleetEvent, Node, SERVER};
 use std::alloc::{AllocError, Global};
-
-/// Where a fleet has its server.
-pub const SERVER: Addr = Addr {
-    ip: 0x0A00_0001,
-    port: 7001,
-};
-
-/// Where a fleet has its first client; the others are at the ports behind.
-pub const FIRST_CLIENT: Addr = Addr {
-    ip: 0x0A00_0002,
-    port: 7002,
-};
 
 /// A packet that was submitted: its bytes and flags.
 type Packet<'a> = (&'a [u8], u8);

@@ -1,16 +1,13 @@
 //! The commands of a datagram.
 
 ghost use Rattle.std.specs.Prelude.{◌≡◌, ◌≤◌, ◌++◌, List, length, drop, IfOk};
-ghost use Rattle.enet_text.specs.Described.{is_compressed, why_unread};
 ghost use Rattle.enet_captured.specs.declared.told.Told.{Told};
 ghost use Rattle.enet_captured.specs.Private.Readings.{Says, SaysRest};
 
 use crate::told::{Told, told_of};
 use enet_codec::{Stop, read_command, read_header};
+use enet_text::why_unread;
 use std::alloc::AllocError;
-
-/// The bit of the first byte that says that the datagram is compressed.
-const COMPRESSED: u8 = 0x40;
 
 /// Puts the commands of a datagram behind those that are there, in order, and gives why what stands behind them can't be read: None where
 /// nothing does. An error where there is no memory for them.
@@ -27,27 +24,6 @@ pub(crate) fn read_commands(
         return Ok(Some(Stop::Compressed));
     }
     read_rest(told, datagram, len)
-}
-
-// Why a datagram has no header that can be read.
-fn why_unread(datagram: &[u8]) -> Stop
-    ensures { result ≡ why_unread datagram.now }
-{
-    if datagram.len() < 2 {
-        return Stop::Short;
-    }
-    if is_compressed(datagram) {
-        Stop::Compressed
-    } else {
-        Stop::Short
-    }
-}
-
-fn is_compressed(datagram: &[u8]) -> bool
-    requires { 2 ≤ length datagram.now }
-    ensures { result ≡ is_compressed datagram.now }
-{
-    datagram[0] & COMPRESSED != 0
 }
 
 // The commands that stand behind the header, which ends at a place.

@@ -18,14 +18,14 @@ use law_headline::Node;
 use std::alloc::Global;
 use std::marker::Model;
 
-/// Where the server is.
-pub(crate) const SERVER: Addr = Addr {
+/// Where the server of a fleet is.
+pub const SERVER: Addr = Addr {
     ip: 0x0A00_0001,
     port: 7001,
 };
 
-/// Where the first client is. The others are at the ports after it.
-const FIRST_CLIENT: Addr = Addr {
+/// Where the first client of a fleet is. The others are at the ports after it.
+pub const FIRST_CLIENT: Addr = Addr {
     ip: 0x0A00_0002,
     port: 7002,
 };

@@ -5,7 +5,7 @@ ghost use Rattle.std.specs.String.{string_bytes};
 ghost use Rattle.enet_lab.specs.Hosts.{side_named, client_named, node_named, host_named, node_text, host_text, recipient_at, recipient_text, address_to};
 
 use enet_codec::Addr;
-use enet_fleet::Node;
+use enet_fleet::{FIRST_CLIENT, Node, SERVER};
 use enet_text::{address_text, u16_of};
 use law_network::Side;
 use std::alloc::{AllocError, Global};
@@ -28,18 +28,6 @@ pub enum Recipient {
     Stranger(Addr),
 }
 
-/// The server's address.
-const SERVER: Addr = Addr {
-    ip: 0x0A00_0001,
-    port: 7001,
-};
-
-/// Where the clients are, and the port of the first.
-const CLIENTS: Addr = Addr {
-    ip: 0x0A00_0002,
-    port: 7002,
-};
-
 impl Recipient {
     /// Whom a datagram to this address goes to, in a fleet of so many clients: the host that is there, or else a stranger.
     pub fn at(clients: usize, addr: Addr) -> Recipient
@@ -49,8 +37,8 @@ impl Recipient {
         if addr == SERVER {
             return Recipient::Host(Node::Server);
         }
-        match addr.port.checked_sub(CLIENTS.port) {
-            Some(client) if addr.ip == CLIENTS.ip && usize::from(client) < clients => {
+        match addr.port.checked_sub(FIRST_CLIENT.port) {
+            Some(client) if addr.ip == FIRST_CLIENT.ip && usize::from(client) < clients => {
                 Recipient::Host(Node::Client(client))
             }
             _ => Recipient::Stranger(addr),

@@ -36,8 +36,8 @@ pub(crate) fn push_description(text: &mut String, datagram: &[u8]) -> Result<(),
     push_commands(text, datagram, len)
 }
 
-// Why a datagram has no header that can be read.
-fn why_unread(datagram: &[u8]) -> Stop
+/// Why a datagram can't be read at whose front no header stands: `S2 Compressed` where it says that it is compressed, else `S1 Short`.
+pub fn why_unread(datagram: &[u8]) -> Stop
     ensures { result ≡ why_unread datagram.now }
 {
     if datagram.len() < 2 {

@@ -25,7 +25,7 @@ mod texts;
 mod words;
 
 pub use answers::{address_text, bytes_text, event_text, peer_text, received_text, refusal_text};
-pub use datagram::describe;
+pub use datagram::{describe, why_unread};
 pub use fault::InspectFault;
 pub use inspecting::inspect;
 pub use line::{Line, read_line};
