@@ -12,7 +12,7 @@ const MOST: usize = 256;
 
 /// A connection, and whither a datagram of it goes.
 #[derive(Clone, Copy)]
-pub(crate) struct Seat {
+pub(crate) struct Belonging {
     pub connection: usize,
     pub way: Way,
 }
@@ -20,16 +20,16 @@ pub(crate) struct Seat {
 /// The connection of a datagram between two addresses: the last one between them, or a new one where there is none, or where the datagram
 /// has a CONNECT and that one began with another. None where it would be new and there are as many as are kept. An error where there is no
 /// memory for it.
-pub(crate) fn seat_for(
+pub(crate) fn connection_for(
     connections: &mut Vec<Connection>,
     from: Addr,
     to: Addr,
     id: Option<u32>,
-) -> Result<Option<Seat>, AllocError> {
+) -> Result<Option<Belonging>, AllocError> {
     if let Some(connection) = last_between(connections.as_slice(), from, to) {
         let last = connections[connection];
         if goes_on(last, id) {
-            return Ok(way_in(last, from, to).map(|way| Seat { connection, way }));
+            return Ok(way_in(last, from, to).map(|way| Belonging { connection, way }));
         }
     }
     let connection = connections.len();
@@ -41,7 +41,7 @@ pub(crate) fn seat_for(
         right: to,
         id,
     })?;
-    Ok(Some(Seat {
+    Ok(Some(Belonging {
         connection,
         way: Way::Right,
     }))

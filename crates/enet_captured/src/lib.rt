@@ -7,7 +7,7 @@
 //! (`told_of`), and that those of a datagram stand behind one another (`push_marks`); when it was captured (`moment_of`); between which
 //! connections' ends it goes, which is the last such connection, and whether it goes on with that (`way_in`, `last_between`, `goes_on`).
 //! Only tested, by scripts/check-inspect.sh over 446 captured datagrams, crowds, random datagrams and captures that are cut short: that a
-//! datagram is put into the connection that was found (`seat_for`, `note`); how many commands aren't acknowledged (`unanswered`), and the
+//! datagram is put into the connection that was found (`connection_for`, `note`); how many commands aren't acknowledged (`unanswered`), and the
 //! longest gap (`longest_gap`).
 #![tactic(auto)]
 

@@ -4,7 +4,7 @@ ghost use Rattle.std.specs.Prelude.{◌≡◌, ◌++◌, map, OnOk};
 ghost use Rattle.enet_captured.specs.Counts.{same_way};
 ghost use Rattle.enet_captured.specs.Private.Timelines.{mark_of, moment_of};
 
-use crate::connections::{Seat, seat_for};
+use crate::connections::{Belonging, connection_for};
 use crate::fault::TimelineFault;
 use crate::reading::read_commands;
 use crate::told::{Detail, Kind, Told};
@@ -160,9 +160,9 @@ fn note(
     told.clear();
     let stop = read_commands(told, datagram.payload)?;
     let id = offered_in(told.as_slice());
-    match seat_for(&mut timeline.connections, datagram.from, datagram.to, id)? {
+    match connection_for(&mut timeline.connections, datagram.from, datagram.to, id)? {
         None => timeline.unkept = timeline.unkept.saturating_add(1),
-        Some(Seat { connection, way }) => {
+        Some(Belonging { connection, way }) => {
             let len = datagram.payload.len();
             timeline.seen.push(Seen {
                 number,
