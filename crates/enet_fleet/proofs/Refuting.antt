@@ -10,7 +10,8 @@ use Rattle.law_headline.specs.Page.{Follows, IsInOrder, submitted_if}
 use Rattle.law_headline.proofs.Kept.{name-slot, name-generation}
 use Rattle.enet_fleet.specs.Fleets.{address_of}
 use Rattle.enet_fleet.specs.Transcript.{Happened, IsOnTranscript, user, asked, placed}
-use Rattle.enet_fleet.specs.Refuted.{first, second, stranger, lie, swap, loan, early, slip, cross, NamesAreTied, OwnNamesAlone, LieIsRefuted, SwapIsRefuted, LoanIsRefuted, EarlyIsRefuted, AstrayIsRefuted, MirrorIsRefuted, SlipIsRefuted, CrossIsRefuted}
+use Rattle.enet_fleet.specs.Examples.{stranger}
+use Rattle.enet_fleet.specs.Refuted.{first, second, lie, swap, loan, early, slip, cross, NamesAreTied, OwnNamesAlone, LieIsRefuted, SwapIsRefuted, LoanIsRefuted, EarlyIsRefuted, AstrayIsRefuted, MirrorIsRefuted, SlipIsRefuted, CrossIsRefuted}
 
 pub tied : NamesAreTied
 tied clients hs h p k i low told all =

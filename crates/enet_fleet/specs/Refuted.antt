@@ -9,6 +9,7 @@ use Rattle.law_headline.specs.declared.node.Node.TheVariants.{Server, Client}
 use Rattle.enet_fleet.specs.declared.answer.Answer.TheVariants as answers
 use Rattle.enet_fleet.specs.declared.event.FleetEvent.TheVariants as happen
 use Rattle.enet_fleet.specs.Fleets.{address_of}
+use Rattle.enet_fleet.specs.Examples.{stranger}
 use Rattle.enet_fleet.specs.Transcript.{Happened, IsOnTranscript, IsOnEachFront, asked, placed}
 
 -- ---- of every list
@@ -23,9 +24,6 @@ OwnNamesAlone = (clients : ℕ) (hs : List Happened) (h : IsOnTranscript clients
     → slice_get (placed Server p hs) k ≡ Some a → a ≢ address_of (Client i) → h.headline.here x ≢ Some p
 
 -- ---- false lists
-abbrev pub stranger : Addr
-stranger = record { ip = 0x0A000909; port = 5000 }
-
 abbrev pub first : PeerRef
 first = record { slot = 0; generation = 0 }
 

@@ -1,15 +1,11 @@
 -- How a script begins, what a fault says, and bytes that stay written.
-use Rattle.std.proofs.Common.{◌≡◌, ℕ, List, Option, Some, None, Result, Ok, Err, IfSome, IfErr, IsErrAnd, sym, subst}
-use Rattle.std.proofs.KnownBytes.{Appends-kept}
+use Rattle.std.proofs.Common.{◌≡◌, ℕ, List, Option, Result, Ok, Err, IfSome, IfErr, IsErrAnd, sym, subst}
 use Rattle.std.specs.Io.KnownBytes.{Keeps}
+use Rattle.enet_text.proofs.Inputs.{kept}
 use Rattle.enet_lab.specs.declared.fault.LabFault.{LabFault}
 use Rattle.enet_lab.specs.declared.fault.LabFault.TheVariants as faults
-use Rattle.enet_lab.specs.Scripts.{IsPart, IsStopped, Wrote}
-
--- what was written stays so
-kept : (P : List ℕ → List ℕ → Type 0) (o a b c : Option (List ℕ)) → IfSome o (λ script. Wrote a b (P script)) → Keeps b c → IfSome o (λ script. Wrote a c (P script))
-kept P None a b c h k = tt
-kept P (Some script) a b c h k = (h.0, Appends-kept a b c h.0 h.1 k, h.2)
+use Rattle.enet_text.specs.Inspected.{Wrote}
+use Rattle.enet_lab.specs.Scripts.{IsPart, IsStopped}
 
 pub still_stopped : {T : Type 0} (r : Result T LabFault) (o a b c : Option (List ℕ))
     → IfErr r (λ fault. (number : ℕ) → fault ≡ faults.BadScript number → IfSome o (λ script. Wrote a b (λ wrote. IsStopped script wrote number))) → Keeps b c

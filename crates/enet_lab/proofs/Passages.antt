@@ -6,7 +6,8 @@ use Rattle.enet_lab.specs.declared.fault.LabFault.{LabFault}
 use Rattle.enet_lab.specs.declared.fault.LabFault.TheVariants.{BadScript, Memory}
 use Rattle.enet_lab.specs.declared.stage.Stage.{Stage}
 use Rattle.enet_lab.specs.Lines.{RunsLine, can_read}
-use Rattle.enet_lab.specs.Scripts.{HasRun, IsRun, IsPart, IsStopped, Wrote, written_for}
+use Rattle.enet_text.specs.Inspected.{Wrote}
+use Rattle.enet_lab.specs.Scripts.{HasRun, IsRun, IsPart, IsStopped, written_for}
 use Rattle.enet_lab.specs.Private.Scripts.{given}
 use Rattle.enet_lab.proofs.Running.{partly, stopped}
 

@@ -1,6 +1,5 @@
 -- What a whole script writes.
 use Rattle.std.specs.Prelude.{◌≡◌, ◌≢◌, ℕ, ◌+◌, ⊤, min, false, All, flat_map, List, [], ◌∷◌, ◌++◌, length, Option, Some, None}
-use Rattle.std.specs.Io.KnownBytes.{Appends}
 use Rattle.enet_lab.specs.declared.stage.Stage.{Stage}
 use Rattle.enet_lab.specs.declared.stage.Stage.TheVariants.{Empty}
 use Rattle.enet_lab.specs.Lines.{RunsLine, can_read}
@@ -68,7 +67,3 @@ pub record IsStopped (script wrote : List ℕ) (number : ℕ) : Type 0 where
   pub ends : EndsLine part.rest
   pub unreadable : can_read part.stage part.line ≡ false
   pub number_is : number ≡ min (part.count + 1) 4294967295
-
--- Bytes of which P holds were written, as far as the writer tells what it has.
-abbrev pub Wrote : Option (List ℕ) → Option (List ℕ) → (List ℕ → Type 0) → Type 0
-Wrote old new P = (bytes : List ℕ) × Appends old new bytes × P bytes

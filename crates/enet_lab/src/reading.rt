@@ -4,7 +4,8 @@ ghost use Rattle.std.specs.Prelude.{◌≡◌, ◌≤◌, ◌+◌, ◌++◌, ℕ
 ghost use Rattle.std.specs.Io.KnownBytes.{Keeps, Consumes, IsAtEnd};
 ghost use Rattle.enet_lab.specs.declared.stage.Stage.TheVariants as stages;
 ghost use Rattle.enet_lab.specs.Lines.{RunsLine, can_read};
-ghost use Rattle.enet_lab.specs.Scripts.{HasRun, IsPart, IsRun, IsStopped, Wrote, written_for};
+ghost use Rattle.enet_text.specs.Inspected.{Wrote};
+ghost use Rattle.enet_lab.specs.Scripts.{HasRun, IsPart, IsRun, IsStopped, written_for};
 ghost use Rattle.enet_lab.specs.Private.Scripts.{given};
 
 use crate::fault::LabFault;

@@ -9,7 +9,7 @@ use Rattle.enet_text.specs.Inspected.{Wrote}
 use Rattle.enet_text.specs.Captures.{IsToldInPart, IsToldToLine, IsToldToPacket}
 
 -- what was written stays so
-kept : (P : List ℕ → List ℕ → Type 0) (o a b c : Option (List ℕ)) → IfSome o (λ input. Wrote a b (P input)) → Keeps b c → IfSome o (λ input. Wrote a c (P input))
+pub kept : (P : List ℕ → List ℕ → Type 0) (o a b c : Option (List ℕ)) → IfSome o (λ input. Wrote a b (P input)) → Keeps b c → IfSome o (λ input. Wrote a c (P input))
 kept P None a b c h k = tt
 kept P (Some input) a b c h k = (h.0, Appends-kept a b c h.0 h.1 k, h.2)
 

@@ -1,6 +1,7 @@
 use Rattle.std.proofs.Common.{ℕ, List}
 use Rattle.std.specs.Io.KnownBytes.{Consumes}
-use Rattle.enet_lab.specs.Scripts.{HasRun, Wrote}
+use Rattle.enet_text.specs.Inspected.{Wrote}
+use Rattle.enet_lab.specs.Scripts.{HasRun}
 use Rattle.enet_lab.proofs.reading.run_script.Given as goal
 
 abbrev pub invariant-reads : goal.invariant-reads

@@ -1,5 +1,6 @@
 use Rattle.std.proofs.Common.{ℕ, List, ◌++◌, take}
-use Rattle.enet_lab.specs.Scripts.{HasRun, Wrote}
+use Rattle.enet_text.specs.Inspected.{Wrote}
+use Rattle.enet_lab.specs.Scripts.{HasRun}
 use Rattle.enet_lab.proofs.reading.take_in.Given as goal
 
 abbrev pub invariant-loop-byte : goal.invariant-loop-byte
