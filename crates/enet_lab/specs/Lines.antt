@@ -1,5 +1,5 @@
 -- What a line of a script does to what the lines so far have made.
-use Rattle.std.specs.Prelude.{◌≡◌, ℕ, ◌&&◌, Bool, true, false, List, [], codes, Option, Some, None, Result, Ok, Err, ⊤, length, replicate, slice_get}
+use Rattle.std.specs.Prelude.{◌≡◌, ℕ, ◌&&◌, Bool, true, false, List, [], codes, Option, Some, None, Result, Ok, Err, length, replicate, slice_get}
 use Rattle.enet_codec.specs.declared.address.Addr.{Addr}
 use Rattle.enet_codec.specs.declared.config.Config.{Config}
 use Rattle.enet_codec.specs.declared.refusal.Refusal.{Refusal}
@@ -28,8 +28,6 @@ use Rattle.enet_lab.specs.declared.line.Line.TheVariants as spelled
 use Rattle.enet_lab.specs.Answers.{outcome_shown, outcome_text, calm_text}
 use Rattle.enet_lab.specs.Hosts.{recipient_at}
 use Rattle.enet_lab.specs.EnetLines.{spells}
-use Rattle.enet_lab.specs.declared.fault.LabFault.{LabFault}
-use Rattle.enet_lab.specs.declared.fault.LabFault.TheVariants as faults
 use Rattle.enet_lab.specs.declared.stage.Stage.{Stage}
 use Rattle.enet_lab.specs.declared.stage.Stage.TheVariants.{Empty, InWorld, InFleet, Refused}
 
@@ -154,9 +152,3 @@ RunsAs old (Some line) text new = Does old line text new
 
 abbrev pub RunsLine : Stage → List ℕ → Option (List ℕ) → Stage → Type 0
 RunsLine old line text new = RunsAs old (spells line) text new
-
--- Why a line wasn't run: memory, or it has this number and can't be read.
-abbrev pub IsRefused : ℕ → Bool → LabFault → Type 0
-IsRefused number readable faults.Memory = ⊤
-IsRefused number readable (faults.BadScript line) = (line ≡ number) × (readable ≡ false)
-IsRefused number readable faults.Io = ⊥

@@ -6,7 +6,8 @@ ghost use Rattle.std.specs.String.{string_bytes};
 ghost use Rattle.enet_codec.specs.Config.{standard_config};
 ghost use Rattle.enet_lab.specs.declared.line.Line.TheVariants as spelled;
 ghost use Rattle.enet_lab.specs.declared.stage.Stage.TheVariants as stages;
-ghost use Rattle.enet_lab.specs.Lines.{Begins, Does, IsRefused, MakesFleet, MakesWorld, Opens, RunsLine, can_do, can_read, is_empty};
+ghost use Rattle.enet_lab.specs.Lines.{Begins, Does, MakesFleet, MakesWorld, Opens, RunsLine, can_do, can_read, is_empty};
+ghost use Rattle.enet_lab.specs.Private.Lines.{IsRefused};
 
 use crate::fault::LabFault;
 use crate::stage::Stage;
