@@ -47,7 +47,9 @@ pub(crate) fn bytes_of(command: &DataCommand) -> u32
     }
 }
 
-/// Writes a command at a place, where it fits; of one that is a whole packet, as most are, no `Command` is made.
+/// Writes a command at a place, where it fits; of one that is a whole packet, as most are, no `Command` is made. It stays a function of
+/// its own: as part of the loop that packs a channel, each look there prepares what it needs, also where nothing goes.
+#[inline(never)]
 pub(crate) fn put(buf: &mut [u8], at: usize, channel: u8, command: &DataCommand) -> Option<usize>
     requires { IsShort command.now }
     ensures some { IfSome result (λ past. Puts buf.old at (canonical (message_of channel command.now)) buf.new past) }
