@@ -318,6 +318,7 @@ impl Peer {
 
     /// An acknowledgement comes. At a client that waits for its server's answer none has an effect: the answer alone stands for
     /// the acknowledgement of CONNECT.
+    #[inline(always)]
     fn on_acknowledge(&mut self, now: u32, channel: u8, number: u16, time: u16)
         ensures peer { self.new.peer ≡ on_acknowledge self.old.peer now channel number time }
         ensures acknowledgement_room { self.old.acknowledgement_room ≤ self.new.acknowledgement_room }
@@ -348,6 +349,7 @@ impl Peer {
     }
 
     /// A round trip was measured, by the sent time that an acknowledgement repeats.
+    #[inline(always)]
     fn sample(&mut self, now: u32, time: u16)
         ensures peer { self.new.peer ≡ sampled self.old.peer now time }
         ensures acknowledgement_room { self.new.acknowledgement_room ≡ self.old.acknowledgement_room }
