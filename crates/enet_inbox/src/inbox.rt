@@ -201,7 +201,19 @@ impl Inbox {
         places_taken(self.packets, self.untaken.len())
     }
 
-    /// The bytes of those packets, each counted whole from its first piece on. Whatever came, and whether or not the user takes, they
+    /// How many of those packets weren't dispatched: they are held, wait or are in the making. Whatever came, they are no more than there
+    /// are places, and one more for each channel.
+    pub fn undispatched(&self) -> usize
+        ensures value { result ≡ packets_in self.now.receivers }
+        ensures bound { packets_in self.now.receivers ≤ place_limit self.now.max_waiting + length self.now.receivers }
+        ensures few { result < 2 ^ 27 }
+    {
+        look_at(&self.receivers);
+        let _max_waiting = self.max_waiting;
+        self.packets
+    }
+
+    /// The bytes of all those packets, each counted whole from its first piece on. Whatever came, and whether or not the user takes, they
     /// are no more than twice `max_waiting` and 257 packets of `max_packet`; without the packets that weren't taken no more than
     /// `max_waiting`, a packet, and one more for each channel.
     pub fn bytes(&self) -> u128

@@ -22,7 +22,7 @@ use crate::arriving_data::ArrivingData;
 use crate::foreseeing::{Completed, dispatches};
 use crate::held::Held;
 use crate::releasing::release;
-use crate::storing::{make_room, store};
+use crate::storing::{give_room_back, make_room, store};
 use crate::{Foresight, Took};
 use bytes::Bytes;
 use enet_codec::{Command, Packet, Refusal};
@@ -302,6 +302,7 @@ impl Incoming {
         ensures { self.new ≡ alone self.old }
     {
         self.waiting.clear();
+        self.give_room_back();
     }
 
     /// Whether a command is of the packet just past the front, the next that is dispatched.
@@ -348,17 +349,28 @@ impl Incoming {
         self.channel
     }
 
-    /// The next dispatched packet, in the order in which they were dispatched; None where none is left. It takes no memory.
+    /// The next dispatched packet, in the order in which they were dispatched; None where none is left. It takes no memory, and gives
+    /// back what room is left over where none is left.
     pub fn pop(&mut self) -> Option<Packet>
         ensures { MatchOption result ((self.old.receiver.dispatched ≡ []) × (self.new ≡ self.old))
             (λ packet. (packet.channel ≡ self.old.channel) × (self.old ≡ with_first self.new packet)) }
     {
-        let dispatched = self.dispatched.pop_front()?;
+        let Some(dispatched) = self.dispatched.pop_front() else {
+            self.give_room_back();
+            return None;
+        };
         Some(Packet {
             channel: self.channel,
             flags: dispatched.flags,
             body: dispatched.body,
         })
+    }
+
+    /// Gives back what room to dispatch packets is left over.
+    fn give_room_back(&mut self)
+        ensures { self.new ≡ self.old }
+    {
+        give_room_back(self.alloc, &self.held, &self.waiting, &mut self.dispatched);
     }
 
     /// Lets all go that is held or waits; what was dispatched stays.
@@ -367,6 +379,7 @@ impl Incoming {
     {
         self.held.clear();
         self.waiting.clear();
+        self.give_room_back();
     }
 
     /// Takes a command in.

@@ -33,6 +33,28 @@ pub(crate) fn make_room(
         .is_ok()
 }
 
+/// For so many packets room to dispatch them stays, however few are held or wait.
+const STAYING_ROOM: usize = 64;
+
+/// Gives the room to dispatch packets back, where nothing is dispatched and it is for over four times as many as are held or wait. So a
+/// channel on which many were held or waited, and aren't any more, keeps no room for them.
+pub(crate) fn give_room_back(
+    alloc: Global,
+    held: &Held,
+    waiting: &Waiting,
+    dispatched: &mut VecDeque<Dispatched>,
+)
+    ensures { dispatched.new.items ≡ dispatched.old.items }
+{
+    let room = dispatched.capacity();
+    if room > STAYING_ROOM && dispatched.is_empty() {
+        let packets = held.len().saturating_add(waiting.packets());
+        if packets < room / 4 {
+            *dispatched = VecDeque::new(alloc);
+        }
+    }
+}
+
 /// The packet of which this is the first piece that came.
 pub(crate) fn begun(alloc: Global, arriving: ArrivingData<'_>) -> Result<IncomingPacket, Refusal>
     requires short { length arriving.payload.now < 2 ^ 32 }
