@@ -209,7 +209,7 @@ impl Inbox {
         ensures few { result < 2 ^ 27 }
     {
         look_at(&self.receivers);
-        let _max_waiting = self.max_waiting;
+        let _limit = self.max_waiting;
         self.packets
     }
 
