@@ -11,7 +11,9 @@ use Rattle.enet_slot.specs.Holding.{held_in}
 abbrev pub held_by : List SlotState → Held
 held_by slots = record {
   channels = sum_by (λ (s : SlotState). (held_in s.peer).channels) slots;
+  senders = sum_by (λ (s : SlotState). (held_in s.peer).senders) slots;
   packets = sum_by (λ (s : SlotState). (held_in s.peer).packets) slots;
+  undispatched = sum_by (λ (s : SlotState). (held_in s.peer).undispatched) slots;
   bytes = sum_by (λ (s : SlotState). (held_in s.peer).bytes) slots;
   acknowledgements = sum_by (λ (s : SlotState). (held_in s.peer).acknowledgements) slots;
 }
@@ -19,7 +21,9 @@ held_by slots = record {
 abbrev pub times : ℕ → Held → Held
 times n one = record {
   channels = n * one.channels;
+  senders = n * one.senders;
   packets = n * one.packets;
+  undispatched = n * one.undispatched;
   bytes = n * one.bytes;
   acknowledgements = n * one.acknowledgements;
 }

@@ -5,7 +5,7 @@ use Rattle.enet_peer.specs.Held.{held_of, most_of}
 use Rattle.enet_peer.specs.Peering.{Peering}
 
 abbrev pub nothing_held : Held
-nothing_held = record { channels = 0; packets = 0; bytes = 0; acknowledgements = 0 }
+nothing_held = record { channels = 0; senders = 0; packets = 0; undispatched = 0; bytes = 0; acknowledgements = 0 }
 
 -- what a slot's peer holds
 abbrev pub held_in : Option Peering → Held

@@ -10,7 +10,9 @@ use enet_peer::Held;
 /// What a free slot holds.
 const NOTHING: Held = Held {
     channels: 0,
+    senders: 0,
     packets: 0,
+    undispatched: 0,
     bytes: 0,
     acknowledgements: 0,
 };

@@ -1,9 +1,9 @@
-use Rattle.std.proofs.Common.{length, List, ap, arith, refl, ◌∙◌}
+use Rattle.std.proofs.Common.{◌≤◌, length, List, ap, arith, refl, ◌∙◌}
 use Rattle.std.proofs.lemmas.List.{take_all}
 use Rattle.enet_slot.specs.declared.slot.Slot.{Slot}
 use Rattle.enet_slot.specs.Slotted.{all_shown}
 use Rattle.enet_host.specs.Held.{held_by}
-use Rattle.enet_host.proofs.Adding.{held-more, little-more, within-done, within-more, nothing-within, nothing-little}
+use Rattle.enet_host.proofs.Adding.{held-more, little-done, little-more, within-done, within-more, nothing-within, nothing-little}
 use Rattle.enet_host.proofs.held.held_by.Goals as goal
 
 pub loop-slot-init : goal.loop-slot-init
@@ -22,6 +22,11 @@ loop-slot-preserved c =
 pub returns-clause-value : goal.returns-clause-value
 returns-clause-value c =
     c.loop-slot.invariant.value ∙ ap (λ (xs : List Slot). held_by (all_shown xs)) (take_all c.loop-slot.slot-index c.args.slots.now c.loop-slot-test.false)
+
+pub returns-clause-little : goal.returns-clause-little
+returns-clause-little c =
+    let inside : c.loop-slot.slot-index ≤ length c.args.slots.now = c.loop-slot.invariant.inside in
+    little-done c.loop-slot.slot-index c.loop-slot.total (omega (arith, inside, c.requires)) c.loop-slot.invariant.little
 
 pub returns-clause-bound : goal.returns-clause-bound
 returns-clause-bound c = λ x y limited. within-done c.loop-slot.slot-index (length c.args.slots.now) c.loop-slot.total x y c.loop-slot.invariant.inside (c.loop-slot.invariant.bound x y limited)

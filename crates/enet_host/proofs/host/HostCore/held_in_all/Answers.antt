@@ -5,7 +5,7 @@ use Rattle.enet_slot.specs.declared.slot.Slot.{Slot}
 use Rattle.enet_slot.specs.Slotted.{all_shown}
 use Rattle.enet_host.specs.Host.{Host}
 use Rattle.enet_host.specs.Held.{AreLimited, held_by, most_held, times}
-use Rattle.enet_host.proofs.host.HostCore.held.Goals as goal
+use Rattle.enet_host.proofs.host.HostCore.held_in_all.Goals as goal
 
 pub held_by-requires : goal.held_by-requires
 held_by-requires c =
