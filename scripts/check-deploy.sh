@@ -1,10 +1,11 @@
 #!/usr/bin/env bash
-# What deploy/ has, tried: `check-deploy.sh [PROGRAM]`. systemd-analyze verifies the units and finds the service exposed by at most 1.5 of
+# What deploy/ has, tried: `check-deploy.sh [PROGRAM]`. systemd-analyze verifies the units and finds the service exposed by at most 1.2 of
 # 10. The entrypoint of the container is process 1 of a namespace of its own: SIGTERM comes while four clients of the reference library talk
 # (clients/guests.c), all are told, and it ends with status 0. The wrapper for Agones runs beside a stub of the SDK's sidecar: it is ready,
-# healthy, allocated with the first client, and shut down, once by SIGTERM and once since the last client has left. PROGRAM is the built
-# `enet_relay`, by default the one that `rt ci`, or `rt run` in crates/enet_relay, leaves. Installs, as root, what is missing. Prints what
-# failed, and as last line 'N passed, M failed'; the status is 1 where one failed.
+# healthy, allocated with the first client, and shut down, once by SIGTERM and once since the last client has left; and it isn't called healthy
+# while one of its threads is stopped (clients/hold.c), the service's or the one that answers. PROGRAM is the built `enet_relay`, by default the
+# one that `rt ci`, or `rt run` in crates/enet_relay, leaves. Installs, as root, what is missing. Prints what failed, and as last line 'N
+# passed, M failed'; the status is 1 where one failed.
 cd "$(dirname "$0")/.." || exit 1
 . scripts/clients.sh
 . scripts/tally.sh
@@ -40,7 +41,7 @@ units() {
     cp /bin/sh "$room/root/bin/sh"
     systemd-analyze --root="$room/root" --recursive-errors=no verify "$unit/enet-relay.service" "$unit/enet-relay.socket" > "$room/why" 2>&1 || return 1
     [ ! -s "$room/why" ] || return 1
-    systemd-analyze --root="$room/root" --offline=true --threshold=15 security "$unit/enet-relay.service" > "$room/why" 2>&1
+    systemd-analyze --root="$room/root" --offline=true --threshold=12 security "$unit/enet-relay.service" > "$room/why" 2>&1
 }
 
 # Waits up to 10 seconds until the file $1 has a line that begins with $2.
@@ -107,6 +108,38 @@ agones() {
     wait "$wrapper" || { echo "status $?" > "$room/why"; return 1; }
 }
 
+# How often the sidecar was told of health.
+healthy() {
+    grep -c '^health$' "$room/sidecar"
+}
+
+# The wrapper of a program that tells figures, each of whose threads is stopped for six seconds: in the last four nobody is told of health, and
+# afterwards it is told again.
+hung() {
+    free_port
+    local sdk=$port wrapper first thread before
+    python3 deploy/agones/sidecar_stub.py "$sdk" > "$room/sidecar" 2> "$room/sidecar.err" &
+    started+=($!)
+    free_port
+    AGONES_SDK_HTTP_PORT=$sdk HEALTH_SECONDS=1 sh deploy/agones/agones_run.sh "$program" serve --port "$port" --forever --log --control \
+        --metrics "127.0.0.1:$port" > "$room/wrapper.out" 2> "$room/wrapper.err" &
+    wrapper=$!
+    started+=("$wrapper")
+    wait_for "$room/sidecar" Ready && wait_for "$room/sidecar" health || return 1
+    first=$(pgrep -P "$wrapper" -x "$(basename "$program" | cut -c 1-15)")
+    for thread in "/proc/$first/task"/*; do
+        "$room/hold" "${thread##*/}" 6 2> "$room/why" &
+        sleep 2
+        before=$(healthy)
+        sleep 4
+        [ "$(healthy)" -eq "$before" ] || { echo "it was called healthy while ${thread##*/} of $first hung" > "$room/why"; return 1; }
+        sleep 3
+        [ "$(healthy)" -gt "$before" ] || { echo 'it was never called healthy again' > "$room/why"; return 1; }
+    done
+    kill -TERM "$wrapper"
+    wait_for "$room/sidecar" Shutdown && wait "$wrapper"
+}
+
 install_tools
 if ! build_clients "$room"; then
     echo '0 passed, 1 failed'
@@ -121,5 +154,7 @@ agones term
 judge agones-terminated $?
 agones empty
 judge agones-empty $?
+hung
+judge agones-hung $?
 echo "$passed passed, $failed failed"
 [ "$failed" -eq 0 ]

@@ -2,8 +2,8 @@
 # All tests: the gate (every proof from nothing, the must-fail edits, the programs), then whether the edits that the gate leaves alone still
 # fit the text, the definitions that documents quote, the names, files and commits that they cite, the trials of the crates, the worked
 # scripts and captured datagrams through the built program, each growth of memory of worked rows refused in turn, the instructions of the
-# benchmark's jobs, clients of the reference library that talk through the program, whom it lets in and what it tells of itself, what deploy/
-# has, and the library for C. Each of the thirteen last ends with a line 'N passed, M failed'; the status is other than 0 where anything failed.
+# benchmark's jobs, clients of the reference library that talk through the program, what its operator's lines do, whom it lets in and what it tells of
+# itself, what deploy/ has, and the library for C. Each of the fourteen last ends with a line 'N passed, M failed'; the status is other than 0 where anything failed.
 set -u
 cd "$(dirname "$0")/.." || exit 1
 begun=$SECONDS
@@ -24,7 +24,7 @@ library() {
 try bash scripts/check-edits.sh --read
 try python3 scripts/quotes.py
 try python3 scripts/check-documents.py
-for name in trials rows inspect memory speed clients admission metrics deploy; do
+for name in trials rows inspect memory speed clients operator admission metrics deploy; do
     try bash "scripts/check-$name.sh"
 done
 try library

@@ -1,7 +1,8 @@
 #!/bin/sh
 # agones_run.sh PROGRAM WORDS..: runs `enet_relay serve` with --log and --control as a game server of Agones. It speaks to the sidecar of
 # Agones' SDK by HTTP, so that the program needs no word of it:
-#   - /ready once the program says that it listens, /health each HEALTH_SECONDS (2) while it is alive;
+#   - /ready once the program says that it listens, /health each HEALTH_SECONDS (2) while it is alive; where the words have
+#     `--metrics ADDRESS:PORT`, only while /healthz there says so, too: not while the service hangs;
 #   - /allocate with the first client, where ALLOCATE_SELF is 1 (a matchmaker that allocates does without);
 #   - `stop` to the program, EMPTY_SECONDS (10) after the last client left, where SHUTDOWN_EMPTY is 1; at SIGTERM and SIGINT always;
 #   - /shutdown whenever the program has ended.
@@ -22,6 +23,19 @@ insist() {
         tries=$((tries + 1))
         sleep 0.5
     done
+}
+
+# Where it tells figures; empty where it doesn't.
+figures=
+word=
+for next; do
+    [ "$word" != --metrics ] || figures=$next
+    word=$next
+done
+
+# Whether the service goes on.
+is_healthy() {
+    [ -z "$figures" ] || curl -sf -o /dev/null -m 2 "http://$figures/healthz"
 }
 
 exec 4<> "$room/control"
@@ -59,7 +73,7 @@ trap stop TERM INT
 
 empty_for=0
 while kill -0 "$program" 2> /dev/null; do
-    tell health
+    ! is_healthy || tell health
     sleep "$every" &
     wait $!
     if [ "${SHUTDOWN_EMPTY:-0}" = 1 ] && [ -e "$room/empty" ]; then
