@@ -12,3 +12,4 @@ pub mod Foretold
 pub mod Bringing
 pub mod Limits
 pub mod Adding
+pub mod Weighing

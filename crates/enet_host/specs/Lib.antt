@@ -1,5 +1,6 @@
 pub mod Host
 pub mod Held
+pub mod Memory
 pub mod Turns
 pub mod Opening
 pub mod Receiving

@@ -24,6 +24,8 @@
 //! - `sent_again` counts the commands of all peers that are unacknowledged and were sent more than once.
 //! - `held` counts what the host holds of what others sent (`held_by`). Whatever datagrams come, and whether or not its user takes, that is
 //!   no more than `most_held` of its settings: each peer has their limits (`AreLimited`, by the invariant of `HostCore`).
+//! - `memory_held` tells how many bytes that takes, with the slots, as one of each kind takes so many (`memory_with`, specs/Memory). All that
+//!   a host holds, `memory_of`, is within `memory_bound` of its settings and of what its own user submitted.
 //!
 //! Of every host: no slot holds a peer that is free (`HostCore::keeps`). By the invariant of `HostCore` a slot that sleeps has nothing to
 //! put out or to tell, and it is noted when time brings it something (`KeepsSleepers` of `enet_sleepers`). Want of memory, of which no
@@ -31,7 +33,8 @@
 //!
 //! # Only tested
 //!
-//! By `check_hosts`: that calls succeed with ample memory, worked scripts, captured files, foreign bytes.
+//! By `check_hosts`: that calls succeed with ample memory, worked scripts, captured files, foreign bytes; and that a thing takes no more
+//! memory than specs/Memory says.
 //!
 //! # Neither
 //!
@@ -49,6 +52,7 @@ mod events;
 mod foretelling;
 mod held;
 mod host;
+mod memory;
 mod peers;
 mod receiving;
 mod ticking;

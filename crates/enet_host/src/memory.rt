@@ -1,0 +1,58 @@
+//! How many bytes a host holds, and how many at most.
+
+ghost use Rattle.std.specs.Prelude.{◌≡◌, ℕ, ◌+◌, ◌*◌, ◌<◌, ◌≤◌, ◌^◌, length};
+ghost use Rattle.enet_host.specs.Held.{held_by, most_held};
+ghost use Rattle.enet_host.specs.Memory.{memory_bound, memory_of, memory_of_held, memory_with, own_in};
+ghost use Rattle.enet_host.specs.Private.Held.{IsLittleBy};
+
+use crate::host::HostCore;
+use enet_peer::Held;
+
+/// What a host takes beside its slots, in bytes.
+const HOST: u64 = 4_096;
+
+/// What a slot takes, free or not.
+const SLOT: u64 = 1_536;
+
+/// What a channel takes on which packets come.
+const CHANNEL: u64 = 9_216;
+
+/// What a channel takes on which others are sent to.
+const SENDER: u64 = 192;
+
+/// What a packet takes that came, beside its bytes.
+const PACKET: u64 = 192;
+
+/// What one that wasn't dispatched takes beside that.
+const UNDISPATCHED: u64 = 2_816;
+
+/// What an acknowledgement takes that waits.
+const ACKNOWLEDGEMENT: u64 = 16;
+
+/// How many bytes this takes.
+fn memory_of_held(held: Held) -> u64
+    requires { IsLittleBy 4095 held }
+    ensures value { result ≡ memory_of_held held }
+    ensures small { (peers : ℕ) → IsLittleBy peers held → result ≤ peers * 2 ^ 43 }
+{
+    held.channels * CHANNEL
+        + held.senders * SENDER
+        + held.packets * PACKET
+        + held.undispatched * UNDISPATCHED
+        + held.bytes
+        + held.acknowledgements * ACKNOWLEDGEMENT
+}
+
+impl HostCore {
+    /// How many bytes it holds at most, but for what its own user submitted: each thing counts as many as one of its kind takes
+    /// (specs/Memory). Whatever datagrams came, from whomever and in whatever order, and whether or not the user takes, that is no more
+    /// than the settings allow; and all that the host holds is no more than that and what its user submitted and nobody acknowledged.
+    /// Lists may have more room than what is in them needs, for as much as ever was in them at once. Each slot is looked at.
+    pub fn memory_held(&self) -> u64
+        ensures value { result ≡ memory_with (length self.now.slots) (held_by self.now.slots) }
+        ensures most { result ≤ memory_with self.now.config.peers (most_held self.now.config) }
+        ensures bound { memory_of self.now ≤ memory_bound self.now.config (own_in self.now.slots) }
+    {
+        HOST + self.slots.len() as u64 * SLOT + memory_of_held(self.held_in_all())
+    }
+}
