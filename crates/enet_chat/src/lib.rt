@@ -1,23 +1,35 @@
 //! The relay: who is there, to whom a chat packet goes, and the thread that takes events and asks for their orders.
 //!
-//! Proved: the table after an event, and the orders of an event, exactly; that a table has no peer twice, and so that a chat packet goes
-//! once to each other peer of the table and never back to its sender. Of the thread that relays (`Relays`): the events that it took are, in
-//! order, those that it expanded and those that wait; what was asked for is, for every receiver and in order, what the expanded ones give
-//! for it, so that nothing is lost or doubled; after every refusal too. What had been asked for is submitted before anything else is
-//! asked for, and however it ends no order waits (`HasSubmitted`), unless the queue was found full, in the sense of `enet_bridge`, or the
-//! seat submitted as many orders as it may; it tells of a spent seat only then. It ends well only with no event to take, and with all
-//! expanded and submitted, or with orders that wait and the queue found full (`IsThrough`). Of the relay in its service's own thread
-//! (`Expands`): what it expands are the oldest events, and the orders behind those that waited are for every receiver and in order what
-//! these give; just these events and orders it counts, up to what 64 bits hold; after a refusal, too; and it ends well only with all
-//! expanded or with 256 orders that wait.
-//! Only tested: by `check_queues`, that the calls succeed where there is memory; by scripts/check-clients.sh through `enet_relay serve`,
-//! that the thread gets on. Neither: that the bodies of the orders share their bytes, so that no copy is made, that orders of packets that
-//! follow one another are grouped by receiver (tested of the relay in its service's thread, by `check_queues`), that events are kept while
-//! the service has orders left, that the thread goes on until it is told that the service has ended (one that ends where it first finds no
-//! event meets the same contract), which seat and numbers an [`OrderList`] gives its orders, that one [`LoneRelay::expand`] stops at 256
-//! orders (one that takes all events meets the same contract), what a relay with a thread of its own counts (one that counts nothing
-//! meets the same contract), that a [`Gauge`] shows what its relay counts and a relay counts on from what it shows, and that a call with
-//! Wait returns.
+//! # What it is for
+//!
+//! - [`Relay`] is a thread of its own between a service's two queues. [`LoneRelay`] shares the service's thread: what a turn told is expanded
+//!   between two of its phases.
+//! - [`Table`] is who is connected, by the events; a [`Gauge`] shows others how far a relay has come.
+//!
+//! # Proved
+//!
+//! - The table after an event, and the orders of an event, exactly. A table has no peer twice, so a chat packet goes once to each other peer
+//!   of the table and never back to its sender.
+//! - Of the thread that relays (`Relays`): the events that it took are, in order, those that it expanded and those that wait. What was asked
+//!   for is, for every receiver and in order, what the expanded ones give for it, so that nothing is lost or doubled; after every refusal,
+//!   too.
+//! - What had been asked for is submitted before anything else is asked for, and however it ends no order waits (`HasSubmitted`), unless the
+//!   queue was found full, in the sense of `enet_bridge`, or the seat submitted as many orders as it may. It tells of a spent seat only then.
+//! - It ends well only with no event to take, and with all expanded and submitted, or with orders that wait and the queue found full
+//!   (`IsThrough`).
+//! - Of the relay in its service's own thread (`Expands`): what it expands are the oldest events, and the orders behind those that waited are
+//!   for every receiver and in order what these give. Just these events and orders it counts, up to what 64 bits hold; after a refusal, too.
+//!   It ends well only with all expanded or with 256 orders that wait.
+//!
+//! # Only tested, or neither
+//!
+//! - By `check_queues`: that the calls succeed where there is memory, and that orders of packets that follow one another are grouped by
+//!   receiver, in the relay in its service's thread. By scripts/check-clients.sh, through `enet_relay serve`: that the thread gets on.
+//! - Neither: that the bodies of the orders share their bytes, so that no copy is made; that events are kept while the service has orders
+//!   left; that the thread goes on until it is told that the service has ended (one that ends where it first finds no event meets the same
+//!   contract); which seat and numbers an [`OrderList`] gives its orders; that one [`LoneRelay::expand`] stops at 256 orders (one that takes
+//!   all events meets the same contract); what a relay with a thread of its own counts (one that counts nothing meets the same contract);
+//!   that a [`Gauge`] shows what its relay counts and a relay counts on from what it shows; that a call with Wait returns.
 #![tactic(auto)]
 
 mod batch;

@@ -1,32 +1,46 @@
-//! The service: one thread owns a host and takes its turns; game threads reach it through two queues alone. It is used by [`Queues::open`],
-//! [`BoundService::open`] and [`beside_turns`], which runs the service beside a function of the user's; then by [`settle`]. Or one thread
-//! does all, by [`run`], a turn at a time, or by [`Service::receive`], [`Service::apply_orders`] and
-//! [`Service::emit`], between which it makes the
-//! orders.
+//! The service: one thread owns a host and takes its turns; game threads reach it through two queues alone.
 //!
-//! Proved, for every host that says what its calls do ([`Core`]): a turn is the stated calls in the stated order ([`Service::turn`]), on
-//! what the source gave and the wire told; what was sent and put is what these calls answered; a refused order becomes one event; while an
-//! event waits no order is taken; E14 exactly where the wire failed, and then the host is where the first part of the work left it, and the
-//! report counts that part. A run is its turns, each after a wait, up to the first fault, and its report their sums ([`run`]). A turn ends
-//! where the calls of source and sink return, since each event that a host tells leaves fewer. [`HostCore`] is such a host: each call of a
-//! turn is the call of the host with that meaning, by the host's own definitions. Between the two queues the orders of a run are each
-//! seat's next ones, once and in its order, and what was taken begins a history of the queue ([`run_between_queues`]). Two new queues have
-//! the places that were asked for, and a seat that may submit 4,294,967,295 orders ([`Queues::open`]). What [`beside_turns`] did
-//! (`HasTurned`) is turns of the service, as many as were asked for where a number was; where a time was, 64 at a time, and no more once
-//! 2,147,483,648 orders were taken or events told (`Lasts`). In none of them did the wire fail, and the report has their sums; what the
-//! turns were given is what the drain took and the wire told, each after a wait, and what they put is what the poster posted; E14 comes
-//! exactly where the wire failed. Once settled, the only taker took all that was posted, and the orders that the drain didn't take are told
-//! in order. A host that notes who came and went ([`WatchedHost`]) is the host that it holds, in each of its calls, and
-//! [`WatchedHost::disconnect_all`] asks each peer that this has to go (`all_names`), slot by slot. The parts of a turn
-//! between which orders are made are those of its phases that they name, each on what the wire told and the source gave.
-//! Only tested, by `check_service`: turns and runs of a real host over memory, with each call of the wire failing and each send blocking in
-//! its turn; that a game thread submits and takes while the service is inside its wire; a connection's opening through a socket of
-//! 127.0.0.1. By scripts/check-rows.sh and scripts/check-clients.sh: that the queues settle (no E16), what is noted and shown to a
-//! [`Watch`], and that turns for a time end once the other thread has left. Neither: that a wait or a call of a queue returns, when the
-//! source is told to expect orders, that two threads ran, what a network gives, and when; that a run for a time lasts that time; when
-//! [`settle`] answers E16; what the host and the queues are after a [`beside_turns`] that ended with E14. That turns go by what their wire
-//! gave, and by the milliseconds of its waits, is said of each wire that tells its calls: a socket tells nothing, and is used by the same
-//! functions.
+//! # What it is for
+//!
+//! - A service beside a game thread: [`Queues::open`], [`BoundService::open`] and [`beside_turns`], which runs the service beside a function
+//!   of the user's; then [`settle`].
+//! - One thread that does all: [`run`], a turn at a time, or [`Service::receive`], [`Service::apply_orders`] and [`Service::emit`], between
+//!   which it makes the orders.
+//!
+//! # Proved
+//!
+//! Of every host that says what its calls do ([`Core`]), as [`HostCore`] says it by its own definitions:
+//! - A turn ([`Service::turn`]) is the stated calls in the stated order, on what the source gave and the wire told, and what was sent and put
+//!   is what these calls answered. A refused order becomes one event. While an event waits no order is taken.
+//! - E14 comes exactly where the wire failed. Then the host is where the first part of the work left it, and the report counts that part.
+//! - A turn ends where the calls of source and sink return, since each event that a host tells leaves fewer.
+//! - The parts of a turn between which orders are made are those of its phases that they name.
+//! - A run ([`run`]) is its turns, each after a wait, up to the first fault, and its report their sums.
+//!
+//! Between the two queues:
+//! - New ones have the places that were asked for, and a seat that may submit 4,294,967,295 orders ([`Queues::open`]).
+//! - The orders of a run are each seat's next ones, once and in its order, and what was taken begins a history of the queue
+//!   ([`run_between_queues`]).
+//! - What [`beside_turns`] did (`HasTurned`) is turns of the service, in none of which the wire failed: what they were given is what the drain
+//!   took and the wire told, each after a wait, and what they put is what the poster posted, and the report has their sums. They are as many
+//!   as were asked for; where a time was, 64 at a time, and no more once 2,147,483,648 orders were taken or events told (`Lasts`). E14 comes
+//!   exactly where the wire failed.
+//! - Once settled, the only taker took all that was posted, and the orders that the drain didn't take are told in order ([`settle`]).
+//!
+//! A host that notes who came and went ([`WatchedHost`]) is the host that it holds, in each of its calls, and
+//! [`WatchedHost::disconnect_all`] asks each peer that this has to go (`all_names`), slot by slot.
+//!
+//! # Only tested, or neither
+//!
+//! - By `check_service`: turns and runs of a real host over memory, with each call of the wire failing and each send blocking in its turn;
+//!   that a game thread submits and takes while the service is inside its wire; a connection's opening through a socket of 127.0.0.1.
+//! - By scripts/check-rows.sh and scripts/check-clients.sh: that the queues settle (no E16), what is noted and shown to a [`Watch`], and that
+//!   turns for a time end once the other thread has left.
+//! - Neither: that a wait or a call of a queue returns, when the source is told to expect orders, that two threads ran, what a network gives,
+//!   and when; that a run for a time lasts that time; when [`settle`] answers E16; what the host and the queues are after a
+//!   [`beside_turns`] that ended with E14.
+//! - That turns go by what their wire gave is said of each wire that tells its calls. Of a socket two functions are trusted with that
+//!   (`enet_bridge`).
 #![tactic(auto)]
 
 mod between;
