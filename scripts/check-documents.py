@@ -176,13 +176,18 @@ def shown(counts):
 def trusted(counts):
     """What a reader of a clause must trust: so many definitions, so many lines."""
     said = subprocess.run([sys.executable, "scripts/trusted.py"], capture_output=True, text=True, check=False).stdout
-    told = {name: (int(many), int(lines)) for name, many, lines in re.findall(r"^(.+): (\d+) definitions, (\d+) lines", said, re.M)}
-    names = ("Fleet::play, headline: the page", "Fleet::run, headline", "Fleet::run, headline and steps")
-    page, run, steps = (told.get(name, (0, 0)) for name in names)
+    told = re.findall(r"^(.+): (\d+) definitions, (\d+) lines, \d+ files, (\d+) crates", said, re.M)
+    counts.check(len(told) > 3, "scripts/trusted.py told nothing")
+    if len(told) < 4:
+        return
+    page, _, run, steps = told[:4]
+    for name, many, lines, crates in told:
+        row = rf"^\| {re.escape(name)} \| .* \| {many} \| {int(lines):,} \| {crates} \|$"
+        counts.check(re.search(row, read("docs/HEADLINE.md"), re.M), f"docs/HEADLINE.md hasn't the row of '{name}' (scripts/trusted.py --write)")
     wanted = {
-        "docs/HEADLINE.md": f"That is all: {page[0]} definitions, {page[1]} lines.",
-        "docs/PROOFS.md": f"| {page[0]} definitions, {page[1]} lines | {run[0]} definitions, {run[1]} lines, and with the clause that ties "
-        f"them to the events {steps[0]}, {steps[1]:,} |",
+        "docs/HEADLINE.md": f"That is all: {page[1]} definitions, {page[2]} lines.",
+        "docs/PROOFS.md": f"| {page[1]} definitions, {page[2]} lines | {run[1]} definitions, {run[2]} lines, and with the clause that ties "
+        f"them to the events {steps[1]}, {int(steps[2]):,} |",
     }
     for document, words in wanted.items():
         counts.check(words in read(document), f"{document} hasn't '{words}'")

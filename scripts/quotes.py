@@ -1,18 +1,19 @@
 #!/usr/bin/env python3
-"""Whether the definitions that documents quote stand in specs/ as quoted.
+"""Whether the definitions that documents quote stand in specs/, and the types in src/, as quoted.
 
     scripts/quotes.py           fails where one differs; the last line is 'N passed, M failed'
-    scripts/quotes.py --write   writes them anew from specs/
+    scripts/quotes.py --write   writes them anew from there
 
 A quote is a line '<!-- crate/specs/File.antt: name name .. -->' and the block of code that follows it. It has the definitions of these
-names, without the comments above them, an empty line between each two.
+names, without the comments above them, an empty line between each two. Where the file is one of src/ they are types of Rust, without all
+comments, and each variant in a line.
 """
 import glob
 import os
 import re
 import sys
 
-MARK = re.compile(r"<!-- (\S+\.antt): (.+) -->")
+MARK = re.compile(r"<!-- (\S+\.(?:antt|rt)): (.+) -->")
 BEGINS = re.compile(r"(?:pub |unfoldable |abbrev |record |data )")
 
 
@@ -27,6 +28,16 @@ def definition(path, name):
                 end += 1
             return "\n".join(lines[at:end])
     return None
+
+
+def rust_type(path, name):
+    """A struct or enum of Rust, without comments, each variant with fields in one line."""
+    text = open(path, encoding="utf-8").read()
+    found = re.search(r"^pub (?:struct|enum) %s \{\n.*?^\}" % re.escape(name), text, re.M | re.S)
+    if not found:
+        return None
+    bare = re.sub(r"^\s*//.*\n", "", found.group(0), flags=re.M)
+    return re.sub(r"^(    \w+ \{)\n(.*?)^    \},", lambda m: m.group(1) + " " + " ".join(m.group(2).split()).rstrip(",") + " },", bare, flags=re.M | re.S)
 
 
 def main():
@@ -44,7 +55,8 @@ def main():
             if not mark:
                 continue
             path = os.path.join("crates", mark.group(1))
-            quoted = [definition(path, name) if os.path.exists(path) else None for name in mark.group(2).split()]
+            find = rust_type if path.endswith(".rt") else definition
+            quoted = [find(path, name) if os.path.exists(path) else None for name in mark.group(2).split()]
             if None in quoted or lines[at] != "```":
                 print("FAILED %s: %s has no such definition, or no block follows" % (document, mark.group(0)))
                 failed += 1

@@ -3,6 +3,7 @@
 
     scripts/trusted.py NAME..   with NAME as crate.file.definition: enet_fleet.Transcript.IsOnEachFront
     scripts/trusted.py          the clauses that docs/PROOFS.md and docs/HEADLINE.md speak of
+    scripts/trusted.py --write  the same, as the table of docs/HEADLINE.md, behind its line '<!-- trusted -->'
 
 For each it prints how many definitions of the repository there are, their lines without comments, and in how many files and crates. Types
 that the Rust code declares, and the kit's words, aren't counted. A name is looked up in its file, then among its imports, as the prover
@@ -13,13 +14,22 @@ import os
 import re
 import sys
 
+# What it is, the contract that says it, and the definitions of its clause.
 CLAUSES = [
-    ("Fleet::play, headline: the page", ["enet_fleet.Transcript.IsOnEachFront"]),
-    ("of it, what isn't of fleets", ["law_headline.Page.IsHeadline"]),
-    ("Fleet::run, headline", ["enet_fleet.Headline.HasHeadline"]),
-    ("Fleet::run, headline and steps", ["enet_fleet.Headline.HasHeadline", "enet_fleet.Fleets.Runs"]),
-    ("services_in_order, services", ["law_service.EndToEnd.EndToEnd"]),
+    ("the page", "`Fleet::play`, `headline`", ["enet_fleet.Transcript.IsOnEachFront"]),
+    ("of it, what isn't of fleets", "", ["law_headline.Page.IsHeadline"]),
+    ("the lists that are kept", "`Fleet::run`, `headline`", ["enet_fleet.Headline.HasHeadline"]),
+    ("and that they are the events'", "`Fleet::run`, `steps`", ["enet_fleet.Headline.HasHeadline", "enet_fleet.Fleets.Runs"]),
+    ("what has nothing left to send was delivered", "`World::delivered`", ["enet_world.Delivered.HasDelivered"]),
+    ("by what services were given and told", "`services_in_order`, `services`", ["law_service.EndToEnd.EndToEnd"]),
+    ("between their game threads", "`services_in_order`, `threads` and `shown`", ["law_service.EndToEnd.EndToEnd", "law_service.EndToEnd.BetweenThreads", "law_service.Queues.EachRunShows"]),
+    ("through the relay", "`chat_server_in_order`", ["law_relay.Chat.EachHasServed", "law_relay.Chat.OfChatThreads"]),
 ]
+
+TABLE = """<!-- trusted -->
+| What | Contract, clause | Definitions | Lines | Crates |
+|---|---|---|---|---|
+"""
 
 DEFINITION = re.compile(r"(?:pub )?(?:unfoldable |abbrev |record |data )*(?:pub )?([A-Za-z_]\w*)\b")
 BEGINS = re.compile(r"(?:pub |unfoldable |abbrev |record |data )")
@@ -141,8 +151,9 @@ def main():
     root = os.path.join(os.path.dirname(os.path.abspath(__file__)), "..")
     modules = read_all(root)
     of_data = constructors(modules)
-    clauses = [(name, [name]) for name in sys.argv[1:]] or CLAUSES
-    for title, names in clauses:
+    write = sys.argv[1:] == ["--write"]
+    rows = []
+    for title, contract, names in [(name, "", [name]) for name in sys.argv[1:] if not write] or CLAUSES:
         starts = [full_name(name) for name in names]
         for start in starts:
             module, _, name = start.rpartition(".")
@@ -154,6 +165,12 @@ def main():
         files = {module for module, _ in bodies}
         crates = {module.split(".")[1] for module in files}
         print("%s: %d definitions, %d lines, %d files, %d crates" % (title, len(found), lines, len(files), len(crates)))
+        rows.append("| %s | %s | %d | %s | %d |" % (title, contract, len(found), format(lines, ","), len(crates)))
+    if write:
+        path = os.path.join(root, "docs/HEADLINE.md")
+        before, rest = open(path, encoding="utf-8").read().split(TABLE, 1)
+        after = rest.split("\n\n", 1)[1] if "\n\n" in rest else ""
+        open(path, "w", encoding="utf-8").write(before + TABLE + "\n".join(rows) + "\n" + ("\n" + after if after else ""))
 
 
 if __name__ == "__main__":
