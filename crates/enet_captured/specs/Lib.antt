@@ -2,4 +2,5 @@ pub mod Commands
 pub mod Counts
 pub mod Unread
 pub mod Parts
+pub mod Gaps
 pub mod Private

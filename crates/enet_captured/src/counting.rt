@@ -7,6 +7,7 @@ ghost use Rattle.enet_captured.specs.declared.timeline.Mark.{Mark};
 ghost use Rattle.enet_captured.specs.declared.timeline.Seen.{Seen};
 ghost use Rattle.enet_captured.specs.Commands.{is_same, same_kind, answers};
 ghost use Rattle.enet_captured.specs.Counts.{same_way, is_stopped_by, near, resends, went_before, goes_again};
+ghost use Rattle.enet_captured.specs.Gaps.{IsLongest, gap_behind, longer};
 
 use crate::timeline::{Mark, Seen, Way};
 use crate::told::{Detail, Kind, Told};
@@ -143,18 +144,37 @@ fn is_answered(found: &[Mark], first: usize, told: Told) -> bool {
 }
 
 /// The longest time between two datagrams that follow one another, in microseconds, and the number of the later one.
-pub fn longest_gap(seen: &[Seen]) -> Option<(u64, u64)> {
+pub fn longest_gap(seen: &[Seen]) -> Option<(u64, u64)>
+    ensures { IsLongest seen.now result }
+{
+    let gaps = seen.len().saturating_sub(1);
     let mut longest: Option<(u64, u64)> = None;
-    let mut before: Option<u64> = None;
-    for seen in seen {
-        if let Some(before) = before {
-            let gap = seen.at.saturating_sub(before);
-            longest = match longest {
-                Some((most, number)) if most >= gap => Some((most, number)),
-                _ => Some((gap, seen.number)),
-            };
-        }
-        before = Some(seen.at);
+    for place in 0..gaps {
+        longest = Some(longer(longest, gap_behind(seen, place)));
     }
     longest
+}
+
+// How long after a datagram the next one was captured, and the number of that.
+fn gap_behind(seen: &[Seen], place: usize) -> (u64, u64)
+    requires { place + 1 < length seen.now }
+    ensures { result ≡ gap_behind seen.now place }
+{
+    let Some(one) = seen.get(place) else {
+        return (0, 0);
+    };
+    let Some(next) = seen.get(place + 1) else {
+        return (0, 0);
+    };
+    (next.at.saturating_sub(one.at), next.number)
+}
+
+// The longer of two gaps, the first if they are as long.
+fn longer(longest: Option<(u64, u64)>, gap: (u64, u64)) -> (u64, u64)
+    ensures { result ≡ longer longest gap }
+{
+    match longest {
+        None => gap,
+        Some(longest) => { if longest.0 < gap.0 { gap } else { longest } }
+    }
 }
