@@ -1,6 +1,7 @@
 //! How many bytes a host holds, and how many at most.
 
 ghost use Rattle.std.specs.Prelude.{◌≡◌, ℕ, ◌+◌, ◌*◌, ◌<◌, ◌≤◌, ◌^◌, length};
+ghost use Rattle.enet_peer.specs.Held.{most_of, IsLittle};
 ghost use Rattle.enet_host.specs.Held.{held_by, most_held};
 ghost use Rattle.enet_host.specs.Memory.{memory_bound, memory_of, memory_of_held, memory_with, own_in};
 ghost use Rattle.enet_host.specs.Private.Held.{IsLittleBy};
@@ -43,6 +44,22 @@ fn memory_of_held(held: Held) -> u64
         + held.acknowledgements * ACKNOWLEDGEMENT
 }
 
+/// What a peer holds at most which takes packets of at most so many bytes, and of which so many bytes may wait.
+fn most_of(max_packet: u32, max_waiting: u32) -> Held
+    ensures value { result ≡ most_of max_packet max_waiting }
+    ensures little { IsLittleBy 1 result }
+{
+    let places = u64::from((max_waiting / 128).max(1_024));
+    Held {
+        channels: 255,
+        senders: 255,
+        packets: 2 * places + 255,
+        undispatched: places + 255,
+        bytes: 2 * u64::from(max_waiting) + 257 * u64::from(max_packet),
+        acknowledgements: 8_192,
+    }
+}
+
 impl HostCore {
     /// How many bytes it holds at most, but for what its own user submitted: each thing counts as many as one of its kind takes
     /// (specs/Memory). Whatever datagrams came, from whomever and in whatever order, and whether or not the user takes, that is no more
@@ -54,5 +71,14 @@ impl HostCore {
         ensures bound { memory_of self.now ≤ memory_bound self.now.config (own_in self.now.slots) }
     {
         HOST + self.slots.len() as u64 * SLOT + memory_of_held(self.held_in_all())
+    }
+
+    /// How many bytes `memory_held` tells at most, by the settings alone. It looks at no slot.
+    pub fn most_memory_held(&self) -> u64
+        ensures { result ≡ memory_with self.now.config.peers (most_held self.now.config) }
+    {
+        let config = &self.start.config;
+        let most = most_of(config.max_packet, config.max_waiting);
+        HOST + u64::from(config.peers) * (SLOT + memory_of_held(most))
     }
 }
