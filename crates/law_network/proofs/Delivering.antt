@@ -76,7 +76,7 @@ data-mark-by h _ c e = absurd (cc)
 abbrev AreOf : List ℕ → End → Type 0
 AreOf numbers e = (channel : ℕ) → channel < 255 → greatest_at numbers channel ≡ sent_on channel e
 
-in-time : (senders takers : List ℕ) (own far : End) (d : Logged) (k : IsLogged far.log d) → AreOf senders far → AreOf takers own → has_late (greatest_at senders) (greatest_at takers) d.marks ≡ false
+pub in-time : (senders takers : List ℕ) (own far : End) (d : Logged) (k : IsLogged far.log d) → AreOf senders far → AreOf takers own → has_late (greatest_at senders) (greatest_at takers) d.marks ≡ false
     → (x : Put) → Has k.puts x → InTime own far x
 in-time senders takers own far d k f t late x there = record {
   logged = k.logged x there;
@@ -100,7 +100,7 @@ in-time senders takers own far d k f t late x there = record {
 -- the commands that are looked at
 
 -- another peer changes no log
-later : (own far : End) (q : Peering) (x : Put) → InTime own far x → InTime (with_peer own q) far x
+pub later : (own far : End) (q : Peering) (x : Put) → InTime own far x → InTime (with_peer own q) far x
 later own far q x t = record { logged = t.logged; of_data = t.of_data; of_acknowledgement = t.of_acknowledgement }
 
 -- a stopped command has no effect, or that which it is to have
@@ -125,9 +125,9 @@ comes now sent (x ∷ ps) handled p answer q own far is times (inr g) =
 
 -- an end whose slot is as it was
 
-pub goes-apart : (c : Call) (old new : Site) (e : HostEnd) (own far : End) (k : Shows old e own) → old.host.config.generations ≤ greatest → Acts c old.host new.host → KeepsLog old new e.connection
-    → ((x : IsThere old.host.slots e.name k.peer) → slice_get new.host.slots e.name.slot ≡ Some x.slot) → Went own far new e
-goes-apart c old new e own far k low acts same still = goes-still old new e own far k same (by (there-or old.host e.name k.peer k.shows))
+apart-shows : (c : Call) (old new : Site) (e : HostEnd) (own : End) (k : Shows old e own) → old.host.config.generations ≤ greatest → Acts c old.host new.host
+    → ((x : IsThere old.host.slots e.name k.peer) → slice_get new.host.slots e.name.slot ≡ Some x.slot) → ShowsPeer new.host e.name k.peer
+apart-shows c old new e own k low acts still = by (there-or old.host e.name k.peer k.shows)
   where
     by : ((k.peer.state ≢ state.Free) × IsThere old.host.slots e.name k.peer) ⊎ ((k.peer.state ≡ state.Free) × IsSpent old.host e.name) → ShowsPeer new.host e.name k.peer
     by (inr gone) = shows-gone new.host e.name k.peer gone.0 (spent-step c old.host new.host e.name low acts gone.1)
@@ -154,7 +154,7 @@ equal-if : (a b : ℕ) → not (a == b) ≡ false → a ≡ b
 equal-if a b e = grind (arith, nat_tests)
 
 -- the end in the slot that a datagram addresses, and which its sender's peer is in, is of the datagram's connection
-same-connection : (s : Site) (from : Addr) (d : Logged) (e : HostEnd) (p : Peering) (x : IsThere s.host.slots e.name p) → Has s.ends e → d.peer ≢ no_peer → d.peer ≡ e.name.slot → is_same_address x.slot.address from ≡ true
+pub same-connection : (s : Site) (from : Addr) (d : Logged) (e : HostEnd) (p : Peering) (x : IsThere s.host.slots e.name p) → Has s.ends e → d.peer ≢ no_peer → d.peer ≡ e.name.slot → is_same_address x.slot.address from ≡ true
     → is_earlier s from d ≡ false → e.connection ≡ d.connection
 same-connection s from d e p x has n here at earlier = equal-if e.connection d.connection (the-middle (e.name.slot == d.peer) (not (e.connection == d.connection)) (is_at from (address_named s.host.slots e.name)) one slot there)
   where
@@ -190,6 +190,12 @@ pub end-there : (ends : List HostEnd) (e : HostEnd) → Has ends e → IsApart e
 end-there [] e h apart = absurd h
 end-there (f ∷ ends) e h apart = end-at f ends e h apart (λ y. end-there ends e y (λ g z w. apart g (inr z) w))
 
+-- the peer in whose slot commands were heard
+pub heard-peer : (c : Call) (old new : Site) (e : HostEnd) (p q : Peering) → old.host.config.generations ≤ greatest → Acts c old.host new.host → (s t : SlotState) → slice_get old.host.slots e.name.slot ≡ Some s → IsThere old.host.slots e.name p
+    → t ≡ slot_with_peer s q → slice_get new.host.slots e.name.slot ≡ Some t → ShowsPeer new.host e.name q
+heard-peer c old new e p q low acts s t there x left there' = shows-after c old.host new.host e.name p q x t (slot_with_peer x.slot q).emitted low (same-generations c old.host new.host acts) there'
+    (left ∙ ap (λ (y : SlotState). slot_with_peer y q) (same-some s x.slot (sym there ∙ x.there)))
+
 -- the commands of a datagram come to the end in whose slot they are heard
 heard-there : (from : Site) (i : ℕ) (d : Logged) (answer : Received) (old new : Site) (e : HostEnd) (own far : End) (k : Shows old e own) → old.host.config.generations ≤ greatest
     → Acts (call.Receive from.address d.text answer) old.host new.host → KeepsLog old new e.connection → slice_get from.log i ≡ Some d → Has old.ends e → IsApart old.ends e → ShowsFar from e.connection far
@@ -201,8 +207,7 @@ heard-there from i d answer old new e own far k low acts same sent has apart sho
   new = with_peer own hears.after;
   events = run.0;
   runs = run.1;
-  shows = shows-with old new e own far hears.after run.0 run.1 same k (shows-after (call.Receive from.address d.text answer) old.host new.host e.name k.peer hears.after x t (slot_with_peer x.slot hears.after).emitted low
-      (same-generations (call.Receive from.address d.text answer) old.host new.host acts) there' (hears.left ∙ ap (λ (y : SlotState). slot_with_peer y hears.after) slot));
+  shows = shows-with old new e own far hears.after run.0 run.1 same k (heard-peer (call.Receive from.address d.text answer) old new e k.peer hears.after low acts s t there x hears.left there');
 }
   where
     slot : s ≡ x.slot
@@ -244,31 +249,31 @@ pub record IsHeard (from : Addr) (text : List ℕ) (answer : Received) (old new 
   pub is : slice_get new.host.slots e.name.slot ≡ Some after
 
 -- the slot in which a datagram is heard is at its sender's address
-heard-at-address : (from : Addr) (text : List ℕ) (answer : Received) (old new : Site) (e : HostEnd) (p : Peering) (h : IsHeard from text answer old new e p) → is_same_address h.there.slot.address from ≡ true
+pub heard-at-address : (from : Addr) (text : List ℕ) (answer : Received) (old new : Site) (e : HostEnd) (p : Peering) (h : IsHeard from text answer old new e p) → is_same_address h.there.slot.address from ≡ true
 heard-at-address from text answer old new e p h =
     let slot : h.slot ≡ h.there.slot = same-some h.slot h.there.slot (sym h.was ∙ h.there.there) in
     subst (λ (y : SlotState). is_same_address y.address from ≡ true) slot
     (at-address h.slot from h.header.session h.hears.peer (ap (λ (o : Option Peering). refused_by_peer h.slot from h.header.session o) (sym h.hears.held) ∙ h.taken))
 
 -- so a datagram is heard in the slot of an end, or nothing happens to it
-pub goes-received : (from : Addr) (text : List ℕ) (answer : Received) (old new : Site) (e : HostEnd) (own far : End) → old.host.config.generations ≤ greatest
-    → Acts (call.Receive from text answer) old.host new.host → KeepsLog old new e.connection → (k : Shows old e own) → (IsHeard from text answer old new e k.peer → Went own far new e) → Went own far new e
-goes-received from text answer old new e own far low acts same k heard-here = by old.host.slots answer new.host.slots refl refl refl acts.arrives
+pub received-by : (M : Type 0) (from : Addr) (text : List ℕ) (answer : Received) (old new : Site) (e : HostEnd) (own : End) → old.host.config.generations ≤ greatest
+    → Acts (call.Receive from text answer) old.host new.host → (k : Shows old e own) → (ShowsPeer new.host e.name k.peer → M) → (IsHeard from text answer old new e k.peer → M) → M
+received-by M from text answer old new e own low acts k quiet heard-here = by old.host.slots answer new.host.slots refl refl refl acts.arrives
   where
     c : Call
     c = call.Receive from text answer
 
-    apart-by : ((x : IsThere old.host.slots e.name k.peer) → slice_get new.host.slots e.name.slot ≡ Some x.slot) → Went own far new e
-    apart-by still = goes-apart c old new e own far k low acts same still
+    apart-by : ((x : IsThere old.host.slots e.name k.peer) → slice_get new.host.slots e.name.slot ≡ Some x.slot) → M
+    apart-by still = quiet (apart-shows c old new e own k low acts still)
 
-    unchanged : (slots after : List SlotState) → slots ≡ old.host.slots → after ≡ new.host.slots → after ≡ slots → Went own far new e
+    unchanged : (slots after : List SlotState) → slots ≡ old.host.slots → after ≡ new.host.slots → after ≡ slots → M
     unchanged slots after was is none = apart-by (λ x. ap (λ (xs : List SlotState). slice_get xs e.name.slot) (sym is ∙ none ∙ was) ∙ x.there)
 
     -- the slot j alone changed
-    elsewhere : (slots after : List SlotState) (j : ℕ) (t : SlotState) → slots ≡ old.host.slots → after ≡ new.host.slots → after ≡ slice_set slots j t → j ≢ e.name.slot → Went own far new e
+    elsewhere : (slots after : List SlotState) (j : ℕ) (t : SlotState) → slots ≡ old.host.slots → after ≡ new.host.slots → after ≡ slice_set slots j t → j ≢ e.name.slot → M
     elsewhere slots after j t was is set n = apart-by (λ x. ap (λ (xs : List SlotState). slice_get xs e.name.slot) (sym is ∙ set) ∙ get-set_other slots j e.name.slot t n ∙ ap (λ (xs : List SlotState). slice_get xs e.name.slot) was ∙ x.there)
 
-    offered : (slots : List SlotState) (reply : Received) (o : Offer) (after : List SlotState) → slots ≡ old.host.slots → after ≡ new.host.slots → Offers (record { basis = host_basis old.host; slots = slots }) from o reply after → Went own far new e
+    offered : (slots : List SlotState) (reply : Received) (o : Offer) (after : List SlotState) → slots ≡ old.host.slots → after ≡ new.host.slots → Offers (record { basis = host_basis old.host; slots = slots }) from o reply after → M
     offered slots reply o after was is (receiving.refused why r) = unchanged slots after was is refl
     offered slots reply o after was is (receiving.repeated r known) = unchanged slots after was is refl
     offered slots reply o after was is (receiving.no_slot r known none) = unchanged slots after was is refl
@@ -283,8 +288,8 @@ goes-received from text answer old new e own far low acts same k heard-here = by
 
     heard-at : (header : Header) (commands : List ℕ) (s t : SlotState) → IsRead text header commands → header.peer ≢ no_peer → refused_by_slot from header.session (Some s) ≡ None
         → slice_get old.host.slots header.peer ≡ Some s → PeerReceives (record { now = old.host.clock; sent = header.sent }) commands s answer t → new.host.slots ≡ slice_set old.host.slots header.peer t → header.peer ≡ e.name.slot
-        → ((k.peer.state ≢ state.Free) × IsThere old.host.slots e.name k.peer) ⊎ ((k.peer.state ≡ state.Free) × IsSpent old.host e.name) → Went own far new e
-    heard-at header commands s t read n taken there hears set here (inr gone) = goes-still old new e own far k same (shows-gone new.host e.name k.peer gone.0 (spent-step c old.host new.host e.name low acts gone.1))
+        → ((k.peer.state ≢ state.Free) × IsThere old.host.slots e.name k.peer) ⊎ ((k.peer.state ≡ state.Free) × IsSpent old.host e.name) → M
+    heard-at header commands s t read n taken there hears set here (inr gone) = quiet (shows-gone new.host e.name k.peer gone.0 (spent-step c old.host new.host e.name low acts gone.1))
     heard-at header commands s t read n taken there hears set here (inl live) = heard-here (record {
       header = header;
       commands = commands;
@@ -300,19 +305,24 @@ goes-received from text answer old new e own far low acts same k heard-here = by
       is = ap (λ (xs : List SlotState). slice_get xs e.name.slot) set ∙ ap (λ (l : ℕ). slice_get (slice_set old.host.slots header.peer t) l) (sym here) ∙ get-set old.host.slots header.peer s t there;
     })
 
-    by : (slots : List SlotState) (said : Received) (after : List SlotState) → slots ≡ old.host.slots → after ≡ new.host.slots → said ≡ answer → Arrives (record { basis = host_basis old.host; slots = slots }) from text said after → Went own far new e
+    by : (slots : List SlotState) (said : Received) (after : List SlotState) → slots ≡ old.host.slots → after ≡ new.host.slots → said ≡ answer → Arrives (record { basis = host_basis old.host; slots = slots }) from text said after → M
     by slots said after was is as-said (receiving.unreadable why u) = unchanged slots after was is refl
     by slots said after was is as-said (receiving.no_offer header commands read none never) = unchanged slots after was is refl
     by slots said after was is as-said (receiving.offered header commands o reply left read none offer comes') = offered slots reply o left was is comes'
     by slots said after was is as-said (receiving.turned_away header commands why read n r) = unchanged slots after was is refl
     by slots said after was is as-said (receiving.heard header commands s t reply read n open' there hears) = at (same-or header.peer e.name.slot)
       where
-        at : (header.peer ≡ e.name.slot) ⊎ (header.peer ≢ e.name.slot) → Went own far new e
+        at : (header.peer ≡ e.name.slot) ⊎ (header.peer ≢ e.name.slot) → M
         at (inr other) = elsewhere slots after header.peer t was is refl other
         at (inl here) =
             let old-there : slice_get old.host.slots header.peer ≡ Some s = ap (λ (xs : List SlotState). slice_get xs header.peer) (sym was) ∙ there in
             let taken : refused_by_slot from header.session (Some s) ≡ None = ap (λ (o : Option SlotState). refused_by_slot from header.session o) (sym there) ∙ open' in
             heard-at header commands s t read n taken old-there (subst (λ (r : Received). PeerReceives (record { now = old.host.clock; sent = header.sent }) commands s r t) as-said hears) (sym is ∙ ap (λ (xs : List SlotState). slice_set xs header.peer t) was) here (there-or old.host e.name k.peer k.shows)
+
+goes-received : (from : Addr) (text : List ℕ) (answer : Received) (old new : Site) (e : HostEnd) (own far : End) → old.host.config.generations ≤ greatest
+    → Acts (call.Receive from text answer) old.host new.host → KeepsLog old new e.connection → (k : Shows old e own) → (IsHeard from text answer old new e k.peer → Went own far new e) → Went own far new e
+goes-received from text answer old new e own far low acts same k heard-here =
+    received-by (Went own far new e) from text answer old new e own low acts k (λ shows. goes-still old new e own far k same shows) heard-here
 
 -- a datagram of the host that has the other end
 pub goes-brought : (from : Site) (i : ℕ) (d : Logged) (answer : Received) (old new : Site) (e : HostEnd) (own far : End) → old.host.config.generations ≤ greatest

@@ -42,3 +42,4 @@ pub mod Alike
 pub mod Own
 pub mod Matching
 pub mod IsolationKeeping
+pub mod Telling

@@ -33,12 +33,12 @@ Has-append_left [] b x h = absurd h
 Has-append_left (y ∷ a) b x (inl e) = inl e
 Has-append_left (y ∷ a) b x (inr h) = inr (Has-append_left a b x h)
 
-Has-changed : (change : HostEnd → HostEnd) (name : PeerRef) (ends : List HostEnd) (e : HostEnd) → Has ends e → Has (with_end change name ends) (cond (is_same_name e.name name) (change e) e)
+pub Has-changed : (change : HostEnd → HostEnd) (name : PeerRef) (ends : List HostEnd) (e : HostEnd) → Has ends e → Has (with_end change name ends) (cond (is_same_name e.name name) (change e) e)
 Has-changed change name [] e h = absurd h
 Has-changed change name (f ∷ ends) e (inl same) = inl (ap (λ (x : HostEnd). cond (is_same_name x.name name) (change x) x) same)
 Has-changed change name (f ∷ ends) e (inr h) = inr (Has-changed change name ends e h)
 
-same-part : {A : Type 0} (part : HostEnd → A) (b : Bool) (f e : HostEnd) → part f ≡ part e → part (cond b f e) ≡ part e
+pub same-part : {A : Type 0} (part : HostEnd → A) (b : Bool) (f e : HostEnd) → part f ≡ part e → part (cond b f e) ≡ part e
 same-part part true f e same = same
 same-part part false f e same = refl
 

@@ -1,6 +1,7 @@
 -- A call of service: each end that is asked puts a datagram out or has none.
-use Rattle.std.proofs.Common.{◌≡◌, ◌≢◌, ◌≤◌, ◌<◌, ℕ, zero, suc, ◌⊎◌, inl, inr, Bool, true, false, cond, List, [], ◌∷◌, ◌++◌, length, map, take, refl, sym, ap, subst, ◌∙◌, arith, Option, Some, None, slice_get}
+use Rattle.std.proofs.Common.{◌≡◌, ◌≢◌, ◌≤◌, ◌<◌, ◌%◌, ◌||◌, ℕ, zero, suc, ◌⊎◌, inl, inr, Bool, true, false, cond, List, [], ◌∷◌, ◌++◌, length, map, take, refl, sym, ap, subst, ◌∙◌, arith, Option, Some, None, slice_get}
 use Rattle.std.proofs.lemmas.List.{map-append}
+use Rattle.std.specs.List.{list_any}
 use Rattle.std.proofs.lemmas.Bool.Decides.{nat_tests}
 use Rattle.std.proofs.lemmas.Option.{slice_get_within}
 use Rattle.enet_codec.specs.declared.address.Addr.{Addr}
@@ -42,6 +43,7 @@ use Rattle.law_network.specs.Log.{Logged, greatest_at, counted_all, numbers_for,
 use Rattle.law_network.specs.Marks.{mark_as, mark_by_body, mark_of, Counts}
 use Rattle.law_network.specs.Network.{HostEnd, Site, is_same_name, is_at}
 use Rattle.law_network.specs.Shown.{ShowsPeer, IsLogged, Shows, RunsAt, Went, IsApart}
+use Rattle.law_network.specs.Telling.{HasPut}
 use Rattle.law_network.specs.Steps.{Logs}
 use Rattle.law_network.proofs.Marked.{marks_of, marked-datagram, Has-marks}
 use Rattle.law_network.proofs.Addresses.{same-address, there-at}
@@ -50,7 +52,7 @@ use Rattle.law_network.proofs.PutOut.{plain-filled}
 use Rattle.law_network.proofs.Peers.{there-or, shows-held, shows-gone, shows-after}
 use Rattle.law_network.proofs.Quiet.{KeepsLog, goes-still}
 use Rattle.law_network.proofs.Steady.{mtu-stays}
-use Rattle.law_network.proofs.Submitting.{same-name, same-some, not-there, other-slot, stays-as, changes-as}
+use Rattle.law_network.proofs.Submitting.{same-name, same-some, not-there, other-slot}
 
 -- lists
 
@@ -132,24 +134,19 @@ same-header text g h commands ms r s = let one = one_header r.front s.front comm
 
 -- an end's peer is asked in vain
 
-goes-unlogged : (old new : Site) (e : HostEnd) (own far : End) (now : ℕ) (q : Peering) (buf : List ℕ) (k : Shows old e own) → PutsOut now None k.peer q buf → KeepsLog old new e.connection → ShowsPeer new.host e.name q → Went own far new e
-goes-unlogged old new e own far now q buf k out same shows = record {
-  new = with_emission own far k.peer now;
-  events = Emit now ∷ [];
-  runs = runs;
-  shows = record {
-    peer = q;
-    has = has;
-    shows = shows;
-    long = k.long;
-    numbers = k.numbers;
-    log = λ n d there of. still-logged own.log (map put ms) d (k.log n d (same n d there of) of);
-    greatest = λ channel low. k.greatest channel low ∙ sym (reached-none channel (sent_on channel own)) ∙ ap (connection.reached channel (sent_on channel own)) (sym out.emits) ∙ sym (sent-with channel own put ms (λ m. refl));
-    submitted = k.submitted;
-    mtu = mtu-stays e.mtu (Emit now ∷ []) own far (with_emission own far k.peer now) k.peer q k.has runs has refl k.mtu;
-    taken = k.taken;
-    events = k.events;
-  };
+unlogged-shows : (old new : Site) (e : HostEnd) (own far : End) (now : ℕ) (q : Peering) (buf : List ℕ) (k : Shows old e own) → PutsOut now None k.peer q buf → KeepsLog old new e.connection → ShowsPeer new.host e.name q → Shows new e (with_emission own far k.peer now)
+unlogged-shows old new e own far now q buf k out same shows = record {
+  peer = q;
+  has = has;
+  shows = shows;
+  long = k.long;
+  numbers = k.numbers;
+  log = λ n d there of. still-logged own.log (map put ms) d (k.log n d (same n d there of) of);
+  greatest = λ channel low. k.greatest channel low ∙ sym (reached-none channel (sent_on channel own)) ∙ ap (connection.reached channel (sent_on channel own)) (sym out.emits) ∙ sym (sent-with channel own put ms (λ m. refl));
+  submitted = k.submitted;
+  mtu = mtu-stays e.mtu (Emit now ∷ []) own far (with_emission own far k.peer now) k.peer q k.has runs has refl k.mtu;
+  taken = k.taken;
+  events = k.events;
 }
   where
     runs : RunsAt (Emit now ∷ []) own far (with_emission own far k.peer now)
@@ -164,14 +161,38 @@ goes-unlogged old new e own far now q buf k out same shows = record {
     put : Message → Put
     put = put_by (record own { log = own.log ++ map (λ (m : Message). record { message = m; sent_then = 0 }) ms }) far
 
--- or puts out a datagram, which is logged last
-
-goes-logged : (old new : Site) (e : HostEnd) (own far : End) (now len : ℕ) (q : Peering) (buf : List ℕ) (k : Shows old e own) → PutsOut now (Some len) k.peer q buf → ShowsPeer new.host e.name q
-    → (numbers others : List ℕ) (marks : List Mark) (d : Logged) → Counts (take len buf) e.greatest numbers others marks → ((channel : ℕ) → channel < 255 → greatest_at others channel ≡ sent_on channel far)
-    → (h : Header) (commands : List ℕ) → IsRead (take len buf) h commands → d.peer ≡ h.peer → d.text ≡ take len buf → d.marks ≡ marks → new.log ≡ old.log ++ d ∷ [] → Went own far new (record e { greatest = numbers })
-goes-logged old new e own far now len q buf k out shows numbers others noted' d counts theirs h commands front names text marked' logs = record {
+goes-unlogged : (old new : Site) (e : HostEnd) (own far : End) (now : ℕ) (q : Peering) (buf : List ℕ) (k : Shows old e own) → PutsOut now None k.peer q buf → KeepsLog old new e.connection → ShowsPeer new.host e.name q → Went own far new e
+goes-unlogged old new e own far now q buf k out same shows = record {
   new = with_emission own far k.peer now;
   events = Emit now ∷ [];
+  runs = (with_emission own far k.peer now, (k.peer, k.has, refl), refl);
+  shows = unlogged-shows old new e own far now q buf k out same shows;
+}
+
+-- or puts out a datagram, which is logged last
+
+-- what comes of it: the end that put the datagram out is shown, and all that it put out is in the datagram
+pub record Logging (now : ℕ) (new : Site) (f : HostEnd) (own far : End) (p : Peering) (d : Logged) : Type 0 where
+  pub runs : RunsAt (Emit now ∷ []) own far (with_emission own far p now)
+  pub shows : Shows new f (with_emission own far p now)
+  pub put : HasPut now own (with_emission own far p now) d
+
+went-logged : (now : ℕ) (new : Site) (f : HostEnd) (own far : End) (p : Peering) (d : Logged) → Logging now new f own far p d → Went own far new f
+went-logged now new f own far p d g = record { new = with_emission own far p now; events = Emit now ∷ []; runs = g.runs; shows = g.shows }
+
+any-of : {X : Type 0} (p : X → Bool) (xs : List X) (x : X) → Has xs x → p x ≡ true → list_any p xs ≡ true
+any-of p [] x h t = absurd h
+any-of p (y ∷ xs) x (inl e) t = ap (λ (b : Bool). b || list_any p xs) (ap p e ∙ t)
+any-of p (y ∷ xs) x (inr h) t = or-true (p y) (list_any p xs) (any-of p xs x h t)
+  where
+    or-true : (a b : Bool) → b ≡ true → (a || b) ≡ true
+    or-true true b e = refl
+    or-true false b e = e
+
+logs-one : (old new : Site) (e : HostEnd) (own far : End) (now len : ℕ) (q : Peering) (buf : List ℕ) (k : Shows old e own) → PutsOut now (Some len) k.peer q buf → ShowsPeer new.host e.name q
+    → (numbers others : List ℕ) (marks : List Mark) (d : Logged) → Counts (take len buf) e.greatest numbers others marks → ((channel : ℕ) → channel < 255 → greatest_at others channel ≡ sent_on channel far)
+    → (h : Header) (commands : List ℕ) → IsRead (take len buf) h commands → d.peer ≡ h.peer → d.text ≡ take len buf → d.marks ≡ marks → new.log ≡ old.log ++ d ∷ [] → Logging now new (record e { greatest = numbers }) own far k.peer d
+logs-one old new e own far now len q buf k out shows numbers others noted' d counts theirs h commands front names text marked' logs = record {
   runs = runs;
   shows = record {
     peer = q;
@@ -188,6 +209,12 @@ goes-logged old new e own far now len q buf k out shows numbers others noted' d 
     mtu = mtu-stays e.mtu (Emit now ∷ []) own far (with_emission own far k.peer now) k.peer q k.has runs has refl k.mtu;
     taken = k.taken;
     events = k.events;
+  };
+  put = record {
+    is = logged;
+    all = refl;
+    sent = λ y there asks. (let r = Has-from_map put ms y there in
+        ap (λ (b : Bool). cond b (Some (now % 65536)) None) (any-of (λ (m : Message). m.head.acknowledge) ms r.0 r.1 (ap (λ (z : Put). z.message.head.acknowledge) r.2 ∙ asks)));
   };
 }
   where
@@ -265,6 +292,11 @@ goes-logged old new e own far now len q buf k out shows numbers others noted' d 
 
 -- each slot is asked in vain
 
+pub vain-shows : (old new : Site) (e : HostEnd) (own far : End) (c : Call) (k : Shows old e own) → old.host.config.generations ≤ greatest → Acts c old.host new.host → KeepsLog old new e.connection → (x : IsThere old.host.slots e.name k.peer) (t : SlotState)
+    → slice_get new.host.slots e.name.slot ≡ Some t → HasNothing old.host.clock x.slot t k.peer → Shows new e (with_emission own far k.peer old.host.clock)
+vain-shows old new e own far c k low acts same x t there n = unlogged-shows old new e own far old.host.clock n.after n.buf k n.puts same
+    (shows-after c old.host new.host e.name k.peer n.after x t (with_peer x.slot n.after).emitted low (same-generations c old.host new.host acts) there n.left)
+
 vain : (old new : Site) (e : HostEnd) (own far : End) (c : Call) (k : Shows old e own) → old.host.config.generations ≤ greatest → Acts c old.host new.host → KeepsLog old new e.connection → (x : IsThere old.host.slots e.name k.peer) (t : SlotState)
     → slice_get new.host.slots e.name.slot ≡ Some t → Passes old.host.clock x.slot t → Went own far new e
 vain old new e own far c k low acts same x t there passes =
@@ -311,18 +343,20 @@ pub there-now : (gave : PeerRef × Addr × ℕ) (buf : List ℕ) (old new : Site
 there-now gave buf old new given i s e = get-within new.host.slots i (let few : i < length old.host.slots = slice_get_within old.host.slots i s e in let as' : length new.host.slots ≡ length old.host.slots = given.count in omega arith)
 
 -- it is the slot of an end, or the end puts nothing out
-record IsServed (gave : PeerRef × Addr × ℕ) (buf : List ℕ) (old new : Site) (e : HostEnd) (p : Peering) : Type 0 where
-  there : IsThere old.host.slots e.name p
-  after : SlotState
-  is : slice_get new.host.slots e.name.slot ≡ Some after
-  gives : PeerEmits old.host.clock gave.2 buf there.slot after
-  slot : e.name.slot ≡ gave.0.slot
-  generation : e.name.generation ≡ gave.0.generation
+pub record IsServed (gave : PeerRef × Addr × ℕ) (buf : List ℕ) (old new : Site) (e : HostEnd) (p : Peering) : Type 0 where
+  pub there : IsThere old.host.slots e.name p
+  pub after : SlotState
+  pub is : slice_get new.host.slots e.name.slot ≡ Some after
+  pub gives : PeerEmits old.host.clock gave.2 buf there.slot after
+  pub slot : e.name.slot ≡ gave.0.slot
+  pub generation : e.name.generation ≡ gave.0.generation
 
-goes-turned : (gave : PeerRef × Addr × ℕ) (buf : List ℕ) (old new : Site) (e : HostEnd) (own far : End) (f : HostEnd) → old.host.config.generations ≤ greatest → Acts (call.Service (Some gave) buf) old.host new.host
-    → (is_same_name e.name gave.0 ≡ false → KeepsLog old new e.connection) → (k : Shows old e own) → (IsServed gave buf old new e k.peer → Went own far new f)
-    → Went own far new (cond (is_same_name e.name gave.0) f e)
-goes-turned gave buf old new e own far f low acts others k served = by (there-or old.host e.name k.peer k.shows)
+-- whatever is to be shown of an end after the turn: by its peer, which is as it was, is asked in vain, or gives the datagram
+pub turned-by : (M : HostEnd → Type 0) (gave : PeerRef × Addr × ℕ) (buf : List ℕ) (old new : Site) (e : HostEnd) (own : End) (f : HostEnd) → old.host.config.generations ≤ greatest → Acts (call.Service (Some gave) buf) old.host new.host → (k : Shows old e own)
+    → (is_same_name e.name gave.0 ≡ false → ShowsPeer new.host e.name k.peer → M e)
+    → (is_same_name e.name gave.0 ≡ false → (x : IsThere old.host.slots e.name k.peer) (t : SlotState) → slice_get new.host.slots e.name.slot ≡ Some t → Passes old.host.clock x.slot t → M e)
+    → (IsServed gave buf old new e k.peer → M f) → M (cond (is_same_name e.name gave.0) f e)
+turned-by M gave buf old new e own f low acts k still passed served = by (there-or old.host e.name k.peer k.shows)
   where
     c : Call
     c = call.Service (Some gave) buf
@@ -330,20 +364,23 @@ goes-turned gave buf old new e own far f low acts others k served = by (there-or
     given : EmitsInTurn old.host.clock old.host.service_from old.host.slots (served_of gave buf) new.host.slots
     given = acts.0
 
-    others-slot : e.name.slot ≢ gave.0.slot → KeepsLog old new e.connection
-    others-slot n = others (other-slot e.name gave.0 n)
+    stays : is_same_name e.name gave.0 ≡ false → M e → M (cond (is_same_name e.name gave.0) f e)
+    stays never m = subst (λ (b : Bool). M (cond b f e)) (sym never) m
+
+    changes : is_same_name e.name gave.0 ≡ true → M f → M (cond (is_same_name e.name gave.0) f e)
+    changes sure m = subst (λ (b : Bool). M (cond b f e)) (sym sure) m
 
     turn : ℕ → ℕ
     turn j = turn_of (length old.host.slots) old.host.service_from j
 
-    by : ((k.peer.state ≢ state.Free) × IsThere old.host.slots e.name k.peer) ⊎ ((k.peer.state ≡ state.Free) × IsSpent old.host e.name) → Went own far new (cond (is_same_name e.name gave.0) f e)
+    by : ((k.peer.state ≢ state.Free) × IsThere old.host.slots e.name k.peer) ⊎ ((k.peer.state ≡ state.Free) × IsSpent old.host e.name) → M (cond (is_same_name e.name gave.0) f e)
     by (inr gone) =
         let t = there-now gave buf old new given gave.0.slot given.slot given.there in
         let g : PeerEmits old.host.clock gave.2 buf given.slot t.0 = (given.slots gave.0.slot given.slot t.0 given.there t.1).here refl in
         let never : is_same_name e.name gave.0 ≡ false =
         not-there old.host.slots e.name gave.0 given.slot g.peer given.there (ap (λ (z : PeerRef). z.generation) (sym given.named)) g.held
         (λ q y. let z : ◌≡◌ {A = Option Peering} None (Some q) = sym (spent-nobody old.host e.name gone.1) ∙ there-named old.host.slots e.name q y in absurd (cc)) in
-        stays-as own far new (is_same_name e.name gave.0) f e never (goes-still old new e own far k (others never) (shows-gone new.host e.name k.peer gone.0 (spent-step c old.host new.host e.name low acts gone.1)))
+        stays never (still never (shows-gone new.host e.name k.peer gone.0 (spent-step c old.host new.host e.name low acts gone.1)))
     by (inl live) = at (order (turn e.name.slot) (turn gave.0.slot))
       where
         x : IsThere old.host.slots e.name k.peer
@@ -355,15 +392,15 @@ goes-turned gave buf old new e own far f low acts others k served = by (there-or
         turned : InTurn (record { now = old.host.clock; turn = turn_of (length old.host.slots) old.host.service_from; gave = served_of gave buf }) e.name.slot x.slot t.0
         turned = given.slots e.name.slot x.slot t.0 x.there t.1
 
-        at : Order (turn e.name.slot) (turn gave.0.slot) → Went own far new (cond (is_same_name e.name gave.0) f e)
+        at : Order (turn e.name.slot) (turn gave.0.slot) → M (cond (is_same_name e.name gave.0) f e)
         at (before h) =
             let n : e.name.slot ≢ gave.0.slot = (λ z. let y : turn e.name.slot ≡ turn gave.0.slot = ap turn z in omega arith) in
-            stays-as own far new (is_same_name e.name gave.0) f e (other-slot e.name gave.0 n) (vain old new e own far c k low acts (others-slot n) x t.0 t.1 (turned.before h))
+            stays (other-slot e.name gave.0 n) (passed (other-slot e.name gave.0 n) x t.0 t.1 (turned.before h))
         at (after h) =
             let n : e.name.slot ≢ gave.0.slot = (λ z. let y : turn e.name.slot ≡ turn gave.0.slot = ap turn z in omega arith) in
             let same : t.0 ≡ x.slot = turned.after h in
-            stays-as own far new (is_same_name e.name gave.0) f e (other-slot e.name gave.0 n)
-            (goes-still old new e own far k (others-slot n) (shows-held new.host e.name k.peer live.0 (record {
+            stays (other-slot e.name gave.0 n)
+            (still (other-slot e.name gave.0 n) (shows-held new.host e.name k.peer live.0 (record {
               slot = t.0;
               there = t.1;
               same = ap (λ (s : SlotState). s.generation) same ∙ x.same;
@@ -374,46 +411,61 @@ goes-turned gave buf old new e own far f low acts others k served = by (there-or
             (slice_get_within old.host.slots e.name.slot x.slot x.there) (slice_get_within old.host.slots gave.0.slot given.slot given.there) h in
             let slot : given.slot ≡ x.slot = same-some given.slot x.slot (sym given.there ∙ ap (λ (i : ℕ). slice_get old.host.slots i) (sym here) ∙ x.there) in
             let generation : e.name.generation ≡ gave.0.generation = sym x.same ∙ ap (λ (s : SlotState). s.generation) (sym slot) ∙ ap (λ (z : PeerRef). z.generation) (sym given.named) in
-            changes-as own far new (is_same_name e.name gave.0) f e (same-name e.name gave.0 here generation)
+            changes (same-name e.name gave.0 here generation)
             (served (record { there = x; after = t.0; is = t.1; gives = turned.here here; slot = here; generation = generation }))
 
--- an end whose host gave a datagram that is logged
-pub goes-served : (fars : ℕ → List ℕ) (gave : PeerRef × Addr × ℕ) (buf : List ℕ) (old new : Site) (e : HostEnd) (own far : End) → old.host.config.generations ≤ greatest
-    → Acts (call.Service (Some gave) buf) old.host new.host → (l : Logs fars (served_of gave buf) old new) → IsApart old.ends e
-    → ((channel : ℕ) → channel < 255 → greatest_at (fars e.connection) channel ≡ sent_on channel far) → Shows old e own
-    → Went own far new (cond (is_same_name e.name gave.0) (record e { greatest = l.greatest }) e)
-goes-served fars gave buf old new e own far low acts l apart theirs k = goes-turned gave buf old new e own far (record e { greatest = l.greatest }) low acts others k served
-  where
-    c : Call
-    c = call.Service (Some gave) buf
+goes-turned : (gave : PeerRef × Addr × ℕ) (buf : List ℕ) (old new : Site) (e : HostEnd) (own far : End) (f : HostEnd) → old.host.config.generations ≤ greatest → Acts (call.Service (Some gave) buf) old.host new.host
+    → (is_same_name e.name gave.0 ≡ false → KeepsLog old new e.connection) → (k : Shows old e own) → (IsServed gave buf old new e k.peer → Went own far new f)
+    → Went own far new (cond (is_same_name e.name gave.0) f e)
+goes-turned gave buf old new e own far f low acts others k served =
+    turned-by (Went own far new) gave buf old new e own f low acts k (λ never shows. goes-still old new e own far k (others never) shows)
+    (λ never x t there passes. vain old new e own far (call.Service (Some gave) buf) k low acts (others never) x t there passes) served
 
-    d : Logged
-    d = record { connection = l.own.connection; to = gave.1; peer = l.header.peer; text = take gave.2 buf; marks = l.marks }
+-- the datagram that is logged
+abbrev pub given_datagram : (fars : ℕ → List ℕ) (gave : PeerRef × Addr × ℕ) (buf : List ℕ) (old new : Site) → Logs fars (served_of gave buf) old new → Logged
+given_datagram fars gave buf old new l = record { connection = l.own.connection; to = gave.1; peer = l.header.peer; text = take gave.2 buf; marks = l.marks }
 
-    logs : new.log ≡ old.log ++ d ∷ []
-    logs = ap (λ (s : Site). s.log) l.rest
+pub given-logged : (fars : ℕ → List ℕ) (gave : PeerRef × Addr × ℕ) (buf : List ℕ) (old new : Site) (l : Logs fars (served_of gave buf) old new) → new.log ≡ old.log ++ given_datagram fars gave buf old new l ∷ []
+given-logged fars gave buf old new l = ap (λ (s : Site). s.log) l.rest
 
-    -- the datagram is of another connection
-    others : is_same_name e.name gave.0 ≡ false → KeepsLog old new e.connection
-    others never n y there of = elim (get-push old.log d n y (subst (λ (m : List Logged). slice_get m n ≡ Some y) logs there)) [
+-- it is of another connection than an end's that didn't give it
+pub given-others : (fars : ℕ → List ℕ) (gave : PeerRef × Addr × ℕ) (buf : List ℕ) (old new : Site) (e : HostEnd) (l : Logs fars (served_of gave buf) old new) → IsApart old.ends e → is_same_name e.name gave.0 ≡ false → KeepsLog old new e.connection
+given-others fars gave buf old new e l apart never n y there of =
+    elim (get-push old.log (given_datagram fars gave buf old new l) n y (subst (λ (m : List Logged). slice_get m n ≡ Some y) (given-logged fars gave buf old new l) there)) [
       | inl h ↦ h
       | inr is ↦ (let same : l.own ≡ e = apart l.own l.there (inr (ap (λ (z : Logged). z.connection) is ∙ of)) in
           let named : e.name ≡ gave.0 = ap (λ (z : HostEnd). z.name) (sym same) ∙ l.name in
           absurd (let sure : is_same_name e.name gave.0 ≡ true = same-name e.name gave.0 (ap (λ (z : PeerRef). z.slot) named) (ap (λ (z : PeerRef). z.generation) named) in let z : true ≡ false = sym sure ∙ never in cc))
     ]
 
-    served : IsServed gave buf old new e k.peer → Went own far new (record e { greatest = l.greatest })
-    served h =
-        let x : IsThere old.host.slots e.name k.peer = h.there in
-        let g : PeerEmits old.host.clock gave.2 buf x.slot h.after = h.gives in
-        let p : g.peer ≡ k.peer = same-some g.peer k.peer (sym g.held ∙ x.peer) in
-        let named : gave.0 ≡ e.name = (λ i. record { slot = sym h.slot i; generation = sym h.generation i }) in
-        let same : l.own ≡ e = apart l.own l.there (inl (l.name ∙ named)) in
-        let counts : Counts (take gave.2 buf) e.greatest l.greatest (fars e.connection) l.marks = subst (λ (z : HostEnd). Counts (take gave.2 buf) z.greatest l.greatest (fars z.connection) l.marks) same l.counts in
-        let shows : ShowsPeer new.host e.name g.after =
-        shows-after c old.host new.host e.name k.peer g.after x h.after (Rattle.enet_slot.specs.Emitting.with_emitted x.slot gave.2).emitted low (same-generations c old.host new.host acts) h.is
-        (g.left ∙ emitted-apart x.slot g.after (Rattle.enet_slot.specs.Emitting.with_emitted x.slot gave.2).emitted) in
-        goes-logged old new e own far old.host.clock gave.2 g.after buf k (subst (λ (y : Peering). PutsOut old.host.clock (Some gave.2) y g.after buf) p g.puts) shows l.greatest (fars e.connection) l.marks d counts theirs l.header l.commands l.read refl refl refl logs
+-- the end that gave it
+pub served-end : (fars : ℕ → List ℕ) (gave : PeerRef × Addr × ℕ) (buf : List ℕ) (old new : Site) (e : HostEnd) (p : Peering) (l : Logs fars (served_of gave buf) old new) → IsApart old.ends e → IsServed gave buf old new e p → l.own ≡ e
+served-end fars gave buf old new e p l apart h = let named : gave.0 ≡ e.name = (λ i. record { slot = sym h.slot i; generation = sym h.generation i }) in apart l.own l.there (inl (l.name ∙ named))
+
+pub served-logs : (fars : ℕ → List ℕ) (gave : PeerRef × Addr × ℕ) (buf : List ℕ) (old new : Site) (e : HostEnd) (own far : End) → old.host.config.generations ≤ greatest
+    → Acts (call.Service (Some gave) buf) old.host new.host → (l : Logs fars (served_of gave buf) old new) → IsApart old.ends e
+    → ((channel : ℕ) → channel < 255 → greatest_at (fars e.connection) channel ≡ sent_on channel far) → (k : Shows old e own) → IsServed gave buf old new e k.peer
+    → Logging old.host.clock new (record e { greatest = l.greatest }) own far k.peer (given_datagram fars gave buf old new l)
+served-logs fars gave buf old new e own far low acts l apart theirs k h =
+    let x : IsThere old.host.slots e.name k.peer = h.there in
+    let g : PeerEmits old.host.clock gave.2 buf x.slot h.after = h.gives in
+    let p : g.peer ≡ k.peer = same-some g.peer k.peer (sym g.held ∙ x.peer) in
+    let same : l.own ≡ e = served-end fars gave buf old new e k.peer l apart h in
+    let counts : Counts (take gave.2 buf) e.greatest l.greatest (fars e.connection) l.marks = subst (λ (z : HostEnd). Counts (take gave.2 buf) z.greatest l.greatest (fars z.connection) l.marks) same l.counts in
+    let shows : ShowsPeer new.host e.name g.after =
+    shows-after (call.Service (Some gave) buf) old.host new.host e.name k.peer g.after x h.after (Rattle.enet_slot.specs.Emitting.with_emitted x.slot gave.2).emitted low (same-generations (call.Service (Some gave) buf) old.host new.host acts) h.is
+    (g.left ∙ emitted-apart x.slot g.after (Rattle.enet_slot.specs.Emitting.with_emitted x.slot gave.2).emitted) in
+    logs-one old new e own far old.host.clock gave.2 g.after buf k (subst (λ (y : Peering). PutsOut old.host.clock (Some gave.2) y g.after buf) p g.puts) shows l.greatest (fars e.connection) l.marks (given_datagram fars gave buf old new l) counts theirs l.header l.commands
+    l.read refl refl refl (given-logged fars gave buf old new l)
+
+-- an end whose host gave a datagram that is logged
+pub goes-served : (fars : ℕ → List ℕ) (gave : PeerRef × Addr × ℕ) (buf : List ℕ) (old new : Site) (e : HostEnd) (own far : End) → old.host.config.generations ≤ greatest
+    → Acts (call.Service (Some gave) buf) old.host new.host → (l : Logs fars (served_of gave buf) old new) → IsApart old.ends e
+    → ((channel : ℕ) → channel < 255 → greatest_at (fars e.connection) channel ≡ sent_on channel far) → Shows old e own
+    → Went own far new (cond (is_same_name e.name gave.0) (record e { greatest = l.greatest }) e)
+goes-served fars gave buf old new e own far low acts l apart theirs k =
+    goes-turned gave buf old new e own far (record e { greatest = l.greatest }) low acts (given-others fars gave buf old new e l apart) k
+    (λ h. went-logged old.host.clock new (record e { greatest = l.greatest }) own far k.peer (given_datagram fars gave buf old new l) (served-logs fars gave buf old new e own far low acts l apart theirs k h))
 
 -- where a datagram was given to an address at which the end's peer isn't, the end puts nothing out
 pub goes-unserved : (gave : PeerRef × Addr × ℕ) (buf : List ℕ) (old new : Site) (e : HostEnd) (own far : End) → old.host.config.generations ≤ greatest

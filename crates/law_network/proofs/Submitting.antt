@@ -166,9 +166,11 @@ stays-if true ds p r is alone = let a : AllAlone (Take None ∷ []) p r = subst 
 stays-if false ds p r is alone = subst (λ (l : List Deed). AllAlone l p r) is alone
 
 -- the slot `from`, which held a peer, gave it
-pub goes-taken : (told' : Told) (old new : Site) (e : HostEnd) (own far : End) → old.host.config.generations ≤ greatest → (acts : TakesOne old.host told' new.host) → KeepsLog old new e.connection → Shows old e own
-    → Went own far new (cond (is_same_name e.name (name_of acts.from acts.first.slot)) (with_event told' e) e)
-goes-taken told' old new e own far low acts same k = by (moved c old.host new.host e.name k.peer low acts k.shows)
+-- whatever is to be shown of an end afterwards: its peer is as it was, or its user takes
+pub taken-by : (M : HostEnd → Type 0) (told' : Told) (old new : Site) (e : HostEnd) (own far : End) → old.host.config.generations ≤ greatest → (acts : TakesOne old.host told' new.host) → KeepsLog old new e.connection → (k : Shows old e own)
+    → (ShowsPeer new.host e.name k.peer → M e) → ((end : End) → event.Happens own far event.Take end → Shows new (with_event told' e) end → M (with_event told' e))
+    → M (cond (is_same_name e.name (name_of acts.from acts.first.slot)) (with_event told' e) e)
+taken-by M told' old new e own far low acts same k still takes = by (moved c old.host new.host e.name k.peer low acts k.shows)
   where
     c : Call
     c = call.NextEvent (Some told')
@@ -197,18 +199,23 @@ goes-taken told' old new e own far low acts same k = by (moved c old.host new.ho
     taken-end : Peering → End
     taken-end p = record own { peer = Some p; events = own.events ++ t ∷ [] }
 
+    stays : is_same_name e.name name ≡ false → M e → M (cond (is_same_name e.name name) f e)
+    stays never m = subst (λ (b : Bool). M (cond b f e)) (sym never) m
+
+    changes : is_same_name e.name name ≡ true → M f → M (cond (is_same_name e.name name) f e)
+    changes sure m = subst (λ (b : Bool). M (cond b f e)) (sym sure) m
+
     runs : (p : Peering) → next_event k.peer ≡ Some (record { event = t; after = p }) → RunsAt (event.Take ∷ []) own far (taken-end p)
     runs p next = (taken-end p, (k.peer, p, t, k.has, next, refl), refl)
 
-    by : Moved c old.host new.host e.name k.peer → Went own far new (cond (is_same_name e.name name) f e)
-    by (is_gone shows never) = stays-as own far new (is_same_name e.name name) f e (not-there old.host.slots e.name name acts.first.slot acts.gives.peer acts.first.there refl acts.gives.held never) (goes-still old new e own far k same shows)
+    by : Moved c old.host new.host e.name k.peer → M (cond (is_same_name e.name name) f e)
+    by (is_gone shows never) = stays (not-there old.host.slots e.name name acts.first.slot acts.gives.peer acts.first.there refl acts.gives.held never) (still shows)
     by (goes x ds r fell alone shows) = at (same-or acts.from e.name.slot)
       where
-        at : (acts.from ≡ e.name.slot) ⊎ (acts.from ≢ e.name.slot) → Went own far new (cond (is_same_name e.name name) f e)
+        at : (acts.from ≡ e.name.slot) ⊎ (acts.from ≢ e.name.slot) → M (cond (is_same_name e.name name) f e)
         at (inr n) =
-            let stays : k.peer ≡ r = stays-if before ds k.peer r (fell ∙ fallen false (grind (arith, nat_tests))) alone in
-            stays-as own far new (is_same_name e.name name) f e (other-slot e.name name (λ z. n (sym z)))
-            (goes-still old new e own far k same (subst (λ (y : Peering). ShowsPeer new.host e.name y) (sym stays) shows))
+            let remains : k.peer ≡ r = stays-if before ds k.peer r (fell ∙ fallen false (grind (arith, nat_tests))) alone in
+            stays (other-slot e.name name (λ z. n (sym z))) (still (subst (λ (y : Peering). ShowsPeer new.host e.name y) (sym remains) shows))
         at (inl here) =
             let one : ds ≡ Take (Some t) ∷ [] = fell ∙ fallen true (grind (arith, nat_tests)) in
             let a : AllAlone (Take (Some t) ∷ []) k.peer r = subst (λ (l : List Deed). AllAlone l k.peer r) one alone in
@@ -216,22 +223,24 @@ goes-taken told' old new e own far low acts same k = by (moved c old.host new.ho
             let g : e.name.generation ≡ name.generation = sym x.same ∙ ap (λ (s : SlotState). s.generation) (sym slot) in
             let called : name ≡ e.name = (λ i. record { slot = here i; generation = sym g i }) in
             let event' : told' ≡ event_of e.name t = is ∙ ap (λ (y : PeerRef). event_of y t) called in
-            changes-as own far new (is_same_name e.name name) f e (same-name e.name name (sym here) g)
-            (subst (λ (y : Told). Went own far new (with_event y e)) (sym event') (record {
-              new = taken-end a.0;
-              events = event.Take ∷ [];
-              runs = runs a.0 a.1;
-              shows = record {
-                peer = r;
-                has = ap (λ (y : Peering). Some y) a.2;
-                shows = shows;
-                long = event-long t e.name e.channels k.long;
-                numbers = k.numbers;
-                log = λ n d h of. k.log n d (same n d h of) of;
-                greatest = k.greatest;
-                mtu = mtu-stays e.mtu (event.Take ∷ []) own far (taken-end a.0) k.peer r k.has (runs a.0 a.1) (ap (λ (y : Peering). Some y) a.2) refl k.mtu;
-                submitted = λ j few. event-part (λ (y : ChannelPackets). y.submitted) (λ q y. refl) t e.name e.channels j k.long few ∙ k.submitted j few;
-                taken = λ j few. event-taken t e.name e.channels j own.events k.long few (k.taken j few);
-                events = ap (λ (l : List Told). l ++ event_of e.name t ∷ []) k.events ∙ sym (map-append (event_of e.name) own.events (t ∷ []));
-              };
-            }))
+            let shown : Shows new (with_event (event_of e.name t) e) (taken-end a.0) = record {
+              peer = r;
+              has = ap (λ (y : Peering). Some y) a.2;
+              shows = shows;
+              long = event-long t e.name e.channels k.long;
+              numbers = k.numbers;
+              log = λ n d h of. k.log n d (same n d h of) of;
+              greatest = k.greatest;
+              mtu = mtu-stays e.mtu (event.Take ∷ []) own far (taken-end a.0) k.peer r k.has (runs a.0 a.1) (ap (λ (y : Peering). Some y) a.2) refl k.mtu;
+              submitted = λ j few. event-part (λ (y : ChannelPackets). y.submitted) (λ q y. refl) t e.name e.channels j k.long few ∙ k.submitted j few;
+              taken = λ j few. event-taken t e.name e.channels j own.events k.long few (k.taken j few);
+              events = ap (λ (l : List Told). l ++ event_of e.name t ∷ []) k.events ∙ sym (map-append (event_of e.name) own.events (t ∷ []));
+            } in
+            changes (same-name e.name name (sym here) g)
+            (takes (taken-end a.0) (k.peer, a.0, t, k.has, a.1, refl) (subst (λ (y : Told). Shows new (with_event y e) (taken-end a.0)) (sym event') shown))
+
+pub goes-taken : (told' : Told) (old new : Site) (e : HostEnd) (own far : End) → old.host.config.generations ≤ greatest → (acts : TakesOne old.host told' new.host) → KeepsLog old new e.connection → Shows old e own
+    → Went own far new (cond (is_same_name e.name (name_of acts.from acts.first.slot)) (with_event told' e) e)
+goes-taken told' old new e own far low acts same k =
+    taken-by (Went own far new) told' old new e own far low acts same k (λ shows. goes-still old new e own far k same shows)
+    (λ end takes shows. record { new = end; events = event.Take ∷ []; runs = (end, takes, refl); shows = shows })

@@ -20,3 +20,4 @@ pub mod Alike
 pub mod Own
 pub mod Beginnings
 pub mod Ends
+pub mod Telling

@@ -18,6 +18,7 @@
 
 ghost use Rattle.std.specs.Prelude.{true, false};
 ghost use Rattle.law_network.specs.Law.{OneThing, GoOnAt, Asked, Answered, AreLawful, OfEachRun, OfEachJoinedRun, OfEachList, OfEachJoinedList};
+ghost use Rattle.law_network.specs.Telling.{Turns, Rests, Brings, PassesOver, Times, TakesOne};
 ghost use Rattle.law_network.specs.Alone.{EachAlone, EachAloneAmong};
 ghost use Rattle.law_network.specs.Headline.{HasHeadline};
 ghost use Rattle.law_network.specs.Examples.{IsInRange, CrossesOpened, CrossesJoined};
@@ -52,6 +53,22 @@ pub fn each_thing_is_events()
     ensures goes_on { OneThing }
     ensures asked { Asked }
     ensures answered { Answered }
+{}
+
+/// Which events these are: each end that a host shows is shown afterwards, and by these very events it has come to where it is then.
+///
+/// `turns`: a turn by which the host puts a datagram out to another host. An end put it out, with just the commands that its log has more,
+/// in order; or it was asked in vain, or not asked, and nothing of its connection went. `rests`: a turn by which the host puts nothing out
+/// asks each end in vain. `brings`: of a datagram of the end's own connection that the network brings to its slot, and that no command
+/// stops, all commands come, in order. `passes_over`: one of another connection is nothing to it. `times`: where time goes on at the host
+/// it does at the end, whose throttle may be limited then. `takes_one`: where the host's user takes, the end gives an event, or none.
+pub fn which_events_these_are()
+    ensures turns { Turns }
+    ensures rests { Rests }
+    ensures brings { Brings }
+    ensures passes_over { PassesOver }
+    ensures times { Times }
+    ensures takes_one { TakesOne }
 {}
 
 /// The law of a host that there is: what happens at it is events of each of its connections, as `goes_on` says, with no premise on
