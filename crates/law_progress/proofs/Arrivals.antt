@@ -34,7 +34,7 @@ but-for-room most r c full ok = by (is_piece_of_its_packet wire most r c) ok
     by false e = absurd (cc)
 
 -- the receivers once unreliable packets gave way
-given_way-there : (rs : List ReceivingEnd) (i : ℕ) (r : ReceivingEnd) → slice_get rs i ≡ Some r → slice_get (map given_way_receiver rs) i ≡ Some (given_way_receiver r)
+pub given_way-there : (rs : List ReceivingEnd) (i : ℕ) (r : ReceivingEnd) → slice_get rs i ≡ Some r → slice_get (map given_way_receiver rs) i ≡ Some (given_way_receiver r)
 given_way-there [] i r e = absurd (cc)
 given_way-there (x ∷ rs) zero r e = let it : x ≡ r = cc in ap (λ (y : ReceivingEnd). Some (given_way_receiver y)) it
 given_way-there (x ∷ rs) (suc i) r e = given_way-there rs i r e

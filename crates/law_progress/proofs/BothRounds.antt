@@ -1,5 +1,5 @@
 -- What a round brings to two ends, over all their channels.
-use Rattle.std.proofs.Common.{◌≡◌, ℕ, zero, suc, ◌+◌, ◌%◌, ◌<◌, ◌≤◌, ◌||◌, ltb, max, min, Bool, true, false, cond, List, [], ◌∷◌, length, map, refl, sym, ap, subst, ◌∙◌, inl, inr, ◌⊎◌, arith, Some, is_some}
+use Rattle.std.proofs.Common.{◌≡◌, ℕ, zero, suc, ◌+◌, ◌%◌, ◌<◌, ◌≤◌, ◌||◌, ltb, max, min, Bool, true, false, cond, List, [], ◌∷◌, length, map, refl, sym, ap, subst, ◌∙◌, inl, inr, ◌⊎◌, arith, Option, Some, None, is_some}
 use Rattle.std.proofs.lemmas.Bool.Decides.{nat_tests}
 use Rattle.std.proofs.lemmas.List.{length-map}
 use Rattle.std.specs.List.{slice_get, list_any, position}
@@ -40,35 +40,35 @@ use Rattle.law_progress.proofs.Waiting.{or-both, none-of, Has-at, Has-mapped}
 use Rattle.law_connection.proofs.Runs.{get-map}
 
 -- a command of the one end waits, and its acknowledgement is on its way: it waits to go at the other
-record Coming (other : End) (p : Peering) : Type 0 where
-  answer : Acknowledgement
-  low : answer.channel < 255
-  waits : Waits p.outbox.senders answer.channel answer.number
-  peer : Peering
-  is : other.peer ≡ Some peer
-  there : Has peer.outbox.acknowledgements answer
+pub record Coming (other : End) (p : Peering) : Type 0 where
+  pub answer : Acknowledgement
+  pub low : answer.channel < 255
+  pub waits : Waits p.outbox.senders answer.channel answer.number
+  pub peer : Peering
+  pub is : other.peer ≡ Some peer
+  pub there : Has peer.outbox.acknowledgements answer
 
 -- the acknowledgement of a command of this number waits to go at an end, or at a peer
-abbrev OnItsWay : End → ℕ → ℕ → Type 0
+abbrev pub OnItsWay : End → ℕ → ℕ → Type 0
 OnItsWay other channel number = (time : ℕ) × (q : Peering) × (other.peer ≡ Some q) × Has q.outbox.acknowledgements (record { channel = channel; number = number; time = time })
 
-abbrev AnswersAt : Peering → ℕ → ℕ → Type 0
+abbrev pub AnswersAt : Peering → ℕ → ℕ → Type 0
 AnswersAt q channel number = (time : ℕ) × Has q.outbox.acknowledgements (record { channel = channel; number = number; time = time })
 
 -- an end puts out all that it may, and all of it comes. Of what waits each command has this property, or its acknowledgement is on its way
-record Sending (joined : Bool) (D : ℕ → Sent → Type 0) (p0 q0 : Peering) (from to : End) : Type 0 where
-  joint : Joint joined from to
-  peer : Peering
-  is : from.peer ≡ Some peer
-  connected : peer.state ≡ state.Connected
-  mtu : peer.terms.mtu ≡ p0.terms.mtu
-  other : Peering
-  other_is : to.peer ≡ Some other
-  other_connected : other.state ≡ state.Connected
-  other_kept : Kept q0 other
-  least : outstanding_over peer.outbox.senders ≤ outstanding_over p0.outbox.senders
-  how : (peer.outbox.senders ≡ p0.outbox.senders) ⊎ ((outstanding_over peer.outbox.senders < outstanding_over p0.outbox.senders) ⊎ Coming to peer)
-  all : (channel : ℕ) (t : Sent) → HasSent peer.outbox.senders channel t → D channel t ⊎ OnItsWay to channel t.command.number
+pub record Sending (joined : Bool) (D : ℕ → Sent → Type 0) (p0 q0 : Peering) (from to : End) : Type 0 where
+  pub joint : Joint joined from to
+  pub peer : Peering
+  pub is : from.peer ≡ Some peer
+  pub connected : peer.state ≡ state.Connected
+  pub mtu : peer.terms.mtu ≡ p0.terms.mtu
+  pub other : Peering
+  pub other_is : to.peer ≡ Some other
+  pub other_connected : other.state ≡ state.Connected
+  pub other_kept : Kept q0 other
+  pub least : outstanding_over peer.outbox.senders ≤ outstanding_over p0.outbox.senders
+  pub how : (peer.outbox.senders ≡ p0.outbox.senders) ⊎ ((outstanding_over peer.outbox.senders < outstanding_over p0.outbox.senders) ⊎ Coming to peer)
+  pub all : (channel : ℕ) (t : Sent) → HasSent peer.outbox.senders channel t → D channel t ⊎ OnItsWay to channel t.command.number
 
 sending-start : (joined : Bool) (D : ℕ → Sent → Type 0) (p0 q0 : Peering) (from to : End) → Joint joined from to → from.peer ≡ Some p0 → p0.state ≡ state.Connected → to.peer ≡ Some q0 → q0.state ≡ state.Connected
     → ((channel : ℕ) (t : Sent) → HasSent p0.outbox.senders channel t → D channel t ⊎ OnItsWay to channel t.command.number) → Sending joined D p0 q0 from to
@@ -222,7 +222,7 @@ answers-many joined now there (suc n) from to from' to' q p a m j is on other_is
         (sending-start joined (HasSent (put_out q now).outbox.senders) (put_out q now) came.peer m.0 m.1 next g.peer on came.is came.connected (λ channel t h. inl h))
 
 -- all acknowledgements that wait go and come, or wait still; what comes takes its command away
-answers-all : (joined : Bool) (D : ℕ → Sent → Type 0) (now there n : ℕ) (from to from' to' : End) (q p : Peering) → PutsMany now there n from to from' to' → Joint joined from to → from.peer ≡ Some q → q.state ≡ state.Connected
+pub answers-all : (joined : Bool) (D : ℕ → Sent → Type 0) (now there n : ℕ) (from to from' to' : End) (q p : Peering) → PutsMany now there n from to from' to' → Joint joined from to → from.peer ≡ Some q → q.state ≡ state.Connected
     → to.peer ≡ Some p → p.state ≡ state.Connected → ((channel : ℕ) (t : Sent) → HasSent p.outbox.senders channel t → D channel t ⊎ AnswersAt q channel t.command.number)
     → (r : Peering) × (to'.peer ≡ Some r) × (s : Peering) × (from'.peer ≡ Some s) × ((channel : ℕ) (t : Sent) → HasSent r.outbox.senders channel t → D channel t ⊎ AnswersAt s channel t.command.number)
 answers-all joined D now there zero from to from' to' q p m j is on other_is other_on all =
@@ -273,17 +273,17 @@ answers-all joined D now there (suc n) from to from' to' q p m j is on other_is 
             a = record { channel = channel; number = t.command.number; time = w.0 }
 
 -- the one end puts out all that it may, and then the other does
-record Exchanged (joined : Bool) (D : ℕ → Sent → Type 0) (now : ℕ) (p0 q0 : Peering) (from1 to1 to2 from2 : End) : Type 0 where
-  first : Sending joined D p0 q0 from1 to1
-  then' : Sending joined (HasSent first.other.outbox.senders) first.other first.peer to2 from2
+pub record Exchanged (joined : Bool) (D : ℕ → Sent → Type 0) (now : ℕ) (p0 q0 : Peering) (from1 to1 to2 from2 : End) : Type 0 where
+  pub first : Sending joined D p0 q0 from1 to1
+  pub then' : Sending joined (HasSent first.other.outbox.senders) first.other first.peer to2 from2
   -- nothing waits any more whose acknowledgement was on its way
-  none : (channel : ℕ) (t : Sent) → HasSent then'.other.outbox.senders channel t → D channel t
-  due : (channel : ℕ) (t : Sent) → HasSent then'.other.outbox.senders channel t → t.transmission.due ≡ false
-  least : outstanding_over then'.other.outbox.senders ≤ outstanding_over p0.outbox.senders
-  how : (outstanding_over then'.other.outbox.senders < outstanding_over p0.outbox.senders)
+  pub none : (channel : ℕ) (t : Sent) → HasSent then'.other.outbox.senders channel t → D channel t
+  pub due : (channel : ℕ) (t : Sent) → HasSent then'.other.outbox.senders channel t → t.transmission.due ≡ false
+  pub least : outstanding_over then'.other.outbox.senders ≤ outstanding_over p0.outbox.senders
+  pub how : (outstanding_over then'.other.outbox.senders < outstanding_over p0.outbox.senders)
       ⊎ ((then'.other.outbox.senders ≡ p0.outbox.senders) × (first.peer.outbox.senders ≡ p0.outbox.senders) × NothingMayGo (pace_of first.peer now) first.peer.outbox)
 
-exchanged : (joined : Bool) (D : ℕ → Sent → Type 0) (now there : ℕ) (p0 q0 : Peering) (from to from1 to1 to2 from2 : End) → Joint joined from to → from.peer ≡ Some p0 → p0.state ≡ state.Connected → to.peer ≡ Some q0 → q0.state ≡ state.Connected
+pub exchanged : (joined : Bool) (D : ℕ → Sent → Type 0) (now there : ℕ) (p0 q0 : Peering) (from to from1 to1 to2 from2 : End) → Joint joined from to → from.peer ≡ Some p0 → p0.state ≡ state.Connected → to.peer ≡ Some q0 → q0.state ≡ state.Connected
     → PutsAll now there from to from1 to1 → PutsAll there now to1 from1 to2 from2 → ((channel : ℕ) (t : Sent) → HasSent p0.outbox.senders channel t → D channel t ⊎ OnItsWay to channel t.command.number)
     → Exchanged joined D now p0 q0 from1 to1 to2 from2
 exchanged joined D now there p0 q0 from to from1 to1 to2 from2 j is on other_is other_on forth back all = record {
@@ -346,19 +346,20 @@ exchanged joined D now there p0 q0 from to from1 to1 to2 from2 j is on other_is 
         ]
 
 -- ---- the clock goes on
-abbrev NoneDue : List SendingEnd → Type 0
+abbrev pub NoneDue : List SendingEnd → Type 0
 NoneDue xs = (s : SendingEnd) → Has xs s → (t : Sent) → Has s.sender.sent t → t.transmission.due ≡ false
 
-abbrev NoneLate : ℕ → List SendingEnd → Type 0
+abbrev pub NoneLate : ℕ → List SendingEnd → Type 0
 NoneLate now xs = (s : SendingEnd) → Has xs s → (t : Sent) → Has s.sender.sent t → has_waited_out now t ≡ false
 
-record Ticked (now : ℕ) (p q : Peering) : Type 0 where
-  over : outstanding_over q.outbox.senders ≡ outstanding_over p.outbox.senders
-  mtu : q.terms.mtu ≡ p.terms.mtu
-  idle : NoneDue q.outbox.senders → (q.outbox.senders ≡ p.outbox.senders) × NoneLate now p.outbox.senders
-  from : (channel : ℕ) (t : Sent) → HasSent q.outbox.senders channel t → t.transmission.due ≡ false → HasSent p.outbox.senders channel t × (has_waited_out now t ≡ false)
-  was : (channel : ℕ) (t : Sent) → HasSent q.outbox.senders channel t → (x : Sent) × HasSent p.outbox.senders channel x × (x.command.number ≡ t.command.number)
-  acknowledgements : q.outbox.acknowledgements ≡ p.outbox.acknowledgements
+pub record Ticked (now : ℕ) (p q : Peering) : Type 0 where
+  pub over : outstanding_over q.outbox.senders ≡ outstanding_over p.outbox.senders
+  pub mtu : q.terms.mtu ≡ p.terms.mtu
+  pub idle : NoneDue q.outbox.senders → (q.outbox.senders ≡ p.outbox.senders) × NoneLate now p.outbox.senders
+  pub from : (channel : ℕ) (t : Sent) → HasSent q.outbox.senders channel t → t.transmission.due ≡ false → HasSent p.outbox.senders channel t × (has_waited_out now t ≡ false)
+  pub was : (channel : ℕ) (t : Sent) → HasSent q.outbox.senders channel t → (x : Sent) × HasSent p.outbox.senders channel x × (x.command.number ≡ t.command.number)
+  pub still : (channel number : ℕ) → Waits p.outbox.senders channel number → Waits q.outbox.senders channel number
+  pub acknowledgements : q.outbox.acknowledgements ≡ p.outbox.acknowledgements
 
 over-marked : (bound now : ℕ) (xs : List SendingEnd) → outstanding_over (map (marked_sender bound now) xs) ≡ outstanding_over xs
 over-marked bound now [] = refl
@@ -403,12 +404,25 @@ sent-marked bound now xs channel t h =
     let m = get-map (marked_sender bound now) xs channel h.0 h.1 in
     (m.0, m.1, subst (λ (y : SendingEnd). Has y.sender.sent t) (sym m.2) h.2)
 
+nums-marked : (bound now : ℕ) (xs : List Sent) (n : ℕ) → Has (nums xs) n → Has (nums (map (marked bound now) xs)) n
+nums-marked bound now [] n h = absurd h
+nums-marked bound now (x ∷ xs) n (inl e) = inl e
+nums-marked bound now (x ∷ xs) n (inr h) = inr (nums-marked bound now xs n h)
+
+waits-marked : (bound now : ℕ) (xs : List SendingEnd) (channel number : ℕ) → Waits xs channel number → Waits (map (marked_sender bound now) xs) channel number
+waits-marked bound now [] channel number w = absurd (let z : ◌≡◌ {A = Option SendingEnd} None (Some w.0) = w.1 in cc)
+waits-marked bound now (x ∷ xs) zero number w =
+    let z : ◌≡◌ {A = Option SendingEnd} (Some x) (Some w.0) = w.1 in
+    let same : w.0 ≡ x = cc in
+    (marked_sender bound now x, refl, nums-marked bound now x.sender.sent number (subst (λ (y : SendingEnd). Has (nums y.sender.sent) number) same w.2))
+waits-marked bound now (x ∷ xs) (suc channel) number w = waits-marked bound now xs channel number w
+
 state-pinged : (q : Peering) (now : ℕ) → (pinged q now).state ≡ q.state
 state-pinged q now = elim (is_pinged q now) as (λ b. (cond b (record q { outbox = with_control q.outbox control.Ping }) q).state ≡ q.state) [ true ↦ refl | false ↦ refl ]
 
 ticked-pinged : (p q : Peering) (now : ℕ) → Ticked now p q → Ticked now p (pinged q now)
 ticked-pinged p q now k = elim (is_pinged q now) as (λ b. Ticked now p (cond b (record q { outbox = with_control q.outbox control.Ping }) q)) [
-  | true ↦ record { over = k.over; mtu = k.mtu; idle = k.idle; from = k.from; was = k.was; acknowledgements = k.acknowledgements }
+  | true ↦ record { over = k.over; mtu = k.mtu; idle = k.idle; from = k.from; was = k.was; still = k.still; acknowledgements = k.acknowledgements }
   | false ↦ k
 ]
 
@@ -416,7 +430,7 @@ cut-state : (s : PeerState) (p : Peering) → (cut_off_in s p).state ≡ state.C
 cut-state state.Answering p e = cc
 cut-state s p e = cc
 
-ticked-so : (p : Peering) (now : ℕ) → (ticked p now).state ≡ state.Connected → Ticked now p (ticked p now)
+pub ticked-so : (p : Peering) (now : ℕ) → (ticked p now).state ≡ state.Connected → Ticked now p (ticked p now)
 ticked-so p now stays = by (has_ended p.outbox now p.patience p.heard) (has_late p.outbox now) refl refl
   where
     after : Bool → Bool → Peering
@@ -434,6 +448,7 @@ ticked-so p now stays = by (has_ended p.outbox now p.patience p.heard) (has_late
           idle = λ h. all-marks-none (growth_bound p) now p.outbox.senders h;
           from = λ channel t h due. (let m = sent-marked (growth_bound p) now p.outbox.senders channel t h in let k = from-marked (growth_bound p) now m.0.sender.sent t m.2 due in ((m.0, m.1, k.0), k.1));
           was = λ channel t h. (let m = sent-marked (growth_bound p) now p.outbox.senders channel t h in let k = Has-mapped (marked (growth_bound p) now) m.0.sender.sent t m.2 in (k.0, (m.0, m.1, k.1), ap (λ (y : Sent). y.command.number) k.2));
+          still = waits-marked (growth_bound p) now p.outbox.senders;
           acknowledgements = refl;
         }))
     by false false e f =
@@ -444,6 +459,7 @@ ticked-so p now stays = by (has_ended p.outbox now p.patience p.heard) (has_late
           idle = λ h. (refl, λ s k t m. none-of (has_waited_out now) s.sender.sent t (none-of (λ (y : SendingEnd). list_any (has_waited_out now) y.sender.sent) p.outbox.senders s (or-both _ _ f).1 k) m);
           from = λ channel t h due. (h, none-of (has_waited_out now) h.0.sender.sent t (none-of (λ (y : SendingEnd). list_any (has_waited_out now) y.sender.sent) p.outbox.senders h.0 (or-both _ _ f).1 (Has-at p.outbox.senders channel h.0 h.1)) h.2);
           was = λ channel t h. (t, h, refl);
+          still = λ channel number w. w;
           acknowledgements = refl;
         }))
 
@@ -462,7 +478,7 @@ over-none (x ∷ xs) h =
     let rest = over-none xs (λ i s e. h (suc i) s e) in
     omega arith
 
-only-waits : (now : ℕ) (p p0 v u : Peering) → Ticked now p p0 → ((when : ℕ) → AllFit (pace_of p when) p.outbox) → v.outbox.senders ≡ p0.outbox.senders → v.terms.mtu ≡ p0.terms.mtu → u.outbox.senders ≡ p0.outbox.senders
+pub only-waits : (now : ℕ) (p p0 v u : Peering) → Ticked now p p0 → ((when : ℕ) → AllFit (pace_of p when) p.outbox) → v.outbox.senders ≡ p0.outbox.senders → v.terms.mtu ≡ p0.terms.mtu → u.outbox.senders ≡ p0.outbox.senders
     → NothingMayGo (pace_of v now) v.outbox → OnlyWaits now p u
 only-waits now p p0 v u t fit at_v mtu at_u rests = record {
   same = same;
@@ -502,7 +518,7 @@ only-waits now p p0 v u t fit at_v mtu at_u rests = record {
         }
 
 -- ---- a round
-tick-peer : (own other new : End) (now : ℕ) (p : Peering) → Happens own other (Tick now) new → own.peer ≡ Some p → new.peer ≡ Some (ticked p now)
+pub tick-peer : (own other new : End) (now : ℕ) (p : Peering) → Happens own other (Tick now) new → own.peer ≡ Some p → new.peer ≡ Some (ticked p now)
 tick-peer own other new now p h is = ap (λ (e : End). e.peer) h.2 ∙ ap (λ (x : Peering). Some (ticked x now)) (same-peer own h.0 p h.1 is)
 
 -- by a round's moments no patience is over
@@ -647,14 +663,14 @@ round-acknowledges joined now there c d p q i open_one open_two r = record {
     k = as-before joined now there c d p q i open_one open_two r
 
 -- ---- rounds, one after another
-abbrev total : Peering → Peering → ℕ
+abbrev pub total : Peering → Peering → ℕ
 total p q = outstanding_over p.outbox.senders + outstanding_over q.outbox.senders
 
-abbrev NothingSent : Peering → Type 0
+abbrev pub NothingSent : Peering → Type 0
 NothingSent p = (channel : ℕ) (t : Sent) → HasSent p.outbox.senders channel t → ⊥
 
 -- where time alone passed and nothing waits, nothing is outstanding
-none-waits : (now : ℕ) (p u : Peering) → OnlyWaits now p u → NothingSent u → (outstanding_over p.outbox.senders ≡ 0) × (outstanding_over u.outbox.senders ≡ 0)
+pub none-waits : (now : ℕ) (p u : Peering) → OnlyWaits now p u → NothingSent u → (outstanding_over p.outbox.senders ≡ 0) × (outstanding_over u.outbox.senders ≡ 0)
 none-waits now p u o nothing = (sym (ap outstanding_over o.same) ∙ none, none)
   where
     none : outstanding_over u.outbox.senders ≡ 0
@@ -703,7 +719,7 @@ nothing-left (x ∷ xs) zero e = (λ i. is_some (position (λ (c : DataCommand).
     sent = empty x.sender.sent (let z : length x.sender.queued + length x.sender.sent + outstanding_over xs ≡ 0 = e in omega arith)
 nothing-left (x ∷ xs) (suc channel) e = nothing-left xs channel (let z : length x.sender.queued + length x.sender.sent + outstanding_over xs ≡ 0 = e in omega arith)
 
-both-through : (joined : Bool) (d : Connection) (p q : Peering) → Invariant joined d → d.one.peer ≡ Some p → d.two.peer ≡ Some q → p.state ≡ state.Connected → q.state ≡ state.Connected → total p q ≡ 0 → BothThrough d
+pub both-through : (joined : Bool) (d : Connection) (p q : Peering) → Invariant joined d → d.one.peer ≡ Some p → d.two.peer ≡ Some q → p.state ≡ state.Connected → q.state ≡ state.Connected → total p q ≡ 0 → BothThrough d
 both-through joined d p q i is_one is_two on_one on_two none = record {
   one = p;
   is_one = is_one;

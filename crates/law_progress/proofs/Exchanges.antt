@@ -29,11 +29,12 @@ use Rattle.law_connection.proofs.FitEnds.{fit-peer}
 use Rattle.law_connection.proofs.Laws.{kept-at}
 use Rattle.law_connection.proofs.LinkRuns.{Sound-runs, Sound-fresh}
 use Rattle.law_connection.proofs.Shown.{Sound}
-use Rattle.law_progress.specs.Exchanges.{Comes, AllCome, outstanding_over, HasSent, Takes}
+use Rattle.law_progress.specs.Exchanges.{HasRoomFor, Comes, AllCome, outstanding_over, HasSent, Takes}
 use Rattle.law_progress.specs.Peers.{Awaits, IsAnswered, IsRemoved}
 use Rattle.law_progress.proofs.Carried.{nums, Has-nums, waits-in_time, none-left}
 use Rattle.law_progress.proofs.Emitted.{AreReliable, AreSound, Waits}
 use Rattle.law_progress.proofs.Filling.{Has-push}
+use Rattle.law_progress.proofs.NotStopped.{Reaches, not-stopped}
 use Rattle.law_progress.proofs.Obeyed.{Kept, kept-self, kept-least, kept-then, hears-kept}
 use Rattle.law_progress.proofs.PeerAnswers.{answers-forth}
 use Rattle.law_progress.proofs.Removed.{removed}
@@ -334,8 +335,8 @@ came-answers joined now time from (x ∷ puts) to new p put channel c come (inl 
         no-data : (m : Message) (number t : ℕ) (d : DataCommand) → m.body ≡ acknowledge number t → data_of m ≡ Some d → ⊥
         no-data m number t d e r = (let z : None ≡ Some d = ap (read_of m.head) (sym e) ∙ r in cc)
 
-    awaits : Awaits from to p q put channel c
-    awaits = (let room = k.room c (ap (λ (y : Put). data_of y.message) same ∙ reads_so) in record {
+    awaits : HasRoomFor from x q → Awaits from to p q put channel c
+    awaits has_room = (let room = has_room.there c (ap (λ (y : Put). data_of y.message) same ∙ reads_so) in record {
       from_is = is;
       to_is = k.is;
       sends = ap sends_in connected;
@@ -349,12 +350,29 @@ came-answers joined now time from (x ∷ puts) to new p put channel c come (inl 
       end = room.0;
       there = subst (λ n. slice_get q.inbox.receivers n ≡ Some room.0) (ap (λ (y : Put). y.message.head.channel) same ∙ on) room.1;
       room = room.2;
-      free = k.free;
+      free = has_room.free;
       short = room.3;
     })
 
+    reaches : Reaches from to p q put channel c
+    reaches = record {
+      from_is = is;
+      to_is = k.is;
+      sends = ap sends_in connected;
+      connected = k.connected;
+      logged = logged;
+      message = message;
+      reads = reads;
+      reliable = reliable;
+      waits = subst (λ (o : Option SendingEnd). Has (nums (sender_in o).sent) c.number) (sym w.1) w.2;
+      in_time = fresh;
+    }
+
     answered : IsAnswered q channel time c (obeyed q now (Some time) put.message)
-    answered = answers-forth joined (record { one = from; two = to }) p q put channel c now time j low awaits
+    answered = elim k.room [
+      | inl has_room ↦ answers-forth joined (record { one = from; two = to }) p q put channel c now time j low (awaits has_room)
+      | inr goes ↦ not-stopped joined (record { one = from; two = to }) p q put channel c now time j low reaches (subst (λ (y : Put). (obeyed q now (Some time) y.message).stop ≡ None) same goes)
+    ]
 
 -- an acknowledgement that waits is in time
 acknowledged-in-time : (joined : Bool) (from to : End) (p : Peering) (put : Put) (a : Acknowledgement) → Joint joined from to → to.peer ≡ Some p → p.state ≡ state.Connected → a.channel < 255 → Waits p.outbox.senders a.channel a.number

@@ -23,6 +23,7 @@ pub mod AllOut
 -- a peer
 pub mod Arrivals
 pub mod PeerAnswers
+pub mod NotStopped
 pub mod Removed
 pub mod Others
 pub mod Unstopped
@@ -44,3 +45,4 @@ pub mod Obeyed
 pub mod Exchanges
 pub mod BothRounds
 pub mod RoundOfAPair
+pub mod InTurn

@@ -40,7 +40,7 @@ use Rattle.law_progress.proofs.Answered as answering
 use Rattle.law_progress.proofs.Arrivals.{Coming, meets}
 
 -- an inbox handles it
-took-answers : (q : Peering) (channel time : ℕ) (c : DataCommand) (b : Inbox) (r : ReceivingEnd) (m : Message) → q.state ≡ state.Connected → m.head.acknowledge ≡ true → m.head.channel ≡ channel → m.head.number ≡ c.number
+pub took-answers : (q : Peering) (channel time : ℕ) (c : DataCommand) (b : Inbox) (r : ReceivingEnd) (m : Message) → q.state ≡ state.Connected → m.head.acknowledge ≡ true → m.head.channel ≡ channel → m.head.number ≡ c.number
     → (t : Took) → is_handled t ≡ true → acknowledges r.receiver.front c.number ≡ true → IsAnswered q channel time c (by_arrival q m (Some time) (by_took t b channel r c))
 took-answers q channel time c b r m connected asks on number t ok ack = by t ok
   where

@@ -88,8 +88,7 @@ forth-comes = record {
   peer = here;
   is = refl;
   connected = refl;
-  room = λ c e. (new_end 0 1000, refl, room c e, short);
-  free = refl;
+  room = inl (record { there = λ c e. (new_end 0 1000, refl, room c e, short); free = refl });
   after = inl (here, refl, in-time, comes);
   stays = λ q e. (let s : state.Connected ≡ q.state = ap state_of e in sym s);
 }
@@ -148,8 +147,7 @@ back-comes = record {
   peer = waiter;
   is = refl;
   connected = refl;
-  room = λ c e. absurd (cc);
-  free = refl;
+  room = inl (record { there = λ c e. absurd (cc); free = refl });
   after = inl (waiter, refl, answer-in-time, refl);
   stays = λ q e. (let s : state.Connected ≡ q.state = ap state_of e in sym s);
 }

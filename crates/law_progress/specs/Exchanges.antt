@@ -1,5 +1,5 @@
 -- Rounds of two connected ends, over all their channels and both ways, in which nothing is lost. Times are in milliseconds.
-use Rattle.std.specs.Prelude.{◌≡◌, ℕ, zero, suc, true, false, ◌+◌, ◌%◌, ◌<◌, ◌≤◌, List, [], ◌∷◌, ◌++◌, length, Some, slice_get, ◌⊎◌}
+use Rattle.std.specs.Prelude.{◌≡◌, ℕ, zero, suc, true, false, ◌+◌, ◌%◌, ◌<◌, ◌≤◌, List, [], ◌∷◌, ◌++◌, length, Some, None, slice_get, ◌⊎◌}
 use Rattle.enet_codec.specs.declared.packet.Packet.{Packet}
 use Rattle.enet_fragment.specs.declared.data.DataCommand.{DataCommand}
 use Rattle.enet_fragment.specs.DataCommand.{data_of}
@@ -11,6 +11,7 @@ use Rattle.enet_inbox.specs.Inbox.{is_full_for, given_way_receiver, given_way}
 use Rattle.enet_outbox.specs.Outbox.{is_crowded}
 use Rattle.enet_peer.specs.declared.parts.PeerState.TheVariants as state
 use Rattle.enet_peer.specs.Peering.{Peering}
+use Rattle.enet_peer.specs.CommandEffect.{obeyed}
 use Rattle.enet_peer.specs.Calls.{pace_of}
 use Rattle.law_connection.specs.LinkSteps.{Has, bodies_of}
 use Rattle.enet_sender.specs.CommandChoice.{carried}
@@ -24,16 +25,20 @@ use Rattle.law_progress.specs.Links.{AllDispatched, outstanding_at}
 use Rattle.law_progress.specs.Outboxes.{AllFit, NothingMayGo}
 use Rattle.law_progress.specs.Rounds.{AreOver}
 
--- a command that the end `from` put out comes to the end `to`, which is connected, has room for it and for its acknowledgement, and stays
--- connected. Where it is sequenced data, that end has its channel, room once the unreliable packets that wait give way, and takes in
--- packets of each length that was submitted. What is over 32,768 numbers late is passed over: an acknowledgement that waited long may be
+-- an end's peer has room for a command of the end `from`, and for its acknowledgement. Where it is sequenced data, the peer has its channel,
+-- room once the unreliable packets that wait give way, and takes in packets of each length that was submitted
+pub record HasRoomFor (from : End) (put : Put) (q : Peering) : Type 0 where
+  pub there : (c : DataCommand) → data_of put.message ≡ Some c → (end : ReceivingEnd) × (slice_get q.inbox.receivers put.message.head.channel ≡ Some end)
+      × (is_full_for (given_way q.inbox) (given_way_receiver end) c ≡ false) × ((x : Packet) → Has from.submitted x → length x.body ≤ end.max_packet)
+  pub free : is_crowded q.outbox ≡ false
+
+-- a command that the end `from` put out comes to the end `to`, which is connected, has room for it or doesn't stop at it, and stays
+-- connected. What is over 32,768 numbers late is passed over: an acknowledgement that waited long may be
 pub record Comes (now time : ℕ) (from : End) (put : Put) (to new : End) : Type 0 where
   pub peer : Peering
   pub is : to.peer ≡ Some peer
   pub connected : peer.state ≡ state.Connected
-  pub room : (c : DataCommand) → data_of put.message ≡ Some c → (end : ReceivingEnd) × (slice_get peer.inbox.receivers put.message.head.channel ≡ Some end)
-      × (is_full_for (given_way peer.inbox) (given_way_receiver end) c ≡ false) × ((x : Packet) → Has from.submitted x → length x.body ≤ end.max_packet)
-  pub free : is_crowded peer.outbox ≡ false
+  pub room : HasRoomFor from put peer ⊎ ((obeyed peer now (Some time) put.message).stop ≡ None)
   pub after : Happens to from (Come put now (Some time)) new ⊎ ((InTime to from put → ⊥) × (new ≡ to))
   pub stays : (q : Peering) → new.peer ≡ Some q → q.state ≡ state.Connected
 

@@ -9,3 +9,4 @@ pub mod Fits
 pub mod Settled
 pub mod Rounds
 pub mod Exchanges
+pub mod InTurn

@@ -6,14 +6,15 @@
 //! for its acknowledgement is acknowledged wherever it comes while there is room, and from each reached link an exchange without losses
 //! leads to where all reliable packets were dispatched (`everything_can_arrive`), as do any rounds without losses, by so many as commands
 //! were queued, once the timeouts of what waited are over (`rounds_get_through`); rounds of two connected peers make fewer the commands that
-//! are outstanding on all channels of both, or time alone passes, and so come to where nothing is (`both_get_through`); nothing holds back
-//! for good what an outbox has to send, and once nothing goes any more, all has gone, or something waits for its acknowledgement
-//! (`nothing_is_held_back`); a peer answers what its sender waits for, the answer takes it away, and no command of another kind is stopped
-//! where there is room, for it and for the acknowledgement that it asks for (`what_waits_is_answered`, `each_trip_takes_one_away`); what was
-//! acknowledged was delivered (`acknowledged_was_delivered`); an attempt ends within a stated time (`every_attempt_ends`), and so does each
-//! wait for an acknowledgement (`no_wait_is_endless`); all that a peer has to send fits its datagrams (`all_that_waits_fits`); a peer that is
-//! to disconnect later comes to do so (`no_leave_is_put_off`). Not proved: that two hosts make such rounds, whose datagrams may be stopped at
-//! one command and bring none of those behind it, nor that the patience of both outlasts them.
+//! are outstanding on all channels of both, or time alone passes, and so come to where nothing is (`both_get_through`), also where neither
+//! has a second turn in a round (`rounds_in_turn_get_through`); nothing holds back for good what an outbox has to send, and once nothing
+//! goes any more, all has gone, or something waits for its acknowledgement (`nothing_is_held_back`); a peer answers what its sender waits
+//! for, the answer takes it away, and no command of another kind is stopped where there is room, for it and for the acknowledgement that it
+//! asks for (`what_waits_is_answered`, `each_trip_takes_one_away`); what was acknowledged was delivered (`acknowledged_was_delivered`); an
+//! attempt ends within a stated time (`every_attempt_ends`), and so does each wait for an acknowledgement (`no_wait_is_endless`); all that a
+//! peer has to send fits its datagrams (`all_that_waits_fits`); a peer that is to disconnect later comes to do so (`no_leave_is_put_off`).
+//! Not proved: that two hosts make such rounds, whose datagrams may be stopped at one command and bring none of those behind it, nor that
+//! the patience of both outlasts them.
 #![tactic(auto)]
 
 ghost use Rattle.std.specs.Prelude.{◌≡◌, ℕ, ◌+◌, ◌*◌, ◌<◌, ◌≤◌, Bool, Option, Some, None, map, slice_get, true, false, List, [], ◌∷◌, ◌++◌, length, ◌⊎◌};
@@ -58,6 +59,7 @@ ghost use Rattle.law_progress.specs.Waits.{NoneWaitsLonger};
 ghost use Rattle.law_progress.specs.Fits.{StaysFit};
 ghost use Rattle.law_progress.specs.Later.{DisconnectsLater, LeavesOrTells};
 ghost use Rattle.law_progress.specs.Exchanges.{IsOpen, RoundOfBoth, ProgressesBoth, AllAcknowledged, AllOver, RoundsOfBoth, outstanding_over, BothThrough, SomeRound};
+ghost use Rattle.law_progress.specs.InTurn.{RoundInTurn, RoundsInTurn};
 ghost use Rattle.law_progress.specs.Rounds.{Round, Rounds, Progresses, AreOver, HasAllThrough, HasARound};
 
 /// One channel of one connection, after any list of events, whatever was lost, repeated, reordered or late by then, while both ends go on.
@@ -230,9 +232,9 @@ pub fn no_leave_is_put_off()
 
 /// Two connected peers, in every reached connection, over all their channels and both ways, whatever was lost, repeated, reordered or late by
 /// then, and then rounds in which nothing is lost. In each both clocks go on to any moments by which neither's patience is over; the one end
-/// puts out all that it may, the other does, and the one does again; each command comes at once to the other end, which has room for it and
-/// for its acknowledgement, has its channel, and takes in packets of the lengths that were submitted, and by none a peer ceases to be
-/// connected; and after each datagram the user there takes what it likes.
+/// puts out all that it may, the other does, and the one does again; each command comes at once to the other end, which doesn't stop at it,
+/// or has its channel and room for it and for its acknowledgement and takes in packets of the lengths that were submitted; by none a peer
+/// ceases to be connected; and after each datagram the user there takes what it likes.
 ///
 /// `progresses`: a round makes fewer the commands that are outstanding at the two together, on all channels; or nothing went on any channel
 /// before the one end's second turn, and time alone passed: what is outstanding is as it was, no timeout was over, and if anything is
@@ -249,4 +251,19 @@ pub fn both_get_through()
         → RoundOfBoth now there c b → RoundsOfBoth moments b d → outstanding_over p.outbox.senders + outstanding_over q.outbox.senders ≤ length moments → BothThrough d }
     ensures happens { SomeRound }
     ensures either { (joined : Bool) (a b : End) → Invariant joined (record { one = a; two = b }) → Invariant joined (record { one = b; two = a }) }
+{}
+
+/// Two connected peers, as in `both_get_through`, and rounds without losses as two hosts have them, where neither has a second turn: both
+/// clocks go on, and either host may limit its peer's throttle then; the one end puts out all that it may, and then the other does; and then
+/// both users take what they like.
+///
+/// `through`: any rounds, then one by which all timeouts of what waited at first are over, and after it twice as many rounds as commands were
+/// outstanding at first, whatever their moments, bring all through: nothing is outstanding, and each reliable packet that either user
+/// submitted was dispatched at the other end, in order, taken or not. What goes at the one end is acknowledged in its round, and what goes at
+/// the other in the round after it, before that end is asked again. `begins`: each round of `both_get_through` begins with one like this, so
+/// this speaks of something.
+pub fn rounds_in_turn_get_through()
+    ensures through { (joined : Bool) (earlier : List (ℕ × ℕ)) (now there : ℕ) (later : List (ℕ × ℕ)) (c d : Connection) (p q : Peering) → Invariant joined c → c.one.peer ≡ Some p → c.two.peer ≡ Some q → AllOver now p → AllOver there q
+        → RoundsInTurn (earlier ++ (now, there) ∷ later) c d → 2 * (outstanding_over p.outbox.senders + outstanding_over q.outbox.senders) ≤ length later → BothThrough d }
+    ensures begins { (now there : ℕ) (c d : Connection) → RoundOfBoth now there c d → (b : Connection) × RoundInTurn now there c b }
 {}
