@@ -1,5 +1,8 @@
 //! What is known of a service, for two threads.
 
+ghost use Rattle.std.specs.Prelude.{◌≡◌};
+ghost use Rattle.enet_metrics.specs.Figures.{standing_in};
+
 use crate::reading::{Reading, Standing};
 use crate::trips::{BUCKETS, Trips, bucket_of};
 use std::alloc::{AllocError, Global};
@@ -115,7 +118,9 @@ impl Figures {
 }
 
 // The numbers of a standing in a row.
-fn numbers_of(standing: &Standing) -> [u64; 18] {
+fn numbers_of(standing: &Standing) -> [u64; 18]
+    ensures { standing_in result ≡ standing.now }
+{
     [
         standing.peers,
         standing.slots,
@@ -139,7 +144,9 @@ fn numbers_of(standing: &Standing) -> [u64; 18] {
 }
 
 // The standing of these numbers.
-fn standing_of(numbers: &[u64; 18]) -> Standing {
+fn standing_of(numbers: &[u64; 18]) -> Standing
+    ensures { result ≡ standing_in numbers.now }
+{
     Standing {
         peers: numbers[0],
         slots: numbers[1],

@@ -3,7 +3,8 @@
 //!
 //! Proved: what a request asks for, by the grammar of its head (`asked`: `Asks`), and what that is answered, byte for byte (`answer`:
 //! `answer_text`), where a reading of the figures has these numbers (`Reading::text`: `reading_text`, `Reading::is_alive`); in which bucket a
-//! round trip counts (`bucket_of`); of the rest that it is safe, and that each call but the two that wait returns.
+//! round trip counts (`bucket_of`), and which of the numbers that are stored is which figure (`standing_in`); of the rest that it is safe, and
+//! that each call but the two that wait returns.
 //! Only tested, by scripts/check-metrics.sh: what the page says, beside what clients counted; that a client which says nothing, or reads
 //! nothing, holds up neither another one nor the server; that `/healthz` tells of a service that doesn't look.
 //! Neither: that the numbers of one page are of one moment.

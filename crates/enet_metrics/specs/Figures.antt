@@ -1,0 +1,25 @@
+-- How a service stands, kept as numbers in a row.
+use Rattle.std.specs.Prelude.{ℕ, List, slice_index}
+use Rattle.enet_metrics.specs.declared.reading.Standing.{Standing}
+
+abbrev pub standing_in : List ℕ → Standing
+standing_in numbers = record {
+  peers = slice_index numbers 0;
+  slots = slice_index numbers 1;
+  free = slice_index numbers 2;
+  spent = slice_index numbers 3;
+  connecting = slice_index numbers 4;
+  answering = slice_index numbers 5;
+  connected = slice_index numbers 6;
+  leaving = slice_index numbers 7;
+  datagrams_in = slice_index numbers 8;
+  bytes_in = slice_index numbers 9;
+  datagrams_out = slice_index numbers 10;
+  bytes_out = slice_index numbers 11;
+  lost = slice_index numbers 12;
+  passed_over = slice_index numbers 13;
+  orders = slice_index numbers 14;
+  events = slice_index numbers 15;
+  in_transit = slice_index numbers 16;
+  sent_again = slice_index numbers 17;
+}
