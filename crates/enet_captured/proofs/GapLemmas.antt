@@ -1,5 +1,5 @@
 -- The longest gap, one gap further.
-use Rattle.std.proofs.Common.{◌≡◌, ◌≤◌, ◌<◌, ◌+◌, ℕ, Bool, true, false, nat_lt, if◌then◌else◌, List, Option, Some, None, refl, ap, ◌∙◌, sym, arith, below_more}
+use Rattle.std.proofs.Common.{◌≡◌, ◌≤◌, ◌<◌, ◌+◌, ℕ, Bool, true, false, nat_lt, if◌then◌else◌, List, Option, Some, None, refl, arith, below_more}
 use Rattle.std.proofs.lemmas.Bool.{ltb-true, ltb-false}
 use Rattle.enet_captured.specs.declared.timeline.Seen.{Seen}
 use Rattle.enet_captured.specs.Gaps.{gap_behind, longer, IsLongestOf}

@@ -1,19 +1,25 @@
 //! What whoever runs the program `enet_relay` says to it, and how it says something back: its command line ([`read_task`]), lines of standard
 //! input ([`Control`]), and lines of standard output and error that hold up nobody ([`Outlet`]).
 //!
-//! Proved: that it is safe, and that each call returns.
+//! Proved, by the definitions of specs/: what a line says (`spells`), also one that is too long (`meant`); that of the bytes which come each is
+//! of one line, in order, in whatever pieces they come (`Control::next`, by `Reads`); how many lines weren't written, until that is told
+//! (`Outlet::line` by `TakesLine`, `settle` by `Settles`, `miss`); of the rest that it is safe, and that each call returns.
 //! Only tested, by scripts/check-rows.sh: command lines and what each is answered; the lines of `serve --control`; that an output which takes
-//! nothing holds up nothing.
+//! nothing holds up nothing. By scripts/check-operator.sh: the same of standard error, and what the lines do to clients.
+//! Neither: which bytes the system gives, and what it is given.
 #![tactic(auto)]
 
 mod admission;
 mod command_line;
 mod control;
+mod input;
 mod outlet;
+mod word;
 
 pub use admission::Admission;
 pub use command_line::{
     DemoOptions, InspectOptions, Length, ServeOptions, ServerThreads, Task, Unread, read_task,
 };
-pub use control::{Control, Word};
+pub use control::Control;
 pub use outlet::{Outlet, Stream};
+pub use word::Word;

@@ -1,5 +1,8 @@
 //! Lines for the operator, none of which holds up the service.
 
+ghost use Rattle.std.specs.Prelude.{◌≡◌, IsErr};
+ghost use Rattle.enet_console.specs.Outlets.{misses, is_settled, TakesLine, Settles};
+
 use libc::net::{POLLOUT, poll};
 use libc::types::pollfd;
 use libc::{STDERR_FILENO, STDOUT_FILENO};
@@ -24,12 +27,17 @@ pub struct Outlet {
 
 impl Outlet {
     /// To this stream, with no line missed yet.
-    pub fn new(stream: Stream) -> Outlet {
+    pub fn new(stream: Stream) -> Outlet
+        ensures { result ≡ record { stream = stream; missed = 0 } }
+    {
         Outlet { stream, missed: 0 }
     }
 
     /// Writes a line, with its end, of at most 2,000 bytes, or counts it.
-    pub fn line<R: Print + Eprint>(&mut self, rt: &R, line: Result<String, AllocError>) {
+    pub fn line<R: Print + Eprint>(&mut self, rt: &R, line: Result<String, AllocError>)
+        ensures line { TakesLine self.old self.new }
+        ensures none { IsErr line → self.new ≡ misses 1 self.old }
+    {
         match line {
             Ok(line) if self.is_ready() => {
                 self.tell_missed(rt);
@@ -40,18 +48,24 @@ impl Outlet {
     }
 
     /// So many lines were not written.
-    pub fn miss(&mut self, lines: u64) {
+    pub fn miss(&mut self, lines: u64)
+        ensures { self.new ≡ misses lines self.old }
+    {
         self.missed = self.missed.saturating_add(lines);
     }
 
     /// Tells how many lines weren't written since that was last told, if the stream takes it.
-    pub fn settle<R: Print + Eprint>(&mut self, rt: &R) {
+    pub fn settle<R: Print + Eprint>(&mut self, rt: &R)
+        ensures { Settles self.old self.new }
+    {
         if self.missed > 0 && self.is_ready() {
             self.tell_missed(rt);
         }
     }
 
-    fn tell_missed<R: Print + Eprint>(&mut self, rt: &R) {
+    fn tell_missed<R: Print + Eprint>(&mut self, rt: &R)
+        ensures { self.new ≡ is_settled self.old }
+    {
         if self.missed == 0 {
             return;
         }

@@ -76,8 +76,8 @@ impl Desk {
         Ok(is_done)
     }
 
-    /// What the operator says next, if it is there.
-    pub fn next(&mut self, alloc: Global) -> Option<Word> {
+    /// What the operator says next, if it is there. An error where there is no memory for a text.
+    pub fn next(&mut self, alloc: Global) -> Option<Result<Word, AllocError>> {
         self.control.as_mut()?.next(alloc)
     }
 

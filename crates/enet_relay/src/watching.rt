@@ -152,11 +152,17 @@ impl<R: Clock + Print + Eprint> Operator<'_, R> {
     // Does what the operator says now.
     fn obey(&mut self, host: &WatchedHost) {
         for _line in 0..MOST_LINES {
-            let Some(word) = self.desk.next(self.alloc) else {
-                return;
-            };
-            self.carry_out(host, word);
+            match self.desk.next(self.alloc) {
+                None => return,
+                Some(Ok(word)) => self.carry_out(host, word),
+                Some(Err(_)) => self.answer("no memory"),
+            }
         }
+    }
+
+    fn answer(&mut self, words: &str) {
+        let line = format!(in self.alloc; "{words}\n");
+        self.desk.answer(self.rt, line);
     }
 
     fn carry_out(&mut self, host: &WatchedHost, word: Word) {
@@ -177,10 +183,7 @@ impl<R: Clock + Print + Eprint> Operator<'_, R> {
             Word::Ban(ip) => self.desk.ban(rt, alloc, host, ip),
             Word::Unban(ip) => self.desk.unban(rt, alloc, ip),
             Word::Say(text) => self.desk.say(rt, alloc, host, text),
-            Word::Unknown => {
-                let line = format!(in alloc; "not understood\n");
-                self.desk.answer(rt, line);
-            }
+            Word::Unknown => self.answer("not understood"),
         }
     }
 

@@ -1,0 +1,3 @@
+pub mod Words
+pub mod Inputs
+pub mod Outlets
