@@ -1,0 +1,202 @@
+-- The law of one end, by induction over what happens there.
+use Rattle.std.proofs.Common.{◌≡◌, ℕ, ◌+◌, true, List, [], ◌∷◌, ◌++◌, refl, sym, ap, subst, ◌∙◌, inl, inr, ◌⊎◌, Option, Some, None, append_assoc}
+use Rattle.std.proofs.lemmas.List.{append-nil, map-append}
+use Rattle.std.specs.List.{slice_get, range_with_len}
+use Rattle.enet_codec.specs.declared.packet.Packet.{Packet}
+use Rattle.enet_codec.specs.Message.{Message, IsMessage}
+use Rattle.enet_connect.specs.Terms.{granted}
+use Rattle.enet_connect.specs.Verification.{asked}
+use Rattle.enet_fragment.specs.DataCommand.{data_of}
+use Rattle.enet_packets.specs.declared.incoming_packet.Dispatched.{Dispatched}
+use Rattle.enet_receiver.specs.Foresight.{ReceivingEnd, new_end}
+use Rattle.enet_receiver.specs.Members.{Has}
+use Rattle.enet_receiver.specs.Receiver.{nothing_received}
+use Rattle.enet_receiver.proofs.Sequenced.{sequenced-nothing}
+use Rattle.enet_inbox.specs.Inbox.{Inbox, empty_inbox}
+use Rattle.enet_inbox.specs.DataEffect.{arrival}
+use Rattle.enet_outbox.specs.Emission.{filled}
+use Rattle.enet_peer.specs.declared.parts.PeerEvent.{PeerEvent}
+use Rattle.enet_peer.specs.declared.parts.PeerEvent.TheVariants as told
+use Rattle.enet_peer.specs.declared.parts.PeerState.TheVariants as state
+use Rattle.enet_peer.specs.Peering.{Peering, joined, connecting, answering}
+use Rattle.enet_peer.specs.CommandEffect.{obeyed}
+use Rattle.enet_peer.specs.Calls.{ticked, next_event, pace_of}
+use Rattle.law_connection.specs.Connection.{packets_of, in_sequence}
+use Rattle.law_connection.specs.Follows.{FollowsCarried}
+use Rattle.law_connection.specs.Linked.{dispatches_in}
+use Rattle.law_connection.specs.LinkSteps.{bodies_of}
+use Rattle.law_connection.specs.Steps.{with_setting}
+use Rattle.law_connection.proofs.CarriageLemmas.{Follows-front, Has-append_left, Has-append_right}
+use Rattle.law_connection.proofs.Events.{took}
+use Rattle.enet_receiver.specs.Sequenced.{HasSequenced}
+use Rattle.law_connection.specs.Image.{ShowsReceiver}
+use Rattle.law_connection.proofs.InboxMoves.{grown, in_sequence-append}
+use Rattle.law_connection.proofs.Lists.{Has-append_cases}
+use Rattle.law_connection.proofs.Moves.{packets-push}
+use Rattle.law_connection.proofs.Runs.{get-map}
+use Rattle.law_connection.proofs.WireReceiver.{Shows-nothing}
+use Rattle.law_one_end.specs.OneEnd.{OneEnd, Event, Submit, Emit, Come, Tick, Take, Disconnect, Set, with_peer, with_come, with_submission, with_emission, loose_of, Happens, Runs, beginning}
+use Rattle.law_one_end.specs.Carried.{AreCarried}
+use Rattle.law_one_end.specs.Law.{taken_on, IsHeard, OfEachRun, OfEachAnswering, OfEachAsking, OfEachJoined}
+use Rattle.law_one_end.proofs.Rows.{carried-front}
+use Rattle.law_one_end.proofs.Gathering.{hears-nothing}
+use Rattle.law_one_end.proofs.Following.{all-cut, ready-nothing}
+use Rattle.law_one_end.proofs.Turns.{core, StaysAt, stays, ticked-stays, left-stays, set-stays, gone_on-stays, obeyed-becomes}
+use Rattle.law_one_end.proofs.Loose.{arrival-loose}
+use Rattle.law_one_end.proofs.Ears.{Told, IsEar, AllHear, dispatched, told-stays, told-taken, told-arrival, told-passed, after}
+
+abbrev told_of : OneEnd → Told
+told_of e = record { came = e.came; fronts = e.fronts; taken = e.taken; opens = dispatches_in e.peer.state; inbox = e.peer.inbox }
+
+-- what was taken, and what is to be
+abbrev told_packets : OneEnd → List Packet
+told_packets e = packets_of e.taken ++ e.peer.inbox.untaken
+
+-- what every run keeps
+record Kept (e : OneEnd) : Type 0 where
+  hears : AllHear (told_of e)
+  loose : (q : Packet) → Has (told_packets e) q → q.flags ≡ 2 → Has e.loose q
+
+-- the law comes of it
+heard : (e : OneEnd) → Kept e → IsHeard e
+heard e k = record {
+  carried = λ channel. (let a = k.hears in let h = a.each channel in carried-front e.came channel 0 1 (taken_on channel e) (in_sequence channel e.peer.inbox.untaken) h.carried);
+  follows = λ channel mtu cs rules. (let a = k.hears in let h = a.each channel in Follows-front cs (bodies_of (taken_on channel e)) (bodies_of (in_sequence channel e.peer.inbox.untaken))
+      (subst (FollowsCarried cs) (map-append (λ (d : Dispatched). d.body) (taken_on channel e) (in_sequence channel e.peer.inbox.untaken)) (h.follows mtu cs rules)));
+  loose = λ q there two. k.loose q (Has-append_left (packets_of e.taken) e.peer.inbox.untaken q there) two;
+}
+
+-- a peer that stays keeps it
+loose-stays : (e : OneEnd) (q : Peering) → StaysAt e.peer q → Kept e → (x : Packet) → Has (packets_of e.taken ++ q.inbox.untaken) x → x.flags ≡ 2 → Has e.loose x
+loose-stays e q s k x there two = elim s.untaken [
+  | inl same ↦ k.loose x (subst (λ l. Has (packets_of e.taken ++ l) x) same there) two
+  | inr none ↦ k.loose x (Has-append_left (packets_of e.taken) e.peer.inbox.untaken x (subst (λ l. Has l x) (ap (λ l. packets_of e.taken ++ l) none.0 ∙ append-nil (packets_of e.taken)) there)) two
+]
+
+-- also where what it submitted or put out is more
+kept-stays : (e new : OneEnd) → new.came ≡ e.came → new.fronts ≡ e.fronts → new.taken ≡ e.taken → new.loose ≡ e.loose → StaysAt e.peer new.peer → Kept e → Kept new
+kept-stays e new came fronts taken loose s k = record {
+  hears = told-stays (told_of e) (told_of new) (λ h there. subst (λ l. Has l h) (sym came) there) taken s (λ channel r open' there at. ap (λ f. f channel) fronts) k.hears;
+  loose = λ x there two. subst (λ l. Has l x) (sym loose) (loose-stays e new.peer s k x (subst (λ l. Has (packets_of l ++ new.peer.inbox.untaken) x) taken there) two);
+}
+
+-- a command comes
+kept-come : (e : OneEnd) (m : Message) (now : ℕ) (sent : Option ℕ) → IsMessage m → Kept e → Kept (with_come e m (obeyed e.peer now sent m).after)
+kept-come e m now sent is k = by (obeyed-becomes e.peer m.head now sent m.body)
+  where
+    q : Peering
+    q = (obeyed e.peer now sent m).after
+
+    u : Told
+    u = told_of (with_come e m q)
+
+    came : List Packet
+    came = loose_of m.head.channel m.body
+
+    by : StaysAt e.peer q ⊎ ((dispatches_in e.peer.state ≡ true) × (q.state ≡ e.peer.state) × (q.inbox ≡ (arrival e.peer.inbox m).after)) → Kept (with_come e m q)
+    by (inl s) = record {
+      hears = told-passed (told_of e) u m.head.channel (data_of m) s refl k.hears;
+      loose = λ x there two. Has-append_left e.loose came x (loose-stays e q s k x there two);
+    }
+    by (inr h) = record {
+      hears = subst (λ (b : Inbox). AllHear (record (after (told_of e) m.head.channel (data_of m) b) { opens = dispatches_in q.state })) (sym h.2)
+          (subst (λ o. AllHear (record (after (told_of e) m.head.channel (data_of m) (arrival e.peer.inbox m).after) { opens = o })) (sym (ap dispatches_in h.1))
+          (told-arrival (told_of e) m.head m.body is h.0 k.hears));
+      loose = λ x there two. elim (Has-append_cases (packets_of e.taken) q.inbox.untaken x there) [
+        | inl old ↦ Has-append_left e.loose came x (k.loose x (Has-append_left (packets_of e.taken) e.peer.inbox.untaken x old) two)
+        | inr new ↦ (let a = k.hears in elim (arrival-loose e.peer.inbox m.head m.body (a.flat h.0) x (subst (λ (b : Inbox). Has b.untaken x) h.2 new) two) [
+          | inl was ↦ Has-append_left e.loose came x (k.loose x (Has-append_right (packets_of e.taken) e.peer.inbox.untaken x was) two)
+          | inr now' ↦ Has-append_right e.loose came x now'
+        ])
+      ];
+    }
+
+-- the user takes an event
+kept-told : (e : OneEnd) (q : Peering) (event : PeerEvent) → dispatches_in q.state ≡ dispatches_in e.peer.state → q.inbox.receivers ≡ e.peer.inbox.receivers
+    → packets_of (e.taken ++ event ∷ []) ++ q.inbox.untaken ≡ told_packets e
+    → ((channel : ℕ) → in_sequence channel (packets_of (e.taken ++ event ∷ [])) ++ in_sequence channel q.inbox.untaken ≡ in_sequence channel (packets_of e.taken) ++ in_sequence channel e.peer.inbox.untaken)
+    → Kept e → Kept (record e { peer = q; taken = e.taken ++ event ∷ [] })
+kept-told e q event opens receivers all each k = record {
+  hears = told-taken (told_of e) (told_of (record e { peer = q; taken = e.taken ++ event ∷ [] })) refl refl opens receivers each k.hears;
+  loose = λ x there two. k.loose x (subst (λ l. Has l x) all there) two;
+}
+
+kept-took : (e : OneEnd) (q : Peering) (event : PeerEvent) → next_event e.peer ≡ Some (record { event = event; after = q }) → Kept e → Kept (record e { peer = q; taken = e.taken ++ event ∷ [] })
+kept-took e q event next k = took (λ q event. Kept (record e { peer = q; taken = e.taken ++ event ∷ [] })) e.peer q event next
+    (λ info g. kept-told e (record e.peer { greeting = None }) (told.Connect info) refl refl (same (told.Connect info) refl) (λ channel. quiet (told.Connect info) refl channel) k)
+    (λ x rest g u. kept-told e (record e.peer { inbox = record e.peer.inbox { untaken = rest } }) (told.Receive x) refl refl (moved x rest u) (λ channel. packet x rest u channel) k)
+    (λ g u at. kept-told e (record e.peer { state = state.Free }) (told.Disconnect e.peer.info) (sym (ap dispatches_in at)) refl (same (told.Disconnect e.peer.info) refl) (λ channel. quiet (told.Disconnect e.peer.info) refl channel) k)
+  where
+    untaken : List Packet
+    untaken = e.peer.inbox.untaken
+
+    -- an event without a packet
+    none : (event : PeerEvent) → packets_of (event ∷ []) ≡ [] → packets_of (e.taken ++ event ∷ []) ≡ packets_of e.taken
+    none event e' = packets-push e.taken event ∙ ap (λ qs. packets_of e.taken ++ qs) e' ∙ append-nil (packets_of e.taken)
+
+    same : (event : PeerEvent) → packets_of (event ∷ []) ≡ [] → packets_of (e.taken ++ event ∷ []) ++ untaken ≡ packets_of e.taken ++ untaken
+    same event e' = ap (λ qs. qs ++ untaken) (none event e')
+
+    quiet : (event : PeerEvent) → packets_of (event ∷ []) ≡ [] → (channel : ℕ) → in_sequence channel (packets_of (e.taken ++ event ∷ [])) ++ in_sequence channel untaken ≡ in_sequence channel (packets_of e.taken) ++ in_sequence channel untaken
+    quiet event e' channel = ap (λ qs. in_sequence channel qs ++ in_sequence channel untaken) (none event e')
+
+    -- a packet
+    moved : (x : Packet) (rest : List Packet) → untaken ≡ x ∷ rest → packets_of (e.taken ++ told.Receive x ∷ []) ++ rest ≡ packets_of e.taken ++ untaken
+    moved x rest is = ap (λ qs. qs ++ rest) (packets-push e.taken (told.Receive x)) ∙ append_assoc (packets_of e.taken) (x ∷ []) rest ∙ ap (λ qs. packets_of e.taken ++ qs) (sym is)
+
+    packet : (x : Packet) (rest : List Packet) → untaken ≡ x ∷ rest → (channel : ℕ)
+        → in_sequence channel (packets_of (e.taken ++ told.Receive x ∷ [])) ++ in_sequence channel rest ≡ in_sequence channel (packets_of e.taken) ++ in_sequence channel untaken
+    packet x rest is channel =
+        sym (in_sequence-append channel (packets_of (e.taken ++ told.Receive x ∷ [])) rest) ∙ ap (in_sequence channel) (moved x rest is) ∙ in_sequence-append channel (packets_of e.taken) untaken
+
+kept-happens : (e new : OneEnd) (event : Event) → Happens e event new → Kept e → Kept new
+kept-happens e new (Submit q) h k = subst Kept (sym h.1) (kept-stays e (with_submission e q) refl refl refl refl (stays (core e.peer)) k)
+kept-happens e new (Emit now) h k = subst Kept (sym h) (kept-stays e (with_emission e now) refl refl refl refl (gone_on-stays (record e.peer { outbox = (filled (pace_of e.peer now) e.peer.outbox).outbox })) k)
+kept-happens e new (Come m now sent) h k = subst Kept (sym h.1) (kept-come e m now sent h.0 k)
+kept-happens e new (Tick now) h k = subst Kept (sym h) (kept-stays e (with_peer e (ticked e.peer now)) refl refl refl refl (ticked-stays e.peer now) k)
+kept-happens e new Take h k = subst Kept (sym h.3) (kept-took e h.1 h.0 h.2 k)
+kept-happens e new (Disconnect way info) h k = subst Kept (sym h.2) (kept-stays e (with_peer e h.0) refl refl refl refl (left-stays e.peer h.0 way info h.1) k)
+kept-happens e new (Set setting) h k = subst Kept (sym h.1) (kept-stays e (with_peer e (with_setting setting e.peer)) refl refl refl refl (set-stays e.peer setting) k)
+
+kept-runs : (events : List Event) (e new : OneEnd) → Runs events e new → Kept e → Kept new
+kept-runs [] e new r k = subst Kept r k
+kept-runs (event ∷ events) e new r k = kept-runs events r.0 new r.2 (kept-happens e r.0 event r.1 k)
+
+-- nothing came to a new end
+kept-beginning : (p : Peering) (channels max_packet max_waiting : ℕ) → p.inbox ≡ empty_inbox channels max_packet max_waiting → Kept (beginning p)
+kept-beginning p channels max_packet max_waiting is = record {
+  hears = record {
+    flat = λ o i r there. (let x = new-at i r there in subst (λ (y : ReceivingEnd). (y.receiver.dispatched ≡ []) × HasSequenced y.receiver) x.1 (refl, sequenced-nothing));
+    each = λ channel. record {
+      carried = subst (AreCarried [] channel 0 1) (sym (none channel)) tt;
+      follows = λ mtu cs rules. subst (λ ds. FollowsCarried cs (bodies_of ds)) (sym (none channel)) tt;
+      ear = λ o r there. (let x = new-at channel r there in
+          subst (IsEar (told_of (beginning p)) channel) x.1 (record {
+            whole = nothing_received;
+            shows = subst (λ ds. ShowsReceiver (grown ds nothing_received) nothing_received) (sym (none channel)) Shows-nothing;
+            hears = hears-nothing channel;
+            ready = λ mtu cs rules. ready-nothing mtu cs (all-cut mtu cs channel [] rules);
+            front = refl;
+          }));
+    };
+  };
+  loose = λ q there two. absurd (subst (λ (b : Inbox). Has b.untaken q) is there);
+}
+  where
+    none : (channel : ℕ) → in_sequence channel p.inbox.untaken ≡ []
+    none channel = ap (λ (b : Inbox). in_sequence channel b.untaken) is
+
+    new-at : (i : ℕ) (r : ReceivingEnd) → slice_get p.inbox.receivers i ≡ Some r → (channel : ℕ) × (new_end channel max_packet ≡ r)
+    new-at i r there = (let c = get-map (λ channel. new_end channel max_packet) (range_with_len 0 channels) i r (ap (λ (b : Inbox). slice_get b.receivers i) (sym is) ∙ there) in (c.0, c.2))
+
+heard-runs : (p : Peering) (channels max_packet max_waiting : ℕ) → p.inbox ≡ empty_inbox channels max_packet max_waiting → OfEachRun p IsHeard
+heard-runs p channels max_packet max_waiting is events e r = heard e (kept-runs events (beginning p) e r (kept-beginning p channels max_packet max_waiting is))
+
+pub answering-heard : OfEachAnswering IsHeard
+answering-heard now offer server limits = heard-runs (answering now offer server limits) (granted offer server).channels limits.max_packet limits.max_waiting refl
+
+pub asking-heard : OfEachAsking IsHeard
+asking-heard now offer limits = heard-runs (connecting now offer limits) (asked offer).channels limits.max_packet limits.max_waiting refl
+
+pub joined-heard : OfEachJoined IsHeard
+joined-heard now terms limits = heard-runs (joined now terms limits) terms.channels limits.max_packet limits.max_waiting refl

@@ -1,0 +1,16 @@
+pub mod Rows
+pub mod Taking
+pub mod Gathering
+pub mod Fronts
+pub mod Following
+pub mod Turns
+pub mod Ears
+pub mod Loose
+pub mod Laws
+pub mod Wired
+pub mod Sending
+pub mod PuttingOut
+pub mod SentRuns
+pub mod Datagrams
+pub mod Refuting
+pub mod ExampleRuns

@@ -1,0 +1,17 @@
+use Rattle.law_one_end.proofs.Refuting.{elsewhere, twice, gap, swapped, altered}
+use Rattle.law_one_end.proofs.false_takes_are_refuted.Goals as goal
+
+pub returns-clause-elsewhere : goal.returns-clause-elsewhere
+returns-clause-elsewhere c = elsewhere
+
+pub returns-clause-twice : goal.returns-clause-twice
+returns-clause-twice c = twice
+
+pub returns-clause-gap : goal.returns-clause-gap
+returns-clause-gap c = gap
+
+pub returns-clause-swapped : goal.returns-clause-swapped
+returns-clause-swapped c = swapped
+
+pub returns-clause-altered : goal.returns-clause-altered
+returns-clause-altered c = altered

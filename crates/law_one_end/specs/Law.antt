@@ -1,0 +1,43 @@
+-- What holds of one end of ours, whatever stands at the other.
+use Rattle.std.specs.Prelude.{◌≡◌, ℕ, List}
+use Rattle.enet_codec.specs.declared.command.Offer.{Offer}
+use Rattle.enet_connect.specs.declared.server.Server.{Server}
+use Rattle.enet_connect.specs.declared.terms.Terms.{Terms}
+use Rattle.enet_codec.specs.declared.packet.Packet.{Packet}
+use Rattle.enet_packets.specs.declared.incoming_packet.Dispatched.{Dispatched}
+use Rattle.enet_receiver.specs.Members.{Has}
+use Rattle.enet_peer.specs.declared.parts.Limits.{Limits}
+use Rattle.enet_peer.specs.Peering.{Peering, joined, connecting, answering}
+use Rattle.enet_sender.specs.CommandChoice.{ChosenPacket}
+use Rattle.law_connection.specs.Connection.{packets_of, in_sequence}
+use Rattle.law_connection.specs.Follows.{FollowsCarried}
+use Rattle.law_connection.specs.LinkSteps.{bodies_of}
+use Rattle.law_one_end.specs.OneEnd.{OneEnd, Event, Runs, beginning}
+use Rattle.law_one_end.specs.Carried.{AreCarried}
+use Rattle.law_one_end.specs.Rules.{KeepsRules}
+
+-- what the user took of a channel, packets apart that came unsequenced
+abbrev pub taken_on : ℕ → OneEnd → List Dispatched
+taken_on channel e = in_sequence channel (packets_of e.taken)
+
+pub record IsHeard (e : OneEnd) : Type 0 where
+  -- whatever came: it was carried by that, in order, each packet whole, and the reliable ones have all numbers from 1 on
+  pub carried : (channel : ℕ) → AreCarried e.came channel 0 1 (taken_on channel e)
+  -- and where a client keeps the rules, it follows what that client sent
+  pub follows : (channel mtu : ℕ) (cs : List ChosenPacket) → KeepsRules mtu cs channel e.came → FollowsCarried cs (bodies_of (taken_on channel e))
+  -- an unsequenced packet is one that came so
+  pub loose : (q : Packet) → Has (packets_of e.taken) q → q.flags ≡ 2 → Has e.loose q
+
+-- this holds after every run of an end that begins so
+abbrev pub OfEachRun : Peering → (OneEnd → Type 0) → Type 0
+OfEachRun p P = (events : List Event) (e : OneEnd) → Runs events (beginning p) e → P e
+
+-- of a server's peer that answers, of a client's that asks, and of one that is connected from the start
+abbrev pub OfEachAnswering : (OneEnd → Type 0) → Type 0
+OfEachAnswering P = (now : ℕ) (offer : Offer) (server : Server) (limits : Limits) → OfEachRun (answering now offer server limits) P
+
+abbrev pub OfEachAsking : (OneEnd → Type 0) → Type 0
+OfEachAsking P = (now : ℕ) (offer : Offer) (limits : Limits) → OfEachRun (connecting now offer limits) P
+
+abbrev pub OfEachJoined : (OneEnd → Type 0) → Type 0
+OfEachJoined P = (now : ℕ) (terms : Terms) (limits : Limits) → OfEachRun (joined now terms limits) P

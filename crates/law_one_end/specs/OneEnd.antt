@@ -1,0 +1,97 @@
+-- One end of a connection, ours, whatever stands at the other: what came to it and what its user took, what its user submitted and what it
+-- put out.
+use Rattle.std.specs.Prelude.{◌≡◌, ℕ, ◌+◌, ◌%◌, List, [], ◌∷◌, ◌++◌, length, Option, Some, None, slice_get}
+use Rattle.enet_codec.specs.declared.packet.Packet.{Packet}
+use Rattle.enet_codec.specs.Message.{Message, Body, IsMessage, send_unsequenced}
+use Rattle.enet_seq.specs.Windows.{ahead}
+use Rattle.enet_fragment.specs.declared.data.DataCommand.{DataCommand}
+use Rattle.enet_fragment.specs.DataCommand.{data_of}
+use Rattle.enet_outbox.specs.Emission.{filled}
+use Rattle.enet_peer.specs.declared.parts.PeerEvent.{PeerEvent}
+use Rattle.enet_peer.specs.Peering.{Peering}
+use Rattle.enet_peer.specs.CommandEffect.{obeyed}
+use Rattle.enet_peer.specs.Calls.{submission_refusal, submitted, pace_of, gone_on, left, ticked, next_event}
+use Rattle.law_connection.specs.Linked.{receiver_in}
+use Rattle.law_connection.specs.Steps.{Way, leave_by, Setting, MaySet, with_setting}
+
+-- a sequenced data command that came on a channel, and how many reliable commands of the channel had been dispatched by then: where the
+-- receiver stood, counted without wrapping
+pub record Heard : Type 0 where
+  pub channel : ℕ
+  pub command : DataCommand
+  pub front : ℕ
+
+pub record OneEnd : Type 0 where
+  pub peer : Peering
+  pub came : List Heard  -- each sequenced data command that came, in order
+  pub loose : List Packet  -- the packets of the unsequenced commands that came
+  pub fronts : ℕ → ℕ  -- how many reliable commands were dispatched, by channel
+  pub taken : List PeerEvent  -- what its user took
+  pub submitted : List Packet  -- what its user submitted
+  pub put : List Message  -- the commands of the datagrams that it put out
+
+-- what can happen at an end. What comes is any command of any datagram: nothing is assumed of who sent it
+pub data Event : Type 0 where
+  Submit : (packet : Packet) → Event
+  Emit : (now : ℕ) → Event  -- a datagram is put out, if there is anything to send
+  Come : (message : Message) (now : ℕ) (sent : Option ℕ) → Event  -- a command comes, in a datagram that tells this sent time or none
+  Tick : (now : ℕ) → Event
+  Take : Event  -- the user takes the next event
+  Disconnect : (way : Way) (info : ℕ) → Event
+  Set : (setting : Setting) → Event
+
+abbrev pub heard_as : ℕ → ℕ → Option DataCommand → List Heard
+heard_as channel front None = []
+heard_as channel front (Some c) = (record { channel = channel; command = c; front = front }) ∷ []
+
+-- the packet of an unsequenced command
+abbrev pub loose_of : ℕ → Body → List Packet
+loose_of channel (send_unsequenced group payload) = (record { channel = channel; flags = 2; body = payload }) ∷ []
+loose_of channel _ = []
+
+-- what a channel's receiver has on the wire as the number of the last reliable command that it dispatched
+abbrev pub wire_front : Peering → ℕ → ℕ
+wire_front p channel = (receiver_in (slice_get p.inbox.receivers channel)).front
+
+-- it has gone on from `before` to a front that is this on the wire
+abbrev pub gone_to : ℕ → ℕ → ℕ
+gone_to before front = before + ahead (before % 65536) front
+
+abbrev pub with_peer : OneEnd → Peering → OneEnd
+with_peer e p = record e { peer = p }
+
+abbrev pub with_come : OneEnd → Message → Peering → OneEnd
+with_come e m p = record e {
+  peer = p;
+  came = e.came ++ heard_as m.head.channel (e.fronts m.head.channel) (data_of m);
+  loose = e.loose ++ loose_of m.head.channel m.body;
+  fronts = λ channel. gone_to (e.fronts channel) (wire_front p channel);
+}
+
+abbrev pub with_submission : OneEnd → Packet → OneEnd
+with_submission e q = record e { peer = submitted e.peer q.channel (record { flags = q.flags; body = q.body }); submitted = e.submitted ++ q ∷ [] }
+
+abbrev pub with_emission : OneEnd → ℕ → OneEnd
+with_emission e now = record e {
+  peer = gone_on (record e.peer { outbox = (filled (pace_of e.peer now) e.peer.outbox).outbox });
+  put = e.put ++ (filled (pace_of e.peer now) e.peer.outbox).messages;
+}
+
+-- one event. Where memory is wanting nothing happens
+abbrev pub Happens : OneEnd → Event → OneEnd → Type 0
+Happens e (Submit q) new = (submission_refusal e.peer q.channel (length q.body) ≡ None) × (new ≡ with_submission e q)
+Happens e (Emit now) new = new ≡ with_emission e now
+Happens e (Come m now sent) new = IsMessage m × (new ≡ with_come e m (obeyed e.peer now sent m).after)
+Happens e (Tick now) new = new ≡ with_peer e (ticked e.peer now)
+Happens e Take new = (told : PeerEvent) × (q : Peering) × (next_event e.peer ≡ Some (record { event = told; after = q })) × (new ≡ record e { peer = q; taken = e.taken ++ told ∷ [] })
+Happens e (Disconnect way info) new = (q : Peering) × (left (leave_by way e.peer.state) e.peer info ≡ Some q) × (new ≡ with_peer e q)
+Happens e (Set setting) new = MaySet setting e.peer × (new ≡ with_peer e (with_setting setting e.peer))
+
+-- events, one after another
+abbrev pub Runs : List Event → OneEnd → OneEnd → Type 0
+Runs [] e new = e ≡ new
+Runs (event ∷ events) e new = (between : OneEnd) × Happens e event between × Runs events between new
+
+-- to which nothing came
+abbrev pub beginning : Peering → OneEnd
+beginning p = record { peer = p; came = []; loose = []; fronts = λ channel. 0; taken = []; submitted = []; put = [] }

@@ -1,0 +1,77 @@
+//! The law of one end of a connection, ours, whatever stands at the other: a client on another library, or a stranger who sends what he
+//! likes. No code but the law.
+//!
+//! An end is a peer of ours (`enet_peer`) with each data command that came to it, what its user submitted and took, and what it put out. It
+//! begins as a server's peer that answers a CONNECT, as a client's that asks, or as one that is connected. Then anything happens, any number
+//! of times: commands come, well-formed ones of any content, time passes, the user submits, takes, disconnects and sets, a datagram goes.
+//! Want of memory changes nothing, so it is no event.
+//!
+//! Proved: what the user takes was carried by what came, in order, each packet whole and each reliable number once; where the other end keeps
+//! the rules of the wire it follows what that end sent (`what_is_taken`). That rules something out (`false_takes_are_refuted`). Each data
+//! command that goes is of what the user submitted, under its number (`what_is_put_out`). A run in which a packet is taken does happen
+//! (`runs_happen`). A datagram that comes is such events (`a_datagram_comes_as_commands`). Not promised: that an unsequenced packet is taken
+//! once, that anything arrives, and of hosts: there a peer's commands are those of datagrams that come from its address.
+#![tactic(auto)]
+
+ghost use Rattle.std.specs.Prelude.{ℕ, List, [], ◌∷◌};
+ghost use Rattle.enet_codec.specs.declared.event.Received.{Received};
+ghost use Rattle.enet_packets.specs.declared.incoming_packet.Dispatched.{Dispatched};
+ghost use Rattle.enet_peer.specs.Peering.{Peering};
+ghost use Rattle.enet_peer.specs.Handling.{Arrival, Handles};
+ghost use Rattle.law_one_end.specs.OneEnd.{Heard, OneEnd};
+ghost use Rattle.law_one_end.specs.Datagrams.{HasCome};
+ghost use Rattle.law_one_end.specs.Law.{IsHeard, OfEachAnswering, OfEachAsking, OfEachJoined};
+ghost use Rattle.law_one_end.specs.Sent.{IsSent};
+ghost use Rattle.law_one_end.specs.Refuted.{CameElsewhere, IsRefused, command_of, packet_of};
+ghost use Rattle.law_one_end.specs.Examples.{OfSomeRun, HasTaken};
+
+/// What an end's user takes, over every list of events, whoever sends. An unsequenced packet is one that came so, on its channel and with its
+/// bytes (`loose` of `IsHeard`). Of each channel, these apart:
+///
+/// Whatever comes (`carried` of `IsHeard`): the reliable packets that are taken have the numbers from 1 on, without a gap and each once, a
+/// packet as many as it has pieces; each piece is the payload of a command that came under that number modulo 65,536, and the packet is its
+/// pieces. An unreliable packet was carried whole by commands that came, of the reliable number that was dispatched last before it, and the
+/// unreliable numbers between two reliable packets go up.
+///
+/// If the other end keeps the rules (`follows`, `KeepsRules`), what is taken follows what that end sent: some of its packets, in order, each
+/// once and whole, none reliable left out before the last. It has to number its packets as ENet does, to cut them evenly into at most 16,384
+/// pieces, and nothing of its may come when the receiver stands over 32,768 reliable commands past it, or over 65,535 before.
+///
+/// `answering`, `asking`, `joined`: so it is of a server's peer, of a client's, and of one that is connected from the start.
+pub fn what_is_taken()
+    ensures answering { OfEachAnswering IsHeard }
+    ensures asking { OfEachAsking IsHeard }
+    ensures joined { OfEachJoined IsHeard }
+{}
+
+/// What an end puts out, over the same lists of events: each sequenced data command is a piece of a packet that its user submitted on that
+/// channel, in the form in which that packet is carried and under the number that its place in the order of submission gives it, whatever
+/// acknowledgements come. So the numbers tell the other end the order of submission, and no content is sent under two of them.
+pub fn what_is_put_out()
+    ensures answering { OfEachAnswering IsSent }
+    ensures asking { OfEachAsking IsSent }
+    ensures joined { OfEachJoined IsSent }
+{}
+
+/// A datagram is some of these events: where a peer is handed the commands of one (`Handles`, the contract of `enet_peer::receive`), those at
+/// the front of its bytes came to the end, one after another, up to the one that stops them or for which memory was wanting.
+pub fn a_datagram_comes_as_commands()
+    ensures { (a : Arrival) (handled : ℕ) (bytes : List ℕ) (answer : Received) (e : OneEnd) (q : Peering)
+        → Handles a (record { handled = handled; peer = e.peer }) bytes answer q → HasCome a bytes e q }
+{}
+
+/// What `carried` of `IsHeard` rules out of channel 0: that anything is taken of it where nothing came on it, but on others perhaps
+/// (`elsewhere`). And, each where reliable commands of one byte came: a packet twice (`twice`), the second packet without the first (`gap`),
+/// two packets the other way round (`swapped`), and a packet with another byte (`altered`).
+pub fn false_takes_are_refuted()
+    ensures elsewhere { (came : List Heard) (d : Dispatched) (ds : List Dispatched) → CameElsewhere 0 came → IsRefused came (d ∷ ds) }
+    ensures twice { IsRefused (command_of 1 7 ∷ []) (packet_of 7 ∷ packet_of 7 ∷ []) }
+    ensures gap { IsRefused (command_of 2 7 ∷ []) (packet_of 7 ∷ []) }
+    ensures swapped { IsRefused (command_of 1 7 ∷ command_of 2 8 ∷ []) (packet_of 8 ∷ packet_of 7 ∷ []) }
+    ensures altered { IsRefused (command_of 1 7 ∷ []) (packet_of 8 ∷ []) }
+{}
+
+/// A run that does happen, so that the laws above speak of something: a reliable packet of a client that keeps the rules comes, and is taken.
+pub fn runs_happen()
+    ensures { OfSomeRun HasTaken }
+{}
