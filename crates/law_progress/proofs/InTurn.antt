@@ -1,5 +1,5 @@
 -- What rounds bring to two ends of which each has one turn in a round.
-use Rattle.std.proofs.Common.{◌≡◌, ℕ, suc, ◌+◌, ◌<◌, ◌≤◌, ◌*◌, true, false, List, [], ◌∷◌, ◌++◌, length, Bool, refl, sym, ap, subst, ◌∙◌, inl, inr, ◌⊎◌, arith, Some}
+use Rattle.std.proofs.Common.{◌≡◌, ℕ, zero, suc, ◌+◌, ◌<◌, ◌≤◌, ◌*◌, true, false, List, [], ◌∷◌, ◌++◌, length, Bool, refl, sym, ap, subst, ◌∙◌, inl, inr, ◌⊎◌, arith, Option, Some}
 use Rattle.enet_receiver.specs.Members.{Has}
 use Rattle.enet_sender.specs.declared.sent.Sent.{Sent}
 use Rattle.enet_sender.specs.Sender.{is_late as has_waited_out}
@@ -11,7 +11,7 @@ use Rattle.enet_peer.specs.Peering.{Peering}
 use Rattle.enet_peer.specs.Calls.{pace_of, ticked, with_throttle_limit}
 use Rattle.law_connection.specs.Connection.{End, Connection}
 use Rattle.law_connection.specs.Invariant.{Invariant}
-use Rattle.law_connection.specs.Steps.{Tick, Set, ThrottleLimit}
+use Rattle.law_connection.specs.Steps.{Tick, Set, ThrottleLimit, Happens}
 use Rattle.law_progress.specs.Exchanges.{IsOpen, RoundOfBoth, outstanding_over, HasSent, AllOver, BothThrough}
 use Rattle.law_progress.specs.InTurn.{Ticks, RoundInTurn, RoundsInTurn}
 use Rattle.law_progress.proofs.BothRounds.{Coming, Sending, Exchanged, Ticked, OnItsWay, AnswersAt, NothingSent, total, exchanged, answers-all, ticked-so, tick-peer, only-waits, none-waits, both-through}
