@@ -2,6 +2,8 @@
 # Refuses each growth of memory in turn while worked rows run: of hosts (the scripts that stand in crates/check_hosts), of two hosts with a
 # network between them, of a fleet, and of the making of both queues. The fleet's row is run with calls behind it, too, that take no memory: it
 # may have no more growths then. Before that each row runs with ample memory, where no call may be refused.
+# Then a stranger fills hosts as far as each kind of thing goes (check_hosts filled), over an allocator that counts (measure/counted.c):
+# what it gave may be no more than the definitions say (specs/Memory of enet_host).
 # The programs are those that `rt ci`, or `rt run` in crates/check_memory and crates/check_hosts, leaves. clients/faults.c, loaded into them,
 # refuses growth k of run k, until the one that is refused stands behind the row: that run ends with status 4. A refused call has to be
 # answered by a refusal and to change nothing that reading calls tell, and the row goes on by repeating it once (check_memory and check_hosts
@@ -62,6 +64,24 @@ lab_row() {
     row "$1" check_memory 1
 }
 
+# The bytes that the allocator gave for what a stranger fills hosts with, beside those that the definitions say.
+filled() {
+    local status count
+    if ! cc -O2 -fno-builtin -shared -fPIC -o "$room/counted.so" measure/counted.c 2> "$room/out"; then
+        fail filled "measure/counted.c can't be built: $(head -c 400 "$room/out")"
+        return
+    fi
+    COUNTED=held LD_PRELOAD=$room/counted.so timeout 300 crates/check_hosts/out/check_hosts filled < /dev/null > "$room/out" 2>&1
+    status=$?
+    count=$(grep -c 'bytes by definition, [0-9]* counted$' "$room/out")
+    if [ "$status" -ne 0 ]; then
+        fail filled "status $status: $(tail -n 2 "$room/out")"
+        return
+    fi
+    echo "filled: $count hosts took no more than the definitions say"
+    passed=$((passed + 1))
+}
+
 room=$(mktemp -d) || exit 1
 trap 'rm -rf "$room"' EXIT
 declare -A growths
@@ -81,6 +101,7 @@ else
     [ "${growths[fleet]}" = "${growths['fleet and on']}" ] || fail fleet 'calls of it that take no memory have growths'
     echo 0 > "$room/input"
     row hosts check_hosts 5
+    filled
 fi
 echo "$passed passed, $failed failed"
 [ "$failed" -eq 0 ]

@@ -16,6 +16,7 @@ mod ground;
 mod kinds;
 mod told;
 
+use crate::filled;
 use anyhow::{Context, Result, bail};
 use call::Call;
 use crowd::Crowd;
@@ -37,6 +38,7 @@ pub(crate) enum Asked {
     All,
     Foreign { drawn: u32 },
     Crowd { channels: u8, measures: bool },
+    Filled,
 }
 
 impl Asked {
@@ -44,7 +46,7 @@ impl Asked {
     pub(crate) fn is_all(self) -> bool {
         match self {
             Asked::All => true,
-            Asked::Foreign { .. } | Asked::Crowd { .. } => false,
+            Asked::Foreign { .. } | Asked::Crowd { .. } | Asked::Filled => false,
         }
     }
 }
@@ -61,6 +63,7 @@ where
         }
         Asked::Foreign { drawn } => run_foreign(rt, drawn),
         Asked::Crowd { channels, measures } => run_crowd(rt, channels, measures),
+        Asked::Filled => filled::run(rt),
     }
 }
 
@@ -83,6 +86,9 @@ fn read(word: &str, second: &str, measures: bool) -> Result<Asked> {
     if word == "crowd" {
         let channels = second.parse::<u8>().context("not a number")?;
         return Ok(Asked::Crowd { channels, measures });
+    }
+    if word == "filled" {
+        return Ok(Asked::Filled);
     }
     let drawn = word.parse::<u32>().context("not a number")?;
     Ok(Asked::Foreign { drawn })

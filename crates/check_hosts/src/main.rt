@@ -12,7 +12,8 @@
 //! `check_hosts DRAWN` has hosts take in foreign datagrams alone, of which so many are drawn in place of 1,000,000.
 //! `check_hosts crowd [CHANNELS [measure]]` looks at the host of 4,095 slots alone, whose peers have so many channels (1 where no number
 //! is given); with the word `measure` it prints how long each call took, and what the system tells of the memory that the program
-//! has, before and after the host was opened. Where a host does what it must not the program ends with status 1 and says what,
+//! has, before and after the host was opened. `check_hosts filled` has a stranger fill hosts (`filled`), over a clock that counts bytes.
+//! Where a host does what it must not the program ends with status 1 and says what,
 //! and after which datagram. Standard input is read before all this.
 //!
 //! Standard input may have a decimal number: then only the five scripts run, and so many growths are
@@ -22,6 +23,7 @@
 #![tactic(auto)]
 
 mod fault;
+mod filled;
 mod foreign;
 mod scarce;
 mod stalls;
