@@ -21,8 +21,9 @@ CLAUSES = [
     ("the lists that are kept", "`Fleet::run`, `headline`", ["enet_fleet.Headline.HasHeadline"]),
     ("and that they are the events'", "`Fleet::run`, `steps`", ["enet_fleet.Headline.HasHeadline", "enet_fleet.Fleets.Runs"]),
     ("what has nothing left to send was delivered", "`World::delivered`", ["enet_world.Delivered.HasDelivered"]),
+    ("at each moment of running services", "`services_in_order`, `at_each_moment`", ["law_service.EndToEnd.AtEachMoment"]),
     ("by what services were given and told", "`services_in_order`, `services`", ["law_service.EndToEnd.EndToEnd"]),
-    ("between their game threads", "`services_in_order`, `threads` and `shown`", ["law_service.EndToEnd.EndToEnd", "law_service.EndToEnd.BetweenThreads", "law_service.Queues.EachRunShows"]),
+    ("between their game threads", "`services_in_order`, `threads` and `all_shown`", ["law_service.EndToEnd.EndToEnd", "law_service.EndToEnd.BetweenThreads", "law_service.Queues.EachLifeShows"]),
     ("through the relay", "`chat_server_in_order`", ["law_relay.Chat.EachHasServed", "law_relay.Chat.OfChatThreads"]),
 ]
 

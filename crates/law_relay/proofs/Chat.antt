@@ -10,6 +10,7 @@ use Rattle.enet_codec.specs.declared.event.Event.{Event}
 use Rattle.enet_codec.specs.declared.event.PeerRef.{PeerRef}
 use Rattle.enet_submit.specs.declared.order.Order.{Order}
 use Rattle.enet_submit.specs.declared.order.Submission.{Submission}
+use Rattle.enet_events.specs.declared.numbered.Numbered.{Numbered}
 use Rattle.enet_host.specs.Host.{Host}
 use Rattle.enet_bridge.specs.Ends.{orders}
 use Rattle.enet_chat.specs.Relaying.{noted_all, relayed_all, SameForEach}
@@ -22,7 +23,7 @@ use Rattle.enet_service.specs.Hosting.{host_calls}
 use Rattle.enet_service.specs.Queues.{given, accepted}
 use Rattle.enet_service.specs.Turn.{Round}
 use Rattle.enet_service.specs.Run.{IsSound, all_gave, all_puts}
-use Rattle.enet_service.specs.LoneTurn.{Kind, AreAmong, RoundsOf}
+use Rattle.enet_service.specs.LoneTurn.{Kind, AreAmong, RoundsOf, beside}
 use Rattle.enet_service.specs.ServiceRuns.{beginning}
 use Rattle.enet_service.proofs.Among.{rounds_among}
 use Rattle.enet_service.proofs.PhaseSteps.{chain_more}
@@ -39,10 +40,12 @@ use Rattle.enet_service.specs.Spans.{Span, Spans, rounds_in}
 use Rattle.law_service.specs.EndToEnd.{Running, user_of, configs, AllMake, asked}
 use Rattle.law_service.proofs.Lifting.{each-life}
 use Rattle.law_service.proofs.EndToEnd.{end-to-end, behind-at}
+use Rattle.law_service.specs.Queues.{AtQueues}
+use Rattle.law_service.proofs.Queues.{each-moment, sent-is, put-is}
 use Rattle.law_relay.specs.Relay.{Relaying}
 use Rattle.law_relay.proofs.Refusals.{has-answers, between-pairs-unless}
 use Rattle.law_relay.proofs.Unreliable.{between-pairs-on-one}
-use Rattle.law_relay.specs.Chat.{ServesAll, Served, EachServed, HasServed, EachHasServed, Played, hosts_of, users_of, users_by, ChatsInOrder, OfChatServer, OfChatThreads}
+use Rattle.law_relay.specs.Chat.{ServesAll, Served, EachServed, HasServed, EachHasServed, IsServing, GoesOn, EachServesOn, Played, hosts_of, users_of, users_by, ChatsInOrder, OfChatServer, OfChatThreads}
 
 none : (kind : Kind) (s : ChatServer) → Served kind s s
 none kind s = record {
@@ -91,19 +94,7 @@ each-served kind old (run ∷ runs) new h = more kind old h.0 new (one h.1.0 kin
 
 pub each-has-served : EachHasServed
 each-has-served kind settings fresh served runs left opened h leaves = record {
-  running = r;
-  relaying = record {
-    expanded = s.expanded;
-    backlog = backlog_of served ++ untaken;
-    asked_for = s.asked_for;
-    waits = orders_of served;
-    events = accepted_both s.rounds more-rounds ∙ ap (λ (es : List Event). es ++ untaken) (ap (λ (es : List Event). es ++ accepted (all_puts s.rounds)) (sym opened.backlog) ∙ s.events)
-        ∙ append_assoc s.expanded (backlog_of served) untaken;
-    for_each = subst (λ (ps : List PeerRef). SameForEach s.asked_for (relayed_all ps s.expanded)) opened.peers s.for_each;
-    orders_done = ap (λ (os : List Order). os ++ s.asked_for) (sym opened.orders) ∙ s.orders_done
-        ∙ ap (λ (xs : List Submission). orders xs ++ orders_of served) (sym (given_both s.rounds more-rounds ∙ ap (λ (xs : List Submission). given (all_gave s.rounds) ++ xs) leaves.no_orders ∙ append-nil (given (all_gave s.rounds))));
-  };
-  config = refl;
+  serving = record { running = r; relaying = relaying; config = refl };
   left_is = refl;
   untaken = untaken;
   backlog = refl;
@@ -140,6 +131,87 @@ each-has-served kind settings fresh served runs left opened h leaves = record {
     r = (let m = each-life (beginning (config_of settings)) spans left acts in
         record { config = config_of settings; spans = spans; left = left; calls = m.0; turns = m.2 })
 
+    relaying : Relaying r
+    relaying = record {
+      expanded = s.expanded;
+      backlog = backlog_of served ++ untaken;
+      asked_for = s.asked_for;
+      waits = orders_of served;
+      events = accepted_both s.rounds more-rounds ∙ ap (λ (es : List Event). es ++ untaken) (ap (λ (es : List Event). es ++ accepted (all_puts s.rounds)) (sym opened.backlog) ∙ s.events)
+          ∙ append_assoc s.expanded (backlog_of served) untaken;
+      for_each = subst (λ (ps : List PeerRef). SameForEach s.asked_for (relayed_all ps s.expanded)) opened.peers s.for_each;
+      orders_done = ap (λ (os : List Order). os ++ s.asked_for) (sym opened.orders) ∙ s.orders_done
+          ∙ ap (λ (xs : List Submission). orders xs ++ orders_of served) (sym (given_both s.rounds more-rounds ∙ ap (λ (xs : List Submission). given (all_gave s.rounds) ++ xs) leaves.no_orders ∙ append-nil (given (all_gave s.rounds))));
+    }
+
+-- ---- a run that goes on
+pub each-serves-on : EachServesOn
+each-serves-on kind settings fresh served runs rounds left opened h turns g = (record { running = r; relaying = relaying; config = refl }, refl, s.expanded, refl)
+  where
+    s : Served kind fresh served
+    s = each-served kind fresh runs served h
+
+    shown : (q : AtQueues rounds) × (q.sent ≡ g.sent) × (q.taker.taken ≡ g.got)
+    shown = each-moment rounds g.sent g.got g.moment
+
+    q : AtQueues rounds
+    q = shown.0
+
+    untaken : List Event
+    untaken = map (λ (x : Numbered). x.event) q.waits
+
+    backlog : List Event
+    backlog = g.backlog ++ untaken
+
+    waits : List Order
+    waits = orders q.held ++ g.waits
+
+    begins : service_of fresh ≡ beginning (config_of settings)
+    begins = (λ i. record { host = opened.host i; waiting = opened.waiting i })
+
+    spans : List Span
+    spans = record { kind = kind; rounds = s.rounds; how = Now; parted = [] } ∷ record { kind = beside; rounds = rounds; how = Now; parted = [] } ∷ []
+
+    acts : Spans host_calls (beginning (config_of settings)) spans left
+    acts = (service_of served, (service_of served, subst (λ (t : Service Host). RoundsOf kind host_calls t s.rounds (service_of served)) begins s.turns, refl), (left, (left, turns, refl), refl))
+
+    r : Running
+    r = (let m = each-life (beginning (config_of settings)) spans left acts in record { config = config_of settings; spans = spans; left = left; calls = m.0; turns = m.2 })
+
+    all : rounds ++ [] ≡ rounds
+    all = append-nil rounds
+
+    first-events : accepted (all_puts s.rounds) ≡ s.expanded ++ backlog_of served
+    first-events = ap (λ (es : List Event). es ++ accepted (all_puts s.rounds)) (sym opened.backlog) ∙ s.events
+
+    more-events : backlog_of served ++ accepted (all_puts rounds) ≡ g.expanded ++ backlog
+    more-events =
+        ap (λ (es : List Event). backlog_of served ++ es) (put-is rounds q ∙ ap (λ (xs : List Numbered). map (λ (x : Numbered). x.event) xs ++ untaken) shown.2)
+        ∙ sym (append_assoc (backlog_of served) (map (λ (x : Numbered). x.event) g.got) untaken) ∙ ap (λ (es : List Event). es ++ untaken) g.took ∙ append_assoc g.expanded g.backlog untaken
+
+    first-orders : s.asked_for ≡ orders (given (all_gave s.rounds)) ++ orders_of served
+    first-orders = ap (λ (os : List Order). os ++ s.asked_for) (sym opened.orders) ∙ s.orders_done
+
+    more-orders : orders_of served ++ g.asked_for ≡ orders (given (all_gave rounds)) ++ waits
+    more-orders =
+        g.asked ∙ ap (λ (xs : List Submission). orders xs ++ g.waits) (sym shown.1 ∙ sent-is rounds q)
+        ∙ ap (λ (os : List Order). os ++ g.waits) (map-append (λ (x : Submission). x.order) (given (all_gave rounds)) q.held) ∙ append_assoc (orders (given (all_gave rounds))) (orders q.held) g.waits
+
+    relaying : Relaying r
+    relaying = record {
+      expanded = s.expanded ++ g.expanded;
+      backlog = backlog;
+      asked_for = s.asked_for ++ g.asked_for;
+      waits = waits;
+      events = accepted_both s.rounds (rounds ++ []) ∙ ap (λ (rs : List Round). accepted (all_puts s.rounds) ++ accepted (all_puts rs)) all
+          ∙ joined [] (backlog_of served) backlog (accepted (all_puts s.rounds)) (accepted (all_puts rounds)) s.expanded g.expanded first-events more-events;
+      for_each = subst (λ (ps : List PeerRef). SameForEach (s.asked_for ++ g.asked_for) (relayed_all ps (s.expanded ++ g.expanded))) opened.peers
+          (on_for_each s.asked_for g.asked_for (peers_of fresh) (peers_of served) s.expanded g.expanded s.peers s.for_each g.for_each);
+      orders_done = joined [] (orders_of served) waits s.asked_for g.asked_for (orders (given (all_gave s.rounds))) (orders (given (all_gave rounds))) first-orders more-orders
+          ∙ ap (λ (os : List Order). os ++ waits) (sym (ap orders (given_both s.rounds (rounds ++ []) ∙ ap (λ (rs : List Round). given (all_gave s.rounds) ++ given (all_gave rs)) all)
+          ∙ map-append (λ (x : Submission). x.order) (given (all_gave s.rounds)) (given (all_gave rounds))));
+    }
+
 -- the pairs of a headline
 chats : (hosts : Addr → Bool) (server : Running) (l : Relaying server) (users : ℕ → User) (asks : List (ℕ × PeerRef)) → IsHeadline (user_of hosts server) users asks → ChatsInOrder hosts server l users asks
 chats hosts server l users asks h = record {
@@ -150,7 +222,7 @@ chats hosts server l users asks h = record {
 }
 
 pub of-chat-server : OfChatServer
-of-chat-server at apart settings served left low s clients fits play = chats (hosts_of at clients) s.running s.relaying (users_of at clients) (asked play.ms)
+of-chat-server at apart settings low s clients fits play = chats (hosts_of at clients) s.running s.relaying (users_of at clients) (asked play.ms)
     (end-to-end at apart s.running clients (subst (λ (c : Config). config.is_in_range c ≡ true) (sym s.config) low) fits play.ms play.end
     (subst (λ (c : Config). AllMake at play.ms (open_net at c (configs clients)) play.end) (sym s.config) play.make) play.of_server play.of_clients)
 
@@ -158,8 +230,8 @@ same-user : (u : User) → IsBehind u u
 same-user u = record { more = λ p channel. ([], sym (append-nil (u.submitted p channel))); fewer = λ p. ([], sym (append-nil (u.taken p))); same = refl }
 
 pub of-chat-threads : OfChatThreads
-of-chat-threads at apart settings served left low s clients fits play threads =
-    let c = of-chat-server at apart settings served left low s clients fits play in
+of-chat-threads at apart settings low s clients fits play threads =
+    let c = of-chat-server at apart settings low s clients fits play in
     chats (hosts_of at clients) s.running s.relaying (users_by at clients threads) (asked play.ms)
     (holds-behind (user_of (hosts_of at clients) s.running) (user_of (hosts_of at clients) s.running) (users_of at clients) (users_by at clients threads) (asked play.ms) (same-user (user_of (hosts_of at clients) s.running))
     (λ i. behind-at (hosts_of at clients) (slice_get clients i) (threads i)) c.headline)

@@ -8,6 +8,8 @@ use Rattle.enet_codec.specs.Config as config
 use Rattle.enet_codec.specs.declared.event.Event.{Event}
 use Rattle.enet_codec.specs.declared.event.PeerRef.{PeerRef}
 use Rattle.enet_submit.specs.declared.order.Order.{Order}
+use Rattle.enet_submit.specs.declared.order.Submission.{Submission}
+use Rattle.enet_events.specs.declared.numbered.Numbered.{Numbered}
 use Rattle.enet_host.specs.Host.{Host}
 use Rattle.enet_bridge.specs.Ends.{orders}
 use Rattle.law_headline.specs.declared.node.Node.{Node}
@@ -29,7 +31,8 @@ use Rattle.enet_serve.specs.Serving.{Serves, IsOpened, config_of, is_in_range, s
 use Rattle.law_network.specs.Calls.{Call}
 use Rattle.law_headline.specs.Nets.{Net, AreApart, is_host, open_net}
 use Rattle.law_headline.specs.Page.{User, IsHeadline, came}
-use Rattle.law_service.specs.EndToEnd.{Running, user_of, user_in, user_at, ThreadAt, configs, AllMake, calls_at, asked}
+use Rattle.law_service.specs.EndToEnd.{Running, user_of, user_in, user_at, ThreadsAt, configs, AllMake, calls_at, asked}
+use Rattle.law_service.specs.Queues.{IsMoment}
 use Rattle.law_relay.specs.Relay.{Relaying, heard}
 use Rattle.law_relay.specs.Refusals.{Answers, all_asked, TakesChatUnless}
 use Rattle.law_relay.specs.Unreliable.{TakesSome}
@@ -58,20 +61,45 @@ EachServed = (kind : Kind) (old : ChatServer) (runs : List (RunLength × Report)
 abbrev pub stays : (s : Service Host) → Leaves s s
 stays s = record { spans = []; between = s; acts = refl; last = record { kind = beside; rounds = []; how = Later; parted = [] }; ends = (s, refl, refl); nobody = refl; no_orders = refl; gentle = tt }
 
--- what a fresh server did in all its runs and in taking leave (`ChatServer::take_leave`), with the calls of its host
-pub record HasServed (settings : Settings) (served : ChatServer) (left : Service Host) : Type 0 where
+-- a server that has served so far: what it did, with the calls of its host
+pub record IsServing (settings : Settings) : Type 0 where
   pub running : Running
   pub relaying : Relaying running
   pub config : running.config ≡ config_of settings
-  pub left_is : running.left ≡ left
+
+-- what a fresh server did in all its runs and in taking leave (`ChatServer::take_leave`)
+pub record HasServed (settings : Settings) (served : ChatServer) (left : Service Host) : Type 0 where
+  pub serving : IsServing settings
+  pub left_is : serving.running.left ≡ left
   pub untaken : List Event
-  pub backlog : relaying.backlog ≡ backlog_of served ++ untaken
-  pub waits : relaying.waits ≡ orders_of served
-  pub peers : peers_of served ≡ noted_all [] relaying.expanded
+  pub backlog : serving.relaying.backlog ≡ backlog_of served ++ untaken
+  pub waits : serving.relaying.waits ≡ orders_of served
+  pub peers : peers_of served ≡ noted_all [] serving.relaying.expanded
 
 abbrev pub EachHasServed : Type 0
 EachHasServed = (kind : Kind) (settings : Settings) (fresh served : ChatServer) (runs : List (RunLength × Report)) (left : Service Host) → IsOpened settings fresh → ServesAll kind fresh runs served → Leaves (service_of served) left
     → HasServed settings served left
+
+-- ---- each moment
+-- A run of two threads that goes on, of which these turns are over: a moment of its queues, and what the relay made until then of what the server
+-- kept and of the events that it took (`Relays`)
+pub record GoesOn (served : ChatServer) (rounds : List Round) : Type 0 where
+  pub sent : List Submission
+  pub got : List Numbered
+  pub moment : IsMoment rounds sent got
+  pub expanded : List Event
+  pub backlog : List Event
+  pub asked_for : List Order
+  pub waits : List Order
+  pub took : backlog_of served ++ map (λ x. x.event) got ≡ expanded ++ backlog
+  pub for_each : SameForEach asked_for (relayed_all (peers_of served) expanded)
+  pub asked : orders_of served ++ asked_for ≡ orders sent ++ waits
+
+-- so far it has served, too
+abbrev pub EachServesOn : Type 0
+EachServesOn = (kind : Kind) (settings : Settings) (fresh served : ChatServer) (runs : List (RunLength × Report)) (rounds : List Round) (left : Service Host) → IsOpened settings fresh → ServesAll kind fresh runs served
+    → RoundsOf beside host_calls (service_of served) rounds left → (g : GoesOn served rounds)
+    → (s : IsServing settings) × (s.running.left ≡ left) × (before : List Event) × (s.relaying.expanded ≡ before ++ g.expanded)
 
 -- Its service and any number of clients' services, and an interleaving of their hosts' calls in which the network is honest
 pub record Played (at : Node → Addr) (settings : Settings) (server : Running) (clients : List Running) : Type 0 where
@@ -98,15 +126,15 @@ pub record ChatsInOrder (hosts : Addr → Bool) (server : Running) (relaying : R
       → TakesSome (user_of hosts server) users asks headline.here (heard q 1 [] relaying.expanded) (came 1 ((users j).taken there))
 
 abbrev pub OfChatServer : Type 0
-OfChatServer = (at : Node → Addr) → AreApart at → (settings : Settings) (served : ChatServer) (left : Service Host) → is_in_range settings ≡ true → (s : HasServed settings served left)
+OfChatServer = (at : Node → Addr) → AreApart at → (settings : Settings) → is_in_range settings ≡ true → (s : IsServing settings)
     → (clients : List Running) → list_all config.is_in_range (configs clients) ≡ true → (play : Played at settings s.running clients)
     → ChatsInOrder (hosts_of at clients) s.running s.relaying (users_of at clients) (asked play.ms)
 
 -- and so of what the clients' game threads submitted and took
-abbrev pub users_by : (at : Node → Addr) (clients : List Running) → ((i : ℕ) → ThreadAt (slice_get clients i)) → ℕ → User
+abbrev pub users_by : (at : Node → Addr) (clients : List Running) → ((i : ℕ) → ThreadsAt (slice_get clients i)) → ℕ → User
 users_by at clients threads i = user_at (hosts_of at clients) (slice_get clients i) (threads i)
 
 abbrev pub OfChatThreads : Type 0
-OfChatThreads = (at : Node → Addr) → AreApart at → (settings : Settings) (served : ChatServer) (left : Service Host) → is_in_range settings ≡ true → (s : HasServed settings served left)
-    → (clients : List Running) → list_all config.is_in_range (configs clients) ≡ true → (play : Played at settings s.running clients) → (threads : (i : ℕ) → ThreadAt (slice_get clients i))
+OfChatThreads = (at : Node → Addr) → AreApart at → (settings : Settings) → is_in_range settings ≡ true → (s : IsServing settings)
+    → (clients : List Running) → list_all config.is_in_range (configs clients) ≡ true → (play : Played at settings s.running clients) → (threads : (i : ℕ) → ThreadsAt (slice_get clients i))
     → ChatsInOrder (hosts_of at clients) s.running s.relaying (users_by at clients threads) (asked play.ms)

@@ -5,12 +5,13 @@
 //! once, in i's order, from some packet on, since j hears from its Connect on, and leaves out nothing flagged RELIABLE before the last
 //! (`each_pair`), but for orders that were refused, which are named (`refused_left_out`); on channel 1 it takes some of what i submitted
 //! there, each whole and once, in order; so it is of any runs of a `ChatServer`, one after another (`chat_server_in_order`).
-//! Premise: that of `law_service`. Where the server takes leave of its clients after the runs, `ChatServer::take_leave` says what it does then
-//! (`TakesLeave`).
+//! So it is, too, after any turn of a run of two threads that goes on (`serves_on`).
+//! Premise: that of `law_service`, and for a run that goes on what the rules of its queues say of each moment, and what the relay did until
+//! then. Where the server takes leave of its clients after the runs, `ChatServer::take_leave` says what it does then (`TakesLeave`).
 //! Neither: a run that ended in an error, of which `serve` promises nothing; nor is it said of what i submitted unsequenced on channel 1.
 #![tactic(auto)]
 
-ghost use Rattle.law_relay.specs.Chat.{EachServed, EachHasServed, OfChatServer, OfChatThreads};
+ghost use Rattle.law_relay.specs.Chat.{EachServed, EachHasServed, EachServesOn, OfChatServer, OfChatThreads};
 ghost use Rattle.law_relay.specs.Relay.{RelayRule, BetweenClients};
 ghost use Rattle.law_relay.specs.Pairs.{BetweenPairs};
 ghost use Rattle.law_relay.specs.Refusals.{EachHasAnswers, BetweenClientsUnless, BetweenPairsUnless};
@@ -40,11 +41,12 @@ pub fn refused_left_out()
 {}
 
 /// Any runs of a server, one after another, are as one (`runs`). From a fresh server on they make a service's turns and a relay's work, also
-/// where it takes leave after them (`served`). So what its clients take is in order: of each other, each once, and without a gap
-/// (`chats`); and so what their game threads take (`threads`).
+/// where it takes leave after them (`served`), and so does a run of two threads that goes on, after any of its turns (`serves_on`). So what its
+/// clients take is in order: of each other, each once, and without a gap (`chats`); and so what their game threads take (`threads`).
 pub fn chat_server_in_order()
     ensures runs { EachServed }
     ensures served { EachHasServed }
+    ensures serves_on { EachServesOn }
     ensures chats { OfChatServer }
     ensures threads { OfChatThreads }
 {}

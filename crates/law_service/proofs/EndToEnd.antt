@@ -1,6 +1,6 @@
 -- The headline of services, from that of the net of their hosts.
 use Rattle.std.proofs.Common.{◌≡◌, ◌≢◌, ℕ, zero, suc, ◌+◌, ◌<◌, ◌⊎◌, inl, inr, ◌==◌, ◌&&◌, ◌||◌, not, Bool, true, false, cond, List, [], ◌∷◌, ◌++◌, map, length, refl, sym, ap, subst, ◌∙◌, append-nil, append_assoc, arith, Option, Some, None, Ok, Err, slice_get, slice_set}
-use Rattle.std.specs.Prelude.{flat_map, filter}
+use Rattle.std.specs.Prelude.{flat_map, filter, take}
 use Rattle.std.specs.List.{list_all, list_any}
 use Rattle.std.specs.Option.{option_map}
 use Rattle.std.proofs.lemmas.Bool.Decides.{nat_tests}
@@ -37,11 +37,12 @@ use Rattle.law_headline.specs.Page.{User, IsHeadline, IsBehind, is_of}
 use Rattle.law_headline.proofs.Kept.{stays-recorded}
 use Rattle.law_headline.proofs.Covered.{stays-covered}
 use Rattle.law_headline.proofs.Page.{IsUsers, IsBegun, page, holds-behind}
-use Rattle.enet_service.specs.Queues.{given}
-use Rattle.enet_service.specs.Run.{all_gave}
-use Rattle.law_service.specs.Told.{told, packet_unless, packets_of, submitted_in, taken_in}
+use Rattle.enet_service.specs.ServiceRuns.{beginning}
+use Rattle.enet_service.specs.Spans.{Span, rounds_in}
+use Rattle.law_service.specs.Told.{told, submitted_in, taken_in}
 use Rattle.law_service.specs.Law.{noted}
-use Rattle.law_service.specs.EndToEnd.{rounds_of, Running, brings_guest, user_of, user_in, configs, IsCall, Makes, AllMake, is_node, call_at, calls_at, asks, asked, EndToEnd, Thread, ThreadAt, user_by, user_at, BetweenThreads}
+use Rattle.law_service.specs.EndToEnd.{rounds_of, Running, brings_guest, user_of, user_in, user_of_calls, user_if, AtEachMoment, configs, IsCall, Makes, AllMake, is_node, call_at, calls_at, asks, asked, EndToEnd, Part, Threads, ThreadsAt, user_by, user_at, BetweenThreads}
+use Rattle.law_service.proofs.Lives.{Behind, all-behind}
 use Rattle.law_service.proofs.Telling.{life-tells}
 
 push : {X Y : Type 0} (g : X → List Y) (hs : List X) (h : X) → flat_map g (hs ++ h ∷ []) ≡ flat_map g hs ++ g h
@@ -356,6 +357,11 @@ open-told home apart server clients one all = record {
 abbrev site-of : Option Place → Option Site
 site-of o = option_map (λ (p : Place). p.site) o
 
+get-map-none : {X Y : Type 0} (g : X → Y) (xs : List X) (k : ℕ) → slice_get xs k ≡ None → slice_get (map g xs) k ≡ None
+get-map-none g [] k h = refl
+get-map-none g (x ∷ xs) zero h = absurd (let e : ◌≡◌ {A = Option _} None (Some x) = sym h in cc)
+get-map-none g (x ∷ xs) (suc k) h = get-map-none g xs k h
+
 has-site : (o : Option Place) (s : Site) → site-of o ≡ Some s → (p : Place) × (o ≡ Some p) × (p.site ≡ s)
 has-site None s h = absurd (let y : ◌≡◌ {A = Option Site} None (Some s) = h in cc)
 has-site (Some p) s h = (p, refl, same-some p.site s h)
@@ -365,69 +371,57 @@ get-unmapped g [] k y h = absurd (let e : ◌≡◌ {A = Option _} None (Some y)
 get-unmapped g (z ∷ xs) zero y h = (z, refl, same-some (g z) y h)
 get-unmapped g (z ∷ xs) (suc k) y h = get-unmapped g xs k y h
 
--- what the game threads of a service submitted and took is what its calls tell
-users-calls : (hosts : Addr → Bool) (r : Running) (s : Site) (l : List Call) → l ≡ r.calls → IsRecorded (submitted_in l) (taken_in l) s → HasHeadlineAt false hosts s
-    → (list_any (brings_guest hosts) l ≡ false → IsCovered hosts (submitted_in l) (taken_in l) s) → IsUsers hosts (user_of hosts r) s
-users-calls hosts r s l same k headline covers = record {
-  recorded = same-recorded (submitted_in l) (user_of hosts r).submitted (taken_in l) (user_of hosts r).taken s sends takes k;
-  headline = headline;
-  covered = λ quiet. same-covered hosts (submitted_in l) (user_of hosts r).submitted (taken_in l) (user_of hosts r).taken s sends takes (covers (ap (list_any (brings_guest hosts)) same ∙ quiet));
-}
-  where
-    sends : (q : PeerRef) (channel : ℕ) → submitted_in l q channel ≡ (user_of hosts r).submitted q channel
-    sends q channel = ap (λ (x : List Call). submitted_in x q channel) same
+-- what a host's calls tell is kept of it
+users-calls : (hosts : Addr → Bool) (s : Site) (l : List Call) → IsRecorded (submitted_in l) (taken_in l) s → HasHeadlineAt false hosts s
+    → (list_any (brings_guest hosts) l ≡ false → IsCovered hosts (submitted_in l) (taken_in l) s) → IsUsers hosts (user_of_calls hosts l) s
+users-calls hosts s l k headline covers = record { recorded = k; headline = headline; covered = covers }
 
-    takes : (q : PeerRef) → taken_in l q ≡ (user_of hosts r).taken q
-    takes q = ap (λ (x : List Call). taken_in x q) same ∙ sym ((life-tells (Rattle.enet_service.specs.ServiceRuns.beginning r.config) r.spans r.left r.calls refl r.turns).1 q)
-
-pub end-to-end : EndToEnd
-end-to-end home apart server clients one all ms f r at-server at-clients =
-    page hosts f.server.site (user_of hosts server) (λ i. site-of (slice_get f.clients i)) (λ i. user_in hosts (slice_get clients i)) (asked ms)
-    (users-calls hosts server f.server.site (calls_at Server ms) at-server (k.each Server f.server refl) (headlined Server f.server refl) (covers Server f.server refl))
+calls-in-order : (home : Node → Addr) → AreApart home → (server : Config) (clients : List Config) → is_in_range server ≡ true → list_all is_in_range clients ≡ true → (ms : List (Node × Call)) (f : Net) → AllMake home ms (open_net home server clients) f
+    → IsHeadline (user_of_calls (is_host home (length clients)) (calls_at Server ms)) (λ i. user_if (is_host home (length clients)) (slice_get clients i) (calls_at (Client i) ms)) (asked ms)
+calls-in-order home apart server clients one all ms f r =
+    page hosts f.server.site (user_of_calls hosts (calls_at Server ms)) (λ i. site-of (slice_get f.clients i)) (λ i. user_if hosts (slice_get clients i) (calls_at (Client i) ms)) (asked ms)
+    (users-calls hosts f.server.site (calls_at Server ms) (k.each Server f.server refl) (headlined Server f.server refl) (covers Server f.server refl))
     (λ i s is. (let p = has-site (slice_get f.clients i) s is in
-    subst (IsUsers hosts (user_in hosts (slice_get clients i))) p.2 (runs i p.0 p.1 (slice_get clients i) refl)))
+    subst (IsUsers hosts (user_if hosts (slice_get clients i) (calls_at (Client i) ms))) p.2 (runs i p.0 p.1 (slice_get clients i) refl)))
     begun below absent own
   where
     hosts : Addr → Bool
     hosts = is_host home (length clients)
 
-    k : IsTold home apart (length (configs clients)) ms f
-    k = all-told home apart (length (configs clients)) [] ms (open-net-at) f r (open-told home apart server.config (configs clients) one all)
+    k : IsTold home apart (length clients) ms f
+    k = all-told home apart (length clients) [] ms (open-net-at) f r (open-told home apart server clients one all)
       where
         open-net-at : Net
-        open-net-at = open_net home server.config (configs clients)
-
-    total : length (configs clients) ≡ length clients
-    total = length-mapped (λ (q : Running). q.config) clients
+        open-net-at = open_net home server clients
 
     h : HasHeadline home f
     h = has-headline home apart f k.sound
 
     headlined : (n : Node) (p : Place) → place_of f n ≡ Some p → HasHeadlineAt false hosts p.site
-    headlined n p there = subst (λ (t : ℕ). HasHeadlineAt false (is_host home t) p.site) (k.count ∙ total) (h.hosts n p there)
+    headlined n p there = subst (λ (t : ℕ). HasHeadlineAt false (is_host home t) p.site) k.count (h.hosts n p there)
 
     covers : (n : Node) (p : Place) → place_of f n ≡ Some p → list_any (brings_guest hosts) (calls_at n ms) ≡ false → IsCovered hosts (submitted_in (calls_at n ms)) (taken_in (calls_at n ms)) p.site
-    covers n p there = subst (λ (t : ℕ). guests home t n ms ≡ false → IsCovered (is_host home t) (submitted_in (calls_at n ms)) (taken_in (calls_at n ms)) p.site) total (k.covered n p there)
+    covers n p there = k.covered n p there
 
-    -- there are as many clients as services
-    runs : (i : ℕ) (p : Place) → slice_get f.clients i ≡ Some p → (o : Option Running) → slice_get clients i ≡ o → IsUsers hosts (user_in hosts o) p.site
+    -- there are as many clients as settings
+    runs : (i : ℕ) (p : Place) → slice_get f.clients i ≡ Some p → (o : Option Config) → slice_get clients i ≡ o → IsUsers hosts (user_if hosts o (calls_at (Client i) ms)) p.site
     runs i p there None none =
-        let count : length f.clients ≡ length clients = k.count ∙ total in
+        let count : length f.clients ≡ length clients = k.count in
         let low : i < length f.clients = slice_get_within f.clients i p there in
-        let there' : (q : Running) × (slice_get clients i ≡ Some q) = get-within clients i (omega arith) in
-        absurd (let z : ◌≡◌ {A = Option Running} None (Some there'.0) = sym none ∙ there'.1 in cc)
-    runs i p there (Some r) is = users-calls hosts r p.site (calls_at (Client i) ms) (at-clients i r is) (k.each (Client i) p there) (headlined (Client i) p there) (covers (Client i) p there)
+        let there' : (q : Config) × (slice_get clients i ≡ Some q) = get-within clients i (omega arith) in
+        absurd (let z : ◌≡◌ {A = Option Config} None (Some there'.0) = sym none ∙ there'.1 in cc)
+    runs i p there (Some c) is = users-calls hosts p.site (calls_at (Client i) ms) (k.each (Client i) p there) (headlined (Client i) p there) (covers (Client i) p there)
 
-    -- and no services of others
-    absent : (i : ℕ) (p : PeerRef) → site-of (slice_get f.clients i) ≡ None → (user_in hosts (slice_get clients i)).taken p ≡ []
+    -- and no hosts of others
+    absent : (i : ℕ) (p : PeerRef) → site-of (slice_get f.clients i) ≡ None → (user_if hosts (slice_get clients i) (calls_at (Client i) ms)).taken p ≡ []
     absent i p none = by (slice_get clients i) refl (slice_get f.clients i) refl none
       where
-        by : (o : Option Running) → slice_get clients i ≡ o → (u : Option Place) → slice_get f.clients i ≡ u → site-of u ≡ None → (user_in hosts o).taken p ≡ []
+        by : (o : Option Config) → slice_get clients i ≡ o → (u : Option Place) → slice_get f.clients i ≡ u → site-of u ≡ None → (user_if hosts o (calls_at (Client i) ms)).taken p ≡ []
         by None is u at none = refl
         by (Some q) is (Some place) at none = absurd (let z : ◌≡◌ {A = Option Site} None (Some place.site) = sym none in cc)
         by (Some q) is None at none =
             let low : i < length clients = slice_get_within clients i q is in
-            let count : length f.clients ≡ length clients = k.count ∙ total in
+            let count : length f.clients ≡ length clients = k.count in
             let there = get-within f.clients i (let l : i < length f.clients = omega arith in l) in
             absurd (let z : ◌≡◌ {A = Option Place} None (Some there.0) = sym at ∙ there.1 in cc)
 
@@ -462,27 +456,60 @@ end-to-end home apart server clients one all ms f r at-server at-clients =
           between = subst (λ (o : Option HostEnd). HasHeadlineBetween o (end_of x f.server.site.ends)) here (h.ends x);
         }
 
+-- a front of an interleaving is one
+front-of : (home : Node → Addr) (n : ℕ) (ms : List (Node × Call)) (f g : Net) → AllMake home ms f g → (h : Net) × AllMake home (take n ms) f h
+front-of home zero [] f g r = (f, refl)
+front-of home zero (m ∷ ms) f g r = (f, refl)
+front-of home (suc n) [] f g r = (g, r)
+front-of home (suc n) (m ∷ ms) f g r = (let k = front-of home n ms r.0 g r.2 in (k.0, (r.0, r.1, k.1)))
+
+pub at-each-moment : AtEachMoment
+at-each-moment home apart server clients one all ms f r n =
+    let k = front-of home n ms (open_net home server clients) f r in
+    calls-in-order home apart server clients one all (take n ms) k.0 k.1
+
+-- what a service was given, and accepted, and told is what its calls tell
+user-calls : (hosts : Addr → Bool) (r : Running) → user_of_calls hosts r.calls ≡ user_of hosts r
+user-calls hosts r = (λ i. record { submitted = submitted_in r.calls; taken = λ q. takes q i; guests = list_any (brings_guest hosts) r.calls })
+  where
+    takes : (q : PeerRef) → taken_in r.calls q ≡ (user_of hosts r).taken q
+    takes q = sym ((life-tells (beginning r.config) r.spans r.left r.calls refl r.turns).1 q)
+
+pub end-to-end : EndToEnd
+end-to-end home apart server clients one all ms f r at-server at-clients =
+    subst (λ (u : User). IsHeadline u (λ i. user_in hosts (slice_get clients i)) (asked ms)) (ap (user_of_calls hosts) at-server ∙ user-calls hosts server)
+    (subst (λ (us : ℕ → User). IsHeadline (user_of_calls hosts (calls_at Server ms)) us (asked ms)) (λ j i. each i (slice_get clients i) refl j)
+    (subst (λ (t : ℕ). IsHeadline (user_of_calls (is_host home t) (calls_at Server ms)) (λ i. user_if (is_host home t) (slice_get (configs clients) i) (calls_at (Client i) ms)) (asked ms)) (length-mapped (λ (q : Running). q.config) clients)
+    (calls-in-order home apart server.config (configs clients) one all ms f r)))
+  where
+    hosts : Addr → Bool
+    hosts = is_host home (length clients)
+
+    each : (i : ℕ) (o : Option Running) → slice_get clients i ≡ o → user_if hosts (slice_get (configs clients) i) (calls_at (Client i) ms) ≡ user_in hosts (slice_get clients i)
+    each i None none = ap (λ (c : Option Config). user_if hosts c (calls_at (Client i) ms)) (get-map-none (λ (q : Running). q.config) clients i none) ∙ ap (user_in hosts) (sym none)
+    each i (Some q) is =
+        ap (λ (c : Option Config). user_if hosts c (calls_at (Client i) ms)) (get-map (λ (x : Running). x.config) clients i q is) ∙ ap (user_of_calls hosts) (at-clients i q is) ∙ user-calls hosts q ∙ ap (user_in hosts) (sym is)
+
 -- game threads
 
-behind : (hosts : Addr → Bool) (r : Running) (t : Thread r) → IsBehind (user_of hosts r) (user_by hosts r t)
+behind : (hosts : Addr → Bool) (r : Running) (t : Threads r) → IsBehind (user_of hosts r) (user_by hosts r t)
 behind hosts r t = record {
   same = refl;
-  more = λ p channel. (
-    packets_of e p channel t.unsent,
-    ap (packets_of e p channel) t.sent_is ∙ flat_map-append (packet_unless e p channel) (given (all_gave (rounds_of r))) t.unsent
-        ∙ ap (λ (l : List Packet). l ++ packets_of e p channel t.unsent) ((life-tells (Rattle.enet_service.specs.ServiceRuns.beginning r.config) r.spans r.left r.calls refl r.turns).0 t.numbered p channel),
+  more = λ p channel. (let m = k.more p channel in (m.0, m.1 ∙ ap (λ (cs : List Call). submitted_in cs p channel ++ m.0) (sym k.calls_are)));
+  fewer = λ p. (
+    filter (is_of p) k.left,
+    ap (λ (spans : List Span). filter (is_of p) (told (rounds_in spans) r.left.waiting)) t.spans_are ∙ ap (filter (is_of p)) k.got ∙ filter-append (is_of p) (flat_map (λ (x : Part). x.got) t.parts) k.left,
   );
-  fewer = λ p. (filter (is_of p) t.left, ap (filter (is_of p)) t.got_is ∙ filter-append (is_of p) t.got t.left);
 }
   where
-    e : List Event
-    e = told (rounds_of r) r.left.waiting
+    k : Behind (noted (beginning r.config) []) t.parts (noted r.left r.calls)
+    k = all-behind (noted (beginning r.config) []) t.parts (noted r.left r.calls) t.in_order t.over
 
-pub behind-at : (hosts : Addr → Bool) (o : Option Running) (t : ThreadAt o) → IsBehind (user_in hosts o) (user_at hosts o t)
+pub behind-at : (hosts : Addr → Bool) (o : Option Running) (t : ThreadsAt o) → IsBehind (user_in hosts o) (user_at hosts o t)
 behind-at hosts None t = record { more = λ p channel. ([], refl); fewer = λ p. ([], refl); same = refl }
 behind-at hosts (Some r) t = behind hosts r t
 
 pub between-threads : BetweenThreads
-between-threads hosts server clients asked h thread threads =
-    holds-behind (user_of hosts server) (user_by hosts server thread) (λ i. user_in hosts (slice_get clients i)) (λ i. user_at hosts (slice_get clients i) (threads i)) asked
-    (behind hosts server thread) (λ i. behind-at hosts (slice_get clients i) (threads i)) h
+between-threads hosts server clients asked h here threads =
+    holds-behind (user_of hosts server) (user_by hosts server here) (λ i. user_in hosts (slice_get clients i)) (λ i. user_at hosts (slice_get clients i) (threads i)) asked
+    (behind hosts server here) (λ i. behind-at hosts (slice_get clients i) (threads i)) h

@@ -56,7 +56,7 @@ pub record Ledger (old new : Service Noted) (gave : List (Option Submission)) (p
   pub taken_are : (name : PeerRef) → filter (is_of name) made ≡ taken_in calls name
   pub refusals : filter is_refused made ≡ flat_map refusal answered
 
-accepted-append : (p q : List (Event × Bool)) → accepted (p ++ q) ≡ accepted p ++ accepted q
+pub accepted-append : (p q : List (Event × Bool)) → accepted (p ++ q) ≡ accepted p ++ accepted q
 accepted-append p q = ap (map (λ (x : Event × Bool). x.0)) (filter-append (λ (x : Event × Bool). x.1) p q) ∙ map-append (λ (x : Event × Bool). x.0) (filter (λ (x : Event × Bool). x.1) p) (filter (λ (x : Event × Bool). x.1) q)
 
 join : (a b c : Service Noted) (g h : List (Option Submission)) (p q : List (Event × Bool)) → Ledger a b g p → Ledger b c h q → Ledger a c (g ++ h) (p ++ q)
@@ -444,6 +444,19 @@ settled-is es name channel w h = ap (λ (b : Bool). cond b [] (packet_in name ch
     by None = refl
     by (Some r) = refl
 
+-- which packets were accepted, by the events that were made
+pub sent-by : (old new : Service Noted) (gave : List (Option Submission)) (puts : List (Event × Bool)) (l : Ledger old new gave puts) (es : List Event) → es ≡ l.made → AreNumbered (given gave)
+    → (name : PeerRef) (channel : ℕ) → packets_of es name channel (given gave) ≡ submitted_in l.calls name channel
+sent-by old new gave puts l es told-is numbered name channel =
+    ap (flat_map (packet_unless es name channel)) l.given_are
+    ∙ flat-same (packet_unless es name channel) (settled name channel) l.answered (λ w h. settled-is es name channel w (refused w h))
+    ∙ sym (l.packets name channel)
+  where
+    refused : (w : Answered) → Has l.answered w → list_any (is_refusal_of w.0) es ≡ is_refused_for w.1
+    refused w h =
+        ap (list_any (is_refusal_of w.0)) told-is ∙ any-filtered w.0 l.made ∙ ap (list_any (is_refusal_of w.0)) l.refusals
+        ∙ only-own l.answered (λ seat. 0) (λ seat. subst (λ (xs : List Submission). CountsFrom 0 (of seat xs)) l.given_are (numbered seat)) w h
+
 -- so much is told by the calls
 abbrev AreTold : List Round → Service Host → List Call → Type 0
 AreTold rounds new calls =
@@ -459,16 +472,9 @@ tells-by old rounds new calls none l = (sends, takes)
     takes : (name : PeerRef) → taken rounds new.waiting name ≡ taken_in calls name
     takes name = ap (filter (is_of name)) told-is ∙ l.taken_are name ∙ ap (λ (c : List Call). taken_in c name) (sym l.calls_are)
 
-    refused : AreNumbered (given (all_gave rounds)) → (w : Answered) → Has l.answered w → list_any (is_refusal_of w.0) (told_by rounds new.waiting) ≡ is_refused_for w.1
-    refused numbered w h =
-        ap (list_any (is_refusal_of w.0)) told-is ∙ any-filtered w.0 l.made ∙ ap (list_any (is_refusal_of w.0)) l.refusals
-        ∙ only-own l.answered (λ seat. 0) (λ seat. subst (λ (xs : List Submission). CountsFrom 0 (of seat xs)) l.given_are (numbered seat)) w h
-
     sends : AreNumbered (given (all_gave rounds)) → (name : PeerRef) (channel : ℕ) → submitted rounds new.waiting name channel ≡ submitted_in calls name channel
     sends numbered name channel =
-        ap (flat_map (packet_unless (told_by rounds new.waiting) name channel)) l.given_are
-        ∙ flat-same (packet_unless (told_by rounds new.waiting) name channel) (settled name channel) l.answered (λ w h. settled-is (told_by rounds new.waiting) name channel w (refused numbered w h))
-        ∙ sym (l.packets name channel) ∙ ap (λ (c : List Call). submitted_in c name channel) (sym l.calls_are)
+        sent-by (noted old []) (noted new calls) (all_gave rounds) (all_puts rounds) l (told_by rounds new.waiting) told-is numbered name channel ∙ ap (λ (c : List Call). submitted_in c name channel) (sym l.calls_are)
 
 pub each-tells : EachRunTells
 each-tells kind old rounds new calls none r = tells-by old rounds new calls none (rounds-ledger kind (noted old []) rounds (noted new calls) r)

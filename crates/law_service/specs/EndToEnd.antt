@@ -1,11 +1,12 @@
 -- The headline of running services, end to end.
-use Rattle.std.specs.Prelude.{◌≡◌, ℕ, ◌==◌, ◌&&◌, ◌⊎◌, not, Bool, true, false, if◌then◌else◌, List, [], ◌∷◌, ◌++◌, length, map, filter, flat_map, Option, Some, None, Ok, slice_get}
+use Rattle.std.specs.Prelude.{◌≡◌, ℕ, ◌==◌, ◌&&◌, ◌⊎◌, not, Bool, true, false, if◌then◌else◌, List, [], ◌∷◌, ◌++◌, length, map, filter, flat_map, take, drop, option_to_list, Option, Some, None, Ok, slice_get}
 use Rattle.std.specs.List.{list_all, list_any}
 use Rattle.enet_codec.specs.declared.address.Addr.{Addr}
 use Rattle.enet_codec.specs.declared.config.Config.{Config}
 use Rattle.enet_codec.specs.Config.{is_in_range}
 use Rattle.enet_codec.specs.declared.event.Event.{Event}
 use Rattle.enet_codec.specs.declared.event.PeerRef.{PeerRef}
+use Rattle.enet_codec.specs.declared.packet.Packet.{Packet}
 use Rattle.enet_submit.specs.declared.order.Submission.{Submission}
 use Rattle.enet_host.specs.Host.{Host}
 use Rattle.law_headline.specs.declared.node.Node.{Node}
@@ -19,13 +20,15 @@ use Rattle.enet_site.specs.Places.{Place}
 use Rattle.law_headline.specs.Nets.{Net, place_of, AreApart, is_host, HappensAt, IsAllowed, open_net}
 use Rattle.law_headline.specs.Page.{User, IsHeadline, is_of}
 use Rattle.enet_service.specs.declared.service.Service.{Service}
+use Rattle.enet_service.specs.Calls.{Calls as HostCalls}
+use Rattle.enet_service.specs.Phases.{Chain}
 use Rattle.enet_service.specs.Queues.{given}
 use Rattle.enet_service.specs.Run.{all_gave}
 use Rattle.enet_service.specs.ServiceRuns.{beginning}
 use Rattle.enet_service.specs.Turn.{Round}
 use Rattle.law_service.specs.Noting.{Noted, noting}
 use Rattle.enet_service.specs.Spans.{Span, Spans, rounds_in}
-use Rattle.law_service.specs.Told.{told, packets_of, submitted_in, taken}
+use Rattle.law_service.specs.Told.{told, packets_of, submitted_in, taken, taken_in}
 use Rattle.law_service.specs.Law.{noted, AreNumbered}
 
 -- a host's service and what it did: its settings, its turns and partings, what they left, and the calls of its host that they made
@@ -93,6 +96,21 @@ asks n c = []
 abbrev pub asked : List (Node × Call) → List (ℕ × PeerRef)
 asked ms = flat_map (λ m. asks m.0 m.1) ms
 
+-- what a host accepted by its calls, and the events that these told
+abbrev pub user_of_calls : (Addr → Bool) → List Call → User
+user_of_calls hosts calls = record { submitted = submitted_in calls; taken = taken_in calls; guests = list_any (brings_guest hosts) calls }
+
+abbrev pub user_if : (Addr → Bool) → Option Config → List Call → User
+user_if hosts None calls = record { submitted = λ p channel. []; taken = λ p. []; guests = false }
+user_if hosts (Some config) calls = user_of_calls hosts calls
+
+-- at each moment of every interleaving of the calls of a server's host and clients' hosts, wherever they are, in which the network is honest: however
+-- the services end, or go on
+abbrev pub AtEachMoment : Type 0
+AtEachMoment = (at : Node → Addr) → AreApart at → (server : Config) (clients : List Config) → is_in_range server ≡ true → list_all is_in_range clients ≡ true
+    → (ms : List (Node × Call)) (f : Net) → AllMake at ms (open_net at server clients) f → (n : ℕ)
+    → IsHeadline (user_of_calls (is_host at (length clients)) (calls_at Server (take n ms))) (λ i. user_if (is_host at (length clients)) (slice_get clients i) (calls_at (Client i) (take n ms))) (asked (take n ms))
+
 -- of every server's service and clients' services, wherever they are, and each interleaving of their hosts' calls in which the network is honest
 abbrev pub EndToEnd : Type 0
 EndToEnd = (at : Node → Addr) → AreApart at → (server : Running) (clients : List Running) → is_in_range server.config ≡ true → list_all is_in_range (configs clients) ≡ true
@@ -101,38 +119,68 @@ EndToEnd = (at : Node → Addr) → AreApart at → (server : Running) (clients 
     → IsHeadline (user_of (is_host at (length clients)) server) (λ i. user_in (is_host at (length clients)) (slice_get clients i)) (asked ms)
 
 -- ---- game threads
--- the one game thread of a service: what it submitted begins with what its service was given, and what it took begins what that put (so says
--- the submit queue of a queue with one seat, and the event queue of one with one taker)
-pub record Thread (r : Running) : Type 0 where
+-- A run of a service as its one game thread sees it: which event waited for room when it began, and which when it was over. What the thread
+-- submitted begins with what the service was given, under the numbers of its seat, and what it took begins what the service told
+pub record Part : Type 0 where
+  pub spans : List Span
+  pub before : Option Event
+  pub after : Option Event
   pub sent : List Submission
   pub unsent : List Submission
-  pub sent_is : sent ≡ given (all_gave (rounds_of r)) ++ unsent
-  pub numbered : AreNumbered (given (all_gave (rounds_of r)))
+  pub sent_is : sent ≡ given (all_gave (rounds_in spans)) ++ unsent
+  pub numbered : AreNumbered (given (all_gave (rounds_in spans)))
   pub got : List Event
   pub left : List Event
-  pub got_is : told (rounds_of r) r.left.waiting ≡ got ++ left
+  pub got_is : told (rounds_in spans) after ≡ got ++ left
 
--- its packets: those of its orders, but for those that an event refuses
-abbrev pub user_by : (Addr → Bool) → (r : Running) → Thread r → User
+-- runs one after another, each on what the one before it left
+abbrev pub AreRuns : {H : Type 0} → HostCalls H → Service H → List Part → Service H → Type 0
+AreRuns calls old parts new = Chain (λ s part t. (s.waiting ≡ part.before) × Spans calls s part.spans t × (t.waiting ≡ part.after)) old parts new
+
+-- in all but the last the thread took all that there was, but for what waits for room
+abbrev pub AreOver : List Part → Type 0
+AreOver [] = Unit {0}
+AreOver (a ∷ []) = Unit {0}
+AreOver (a ∷ b ∷ parts) = (a.left ≡ option_to_list a.after) × AreOver (b ∷ parts)
+
+-- the game threads of a service, one in each of its runs
+pub record Threads (r : Running) : Type 0 where
+  pub parts : List Part
+  pub in_order : AreRuns noting (noted (beginning r.config) []) parts (noted r.left r.calls)
+  pub spans_are : r.spans ≡ flat_map (λ part. part.spans) parts
+  pub over : AreOver parts
+
+-- the events of a run: those that the service told in it, but for the one that waited before
+abbrev pub events_of : Part → List Event
+events_of part = drop (length (option_to_list part.before)) (told (rounds_in part.spans) part.after)
+
+-- their packets: those of the orders that the service was given, and in the last run of all, but for those that an event of their run refuses. Where a
+-- run is over, its other orders came back
+abbrev pub packets_in : PeerRef → ℕ → List Part → List Packet
+packets_in name channel [] = []
+packets_in name channel (a ∷ []) = packets_of (events_of a) name channel a.sent
+packets_in name channel (a ∷ b ∷ parts) = packets_of (events_of a) name channel (given (all_gave (rounds_in a.spans))) ++ packets_in name channel (b ∷ parts)
+
+abbrev pub user_by : (Addr → Bool) → (r : Running) → Threads r → User
 user_by hosts r t = record {
-  submitted = λ p channel. packets_of (told (rounds_of r) r.left.waiting) p channel t.sent;
-  taken = λ p. filter (is_of p) t.got;
+  submitted = λ p channel. packets_in p channel t.parts;
+  taken = λ p. filter (is_of p) (flat_map (λ part. part.got) t.parts);
   guests = list_any (brings_guest hosts) r.calls;
 }
 
-abbrev pub ThreadAt : Option Running → Type 0
-ThreadAt None = Unit {0}
-ThreadAt (Some r) = Thread r
+abbrev pub ThreadsAt : Option Running → Type 0
+ThreadsAt None = Unit {0}
+ThreadsAt (Some r) = Threads r
 
-abbrev pub user_at : (Addr → Bool) → (o : Option Running) → ThreadAt o → User
+abbrev pub user_at : (Addr → Bool) → (o : Option Running) → ThreadsAt o → User
 user_at hosts None t = user_in hosts None
 user_at hosts (Some r) t = user_by hosts r t
 
--- so what one game thread takes follows what the game thread at the other end submitted
+-- so what game threads take follows what the game threads at the other end submitted
 abbrev pub BetweenThreads : Type 0
 BetweenThreads = (hosts : Addr → Bool) (server : Running) (clients : List Running) (asked : List (ℕ × PeerRef)) → IsHeadline (user_of hosts server) (λ i. user_in hosts (slice_get clients i)) asked
-    → (thread : Thread server) (threads : (i : ℕ) → ThreadAt (slice_get clients i))
-    → IsHeadline (user_by hosts server thread) (λ i. user_at hosts (slice_get clients i) (threads i)) asked
+    → (here : Threads server) (threads : (i : ℕ) → ThreadsAt (slice_get clients i))
+    → IsHeadline (user_by hosts server here) (λ i. user_at hosts (slice_get clients i) (threads i)) asked
 
 -- ---- nothing but the network's honesty is supposed
 -- the network brings bytes of the host m to the host n: m put them out for n, and they are neither late nor of an earlier connection

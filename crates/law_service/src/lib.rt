@@ -4,16 +4,17 @@
 //! (`RoundsOf`; wires that fail, sends that block and refused orders among them): turns are calls of their host, and tell what these gave
 //! (`each_turn_is_calls`); each call of a host is one thing that happens among hosts and strangers (`each_call_happens`); over any
 //! interleaving of the calls in which the network invents nothing in a host's name and brings nothing late or of an earlier connection, the
-//! headline holds of what each host accepted of the orders that its service was given, and of the events that its service told, and so of
-//! what game threads submitted and took at their queues (`services_in_order`).
+//! headline holds at each moment of what each host accepted and told by its calls, and so, after whole turns, of the orders that its service
+//! was given, and of the events that this told, and so of what game threads submitted and took at their queues, in one run after another
+//! (`services_in_order`).
 //! Premise, and no more: what comes from a host's address was put out by that host for this one, is at most 32,768 reliable commands late on
 //! its channel, and of no earlier connection; clients ask the server alone for connections.
 //! Neither: that a datagram, an order or an event arrives, that a thread runs, or how long a turn takes.
 #![tactic(auto)]
 
 ghost use Rattle.law_service.specs.Law.{EachRunIsCalls, EachLifeIsCalls, EachRunTells, EachCallHappens};
-ghost use Rattle.law_service.specs.Queues.{EachHasThread, EachRunShows};
-ghost use Rattle.law_service.specs.EndToEnd.{EndToEnd, BetweenThreads, NeverStuck};
+ghost use Rattle.law_service.specs.Queues.{EachHasThread, EachLifeHasThreads, EachRunShows, EachLifeShows, EachMomentShows};
+ghost use Rattle.law_service.specs.EndToEnd.{AtEachMoment, EndToEnd, BetweenThreads, NeverStuck};
 
 /// Turns of a service, of either kind, are calls of its host, each by its contract (`calls`), also where its owner parts from peers between
 /// turns (`lives`). What the orders that they were given submitted, but for those that were refused, is what these calls submitted, and the
@@ -31,16 +32,26 @@ pub fn each_call_happens()
 
 /// The headline of services, end to end.
 ///
-/// `services`: it holds of what each host accepted of the orders that its service was given, and of the events that its service told, the
-/// one that waits for room included. `threads`: so it holds of one game thread at each service, of the orders that it submitted,
-/// given yet or not, but for those that an event refuses, and of the events that it took. `queues`: such a thread is what a moment of a
-/// service's queues shows. `shown`: there is such a moment of each run whose queues were opened for it and settled after it, by what
-/// `Queues::open`, `beside_turns` and `settle` promise. `never_stuck`: any interleaving whose datagrams are honest goes on so; nothing else
-/// is asked of a service.
+/// `at_each_moment`: it holds of what each host accepted by its calls until then, and of the events that these told, whether its service goes
+/// on, ended or was killed. `services`: after whole turns, that is what each host accepted of the orders that its service was given, and the
+/// events that its service told, the one that waits for room included. `threads`: so it holds of the game threads of each service, one in each of its runs, of the orders that
+/// they submitted, in the last run given yet or not, but for those that an event of their run refuses, and of the events that they took.
+/// `queues`: the thread of a run is what a moment of the run's queues shows. `lives`: runs with such threads, from the beginning of a service
+/// on, are a service with game threads.
+///
+/// There is such a moment of each run whose queues were opened for it and settled after it, by what `Queues::open`, `beside_turns` and
+/// `settle` promise (`shown`). So any number of such runs have game threads (`all_shown`). And there is one at each
+/// moment of a run, whether or not it ends, by what the rules of its queues say of each moment (`moments`).
+///
+/// `never_stuck`: any interleaving whose datagrams are honest goes on so; nothing else is asked of a service.
 pub fn services_in_order()
+    ensures at_each_moment { AtEachMoment }
     ensures services { EndToEnd }
     ensures threads { BetweenThreads }
     ensures queues { EachHasThread }
+    ensures lives { EachLifeHasThreads }
     ensures shown { EachRunShows }
+    ensures all_shown { EachLifeShows }
+    ensures moments { EachMomentShows }
     ensures never_stuck { NeverStuck }
 {}

@@ -1,4 +1,4 @@
-use Rattle.law_relay.proofs.Chat.{each-served, each-has-served, of-chat-server, of-chat-threads}
+use Rattle.law_relay.proofs.Chat.{each-served, each-has-served, each-serves-on, of-chat-server, of-chat-threads}
 use Rattle.law_relay.proofs.chat_server_in_order.Goals as goal
 
 pub returns-clause-runs : goal.returns-clause-runs
@@ -12,3 +12,6 @@ returns-clause-chats c = of-chat-server
 
 pub returns-clause-threads : goal.returns-clause-threads
 returns-clause-threads c = of-chat-threads
+
+pub returns-clause-serves_on : goal.returns-clause-serves_on
+returns-clause-serves_on c = each-serves-on
