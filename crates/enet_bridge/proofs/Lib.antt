@@ -1,4 +1,1 @@
-pub mod Short
 mod Broadcasts
-pub mod Nothing
-pub mod Addresses

@@ -1,9 +1,4 @@
 pub mod Ends
 pub mod Holding
-pub mod Journals
 pub mod Memory
 pub mod Serving
-pub mod WireMemory
-pub mod Socket
-pub mod Wires
-pub mod Private

@@ -3,10 +3,10 @@ ghost use Rattle.std.specs.Prelude.{◌≡◌, ◌+◌, ◌++◌, ◌∷◌, [],
 ghost use Rattle.enet_submit.specs.Words.{IsSeatOf, IsFinishedOf, sent, all_sent, limit_of};
 ghost use Rattle.enet_bridge.specs.Ends.{orders};
 
-use crate::Bell;
 use crate::waiting::{Pumped, pump};
 use enet_codec::Refusal;
 use enet_submit::{Broadcast, Finished, Order, Seat, SubmitQueue};
+use enet_wire::Bell;
 use std::alloc::Global;
 use std::collections::VecDeque;
 use std::sync::Wait;

@@ -2,14 +2,11 @@
 ghost use Rattle.std.specs.Prelude.{◌≡◌};
 ghost use Rattle.enet_submit.specs.Words.{IsDrainOf};
 
-use crate::Bell;
 use enet_submit::{Drain, Submission, SubmitQueue};
+use enet_wire::{Bell, MOST_PER_TURN};
 use std::collections::VecDeque;
 use std::marker::Model;
 use std::sync::Wait;
-
-/// How many orders, datagrams in and datagrams out a turn of the service takes at most of each.
-pub const MOST_PER_TURN: u32 = 256;
 
 /// Gives orders, one by one.
 pub trait Source {

@@ -4,9 +4,9 @@ use crate::gauge::Gauge;
 use crate::lists::{EventList, OrderList};
 use crate::relay::relay_step;
 use crate::table::Table;
-use enet_bridge::MOST_PER_TURN;
 use enet_codec::{Event, Refusal};
 use enet_submit::Order;
+use enet_wire::MOST_PER_TURN;
 use std::alloc::Global;
 use std::collections::VecDeque;
 

@@ -3,10 +3,11 @@ use crate::batch::{MOST_EVENTS, batch_orders, broadcast_of, drop_first, packets_
 use crate::gauge::Gauge;
 use crate::relay::relay_step;
 use crate::table::Table;
-use enet_bridge::{EventReceiver, MOST_PER_TURN, OrderSender, Pumped, TakerBell};
+use enet_bridge::{EventReceiver, OrderSender, Pumped, TakerBell};
 use enet_codec::{Event, Refusal};
 use enet_events::Taker;
 use enet_submit::{Finished, Order};
+use enet_wire::MOST_PER_TURN;
 use std::alloc::Global;
 use std::collections::VecDeque;
 use std::sync::Wait;

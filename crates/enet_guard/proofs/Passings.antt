@@ -2,9 +2,9 @@
 use Rattle.std.proofs.Common.{◌≡◌, ℕ, ◌+◌, Bool, true, false, List, [], ◌∷◌, ◌++◌, length, map, Option, Some, None, refl, ap, sym, subst, ◌∙◌, append_assoc, cond, arith}
 use Rattle.std.proofs.lemmas.List.{append-nil}
 use Rattle.enet_codec.specs.declared.address.Addr.{Addr}
-use Rattle.enet_bridge.specs.declared.told.Told.{Told}
-use Rattle.enet_bridge.specs.declared.told.Told.TheVariants.{Came}
-use Rattle.enet_bridge.specs.Wires.{also, unless_spent, is_spent}
+use Rattle.enet_wire.specs.declared.told.Told.{Told}
+use Rattle.enet_wire.specs.declared.told.Told.TheVariants.{Came}
+use Rattle.enet_wire.specs.Wires.{also, unless_spent, is_spent}
 use Rattle.enet_guard.specs.Guarding.{Guarding}
 use Rattle.enet_guard.specs.Passing.{PassesOver, Refuses}
 

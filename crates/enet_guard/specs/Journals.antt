@@ -1,6 +1,6 @@
 -- What a wire behind a guard tells.
 use Rattle.std.specs.Prelude.{List}
-use Rattle.enet_bridge.specs.declared.told.Told.{Told}
+use Rattle.enet_wire.specs.declared.told.Told.{Told}
 use Rattle.enet_guard.specs.declared.guarded.Guarded.{Guarded}
 
 -- what its own calls did, in order

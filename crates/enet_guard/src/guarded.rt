@@ -1,13 +1,13 @@
 //! A wire behind a guard.
 ghost use Rattle.std.specs.Prelude.{◌≡◌, ◌≤◌, true, false, None, Ok, IfOk, IfSome, IfErr};
-ghost use Rattle.enet_bridge.specs.Wires.{faults_after, last_fault};
+ghost use Rattle.enet_wire.specs.Wires.{faults_after, last_fault};
 ghost use Rattle.enet_guard.specs.Passing.{Lets, Refuses, Receives};
 
 use crate::asking::asks;
 use crate::guard::{Guard, Rules};
 use crate::register::Register;
-use enet_bridge::{Journal, Note, Wire};
 use enet_codec::{Addr, Refusal};
+use enet_wire::{Journal, Note, Wire};
 use std::alloc::Global;
 use std::sync::{Arc, Wait};
 use std::time::Clock;
@@ -62,7 +62,7 @@ impl<N: Drop> Guarded<N> {
 
 impl<N: Wire> Wire for Guarded<N> {
     ghost use Rattle.std.specs.Prelude.{◌≡◌, ◌≤◌, ◌++◌, Some, None, Ok, false, IfOk, IfSome, IfErr};
-    ghost use Rattle.enet_bridge.specs.Wires.{also, came, went, waited, unless_spent, faults_after, last_fault};
+    ghost use Rattle.enet_wire.specs.Wires.{also, came, went, waited, unless_spent, faults_after, last_fault};
     ghost use Rattle.enet_guard.specs.Passing.{Receives};
     ghost use Rattle.enet_guard.specs.Journals.{told_of};
 

@@ -8,7 +8,7 @@ use Rattle.enet_codec.specs.declared.event.PeerRef.{PeerRef}
 use Rattle.enet_codec.specs.declared.event.Event.{Event}
 use Rattle.enet_submit.specs.declared.order.Order.{Order}
 use Rattle.enet_submit.specs.declared.order.Submission.{Submission}
-use Rattle.enet_bridge.specs.declared.told.Told.{Told}
+use Rattle.enet_wire.specs.declared.told.Told.{Told}
 use Rattle.enet_bridge.specs.Ends.{orders}
 use Rattle.enet_chat.specs.Lone.{IsGiven, IsPut, Expands}
 use Rattle.enet_chat.specs.declared.lone.LoneRelay.{LoneRelay}

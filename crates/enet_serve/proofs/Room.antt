@@ -35,7 +35,7 @@ use Rattle.enet_chat.specs.declared.relaying.RelayParts.{RelayParts}
 use Rattle.enet_chat.specs.Relaying.{AreBehind, AreFarBehind, IsThrough, Relays, SameForEach, events, noted_all, relayed_all, peers_of, backlog_of, sender_of, receiver_of}
 use Rattle.enet_serve.specs.declared.threads.Carryover.{Carryover}
 use Rattle.enet_serve.specs.declared.server.ChatServer.{ChatServer}
-use Rattle.enet_bridge.specs.Wires.{unless_spent}
+use Rattle.enet_wire.specs.Wires.{unless_spent}
 use Rattle.enet_serve.proofs.TurnByTurn.{told_in}
 use Rattle.enet_serve.specs.Serving.{Serves, told_of, faults_of}
 use Rattle.enet_serve.specs.Private.Threads.{IsBegun, IsLeft}

@@ -12,9 +12,9 @@ use Rattle.enet_submit.specs.declared.order.Order.{Order}
 use Rattle.enet_host.specs.Host.{Host}
 use Rattle.enet_host.specs.Opening.{opened}
 use Rattle.enet_bridge.specs.Ends.{orders}
-use Rattle.enet_bridge.specs.Socket.{failures_of}
-use Rattle.enet_bridge.specs.declared.told.Told.{Told}
-use Rattle.enet_bridge.specs.Wires.{unless_spent}
+use Rattle.enet_wire.specs.Socket.{failures_of}
+use Rattle.enet_wire.specs.declared.told.Told.{Told}
+use Rattle.enet_wire.specs.Wires.{unless_spent}
 use Rattle.enet_guard.specs.Guarding.{Guarding, new_guard}
 use Rattle.enet_guard.specs.Journals.{told_of as told_at}
 use Rattle.enet_service.specs.declared.report.Report.{Report}

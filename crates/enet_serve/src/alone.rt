@@ -22,7 +22,7 @@ pub(crate) struct Alone<'a> {
 
 impl Alone<'_> {
     ghost use Rattle.std.specs.Prelude.{◌≡◌, ◌≢◌, ◌+◌, ◌⊎◌, List, length, OnOk, IfOk, IfErr};
-    ghost use Rattle.enet_bridge.specs.Socket.{failures_of};
+    ghost use Rattle.enet_wire.specs.Socket.{failures_of};
     ghost use Rattle.enet_guard.specs.Journals.{told_of};
     ghost use Rattle.enet_chat.specs.Relaying.{AreBehind, AreFarBehind};
     ghost use Rattle.enet_service.specs.Turn.{Round};

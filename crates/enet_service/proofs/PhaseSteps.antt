@@ -5,8 +5,8 @@ use Rattle.std.proofs.lemmas.List.{append-nil}
 use Rattle.enet_codec.specs.declared.address.Addr.{Addr}
 use Rattle.enet_codec.specs.declared.event.Event.{Event}
 use Rattle.enet_submit.specs.declared.order.Submission.{Submission}
-use Rattle.enet_bridge.specs.declared.told.Told.{Told}
-use Rattle.enet_bridge.specs.declared.told.Told.TheVariants.{Came, Went}
+use Rattle.enet_wire.specs.declared.told.Told.{Told}
+use Rattle.enet_wire.specs.declared.told.Told.TheVariants.{Came, Went}
 use Rattle.enet_service.specs.declared.service.Service.{Service}
 use Rattle.enet_service.specs.Calls.{Calls}
 use Rattle.enet_service.specs.Phases.{Chain, Ordered, Wired, ReceivesAll, EmitsAll, Orders, AppliesSubmission, TellsAll, left_over}

@@ -4,9 +4,9 @@ use Rattle.std.specs.List.{flat_map, sum_by}
 use Rattle.std.proofs.lemmas.List.{append-nil}
 use Rattle.std.proofs.lemmas.List.Sums.{sum_by-append}
 use Rattle.std.proofs.lemmas.Grind.{flat_map-append}
-use Rattle.enet_bridge.specs.declared.told.Told.{Told}
-use Rattle.enet_bridge.specs.declared.told.Told.TheVariants.{Waited}
-use Rattle.enet_bridge.specs.Wires.{also, unless_spent}
+use Rattle.enet_wire.specs.declared.told.Told.{Told}
+use Rattle.enet_wire.specs.declared.told.Told.TheVariants.{Waited}
+use Rattle.enet_wire.specs.Wires.{also, unless_spent}
 use Rattle.enet_service.specs.declared.report.Report.{Report}
 use Rattle.enet_service.specs.Counts.{stopped}
 use Rattle.enet_service.specs.Turn.{Round}

@@ -12,9 +12,9 @@ use Rattle.enet_submit.specs.declared.queue.SubmitQueue.{SubmitQueue}
 use Rattle.enet_submit.specs.Words.{taken}
 use Rattle.enet_events.specs.declared.numbered.Numbered.{Numbered}
 use Rattle.enet_codec.specs.declared.refusal.Refusal.TheVariants.{WireFault}
-use Rattle.enet_bridge.specs.declared.told.Told.{Told}
-use Rattle.enet_bridge.specs.declared.told.Told.TheVariants.{Waited}
-use Rattle.enet_bridge.specs.Wires.{also, unless_spent}
+use Rattle.enet_wire.specs.declared.told.Told.{Told}
+use Rattle.enet_wire.specs.declared.told.Told.TheVariants.{Waited}
+use Rattle.enet_wire.specs.Wires.{also, unless_spent}
 use Rattle.enet_service.specs.declared.report.Fault.{Fault}
 use Rattle.enet_service.specs.declared.report.Report.{Report}
 use Rattle.enet_service.specs.Counts.{stopped}

@@ -3,9 +3,9 @@ use Rattle.std.proofs.Common.{◌≡◌, ℕ, ◌+◌, Bool, true, false, List, 
 use Rattle.std.proofs.lemmas.List.{append-nil}
 use Rattle.enet_codec.specs.declared.event.Event.{Event}
 use Rattle.enet_submit.specs.declared.order.Submission.{Submission}
-use Rattle.enet_bridge.specs.declared.told.Told.{Told}
-use Rattle.enet_bridge.specs.declared.told.Told.TheVariants.{Came, NothingCame, Went, Blocked, Waited}
-use Rattle.enet_bridge.specs.Wires.{also, unless_spent, is_spent}
+use Rattle.enet_wire.specs.declared.told.Told.{Told}
+use Rattle.enet_wire.specs.declared.told.Told.TheVariants.{Came, NothingCame, Went, Blocked, Waited}
+use Rattle.enet_wire.specs.Wires.{also, unless_spent, is_spent}
 use Rattle.enet_service.specs.Counts.{came_in, went_in, blocked_in, taken_in, given_in, count_of}
 
 also_cond : (spent : Bool) (o : Option (List Told)) (xs ys : List Told) → also (also o (cond spent [] xs)) (cond spent [] ys) ≡ also o (cond spent [] (xs ++ ys))

@@ -2,7 +2,7 @@
 use Rattle.std.specs.Prelude.{◌≡◌, ◌⊎◌, ℕ, Bool, false, List, [], ◌∷◌, ◌++◌, flat_map, Option}
 use Rattle.enet_codec.specs.declared.event.Event.{Event}
 use Rattle.enet_submit.specs.declared.order.Submission.{Submission}
-use Rattle.enet_bridge.specs.declared.told.Told.{Told}
+use Rattle.enet_wire.specs.declared.told.Told.{Told}
 use Rattle.enet_service.specs.declared.service.Service.{Service}
 use Rattle.enet_service.specs.Calls.{Calls}
 use Rattle.enet_service.specs.Phases.{Chain, Offers, Orders, ReceivesAll, EmitsAll, TellsAll}

@@ -4,8 +4,8 @@ use Rattle.std.specs.List.{All, flat_map, sum_by}
 use Rattle.enet_codec.specs.declared.event.Event.{Event}
 use Rattle.enet_codec.specs.declared.refusal.Refusal.TheVariants.{WireFault}
 use Rattle.enet_submit.specs.declared.order.Submission.{Submission}
-use Rattle.enet_bridge.specs.declared.told.Told.{Told}
-use Rattle.enet_bridge.specs.declared.told.Told.TheVariants.{Waited}
+use Rattle.enet_wire.specs.declared.told.Told.{Told}
+use Rattle.enet_wire.specs.declared.told.Told.TheVariants.{Waited}
 use Rattle.enet_service.specs.declared.report.Report.{Report}
 use Rattle.enet_service.specs.declared.report.Fault.{Fault}
 use Rattle.enet_service.specs.declared.service.Service.{Service}

@@ -14,8 +14,8 @@ use Rattle.enet_submit.specs.declared.order.Submission.{Submission}
 use Rattle.enet_submit.specs.History.{of, IsHistory}
 use Rattle.enet_submit.specs.Words.{IsSeatOf, IsDrainOf, IsFinishedOf, seats_of, sent, all_sent, taken}
 use Rattle.enet_events.specs.Words.{Queue, PosterState, TakerFits}
-use Rattle.enet_bridge.specs.Wires.{also, unless_spent}
-use Rattle.enet_bridge.specs.declared.told.Told.{Told}
+use Rattle.enet_wire.specs.Wires.{also, unless_spent}
+use Rattle.enet_wire.specs.declared.told.Told.{Told}
 use Rattle.enet_bridge.specs.declared.source.QueueSource.{QueueSource}
 use Rattle.enet_bridge.specs.declared.sink.QueueSink.{QueueSink}
 use Rattle.enet_bridge.specs.Ends.{orders}

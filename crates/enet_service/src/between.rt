@@ -1,6 +1,6 @@
 //! Turns between the two queues.
 ghost use Rattle.std.specs.Prelude.{◌≡◌, ◌+◌, List, is_err};
-ghost use Rattle.enet_bridge.specs.Wires.{also, unless_spent};
+ghost use Rattle.enet_wire.specs.Wires.{also, unless_spent};
 ghost use Rattle.enet_service.specs.Turn.{Round};
 ghost use Rattle.enet_service.specs.Run.{Rounds, Ends, all_gave, all_told, all_puts};
 ghost use Rattle.enet_service.specs.Queues.{given, accepted, DrainsOn, PostsOn};
@@ -11,7 +11,8 @@ use crate::host::Core;
 use crate::report::{Fault, Report};
 use crate::running::run;
 use crate::service::Service;
-use enet_bridge::{QueueSink, QueueSource, Wire};
+use enet_bridge::{QueueSink, QueueSource};
+use enet_wire::Wire;
 use std::sync::Wait;
 use std::time::Clock;
 

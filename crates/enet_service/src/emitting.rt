@@ -1,12 +1,12 @@
 //! Datagrams that go.
 ghost use Rattle.std.specs.Prelude.{◌≡◌, ◌+◌, List};
-ghost use Rattle.enet_bridge.specs.declared.told.Told.{Told as Call};
-ghost use Rattle.enet_bridge.specs.Wires.{also, unless_spent};
+ghost use Rattle.enet_wire.specs.declared.told.Told.{Told as Call};
+ghost use Rattle.enet_wire.specs.Wires.{also, unless_spent};
 ghost use Rattle.enet_service.specs.Phases.{EmitsAll};
 ghost use Rattle.enet_service.specs.Counts.{went_in, blocked_in, count_of};
 
 use crate::host::Core;
-use enet_bridge::{MOST_PER_TURN, Wire};
+use enet_wire::{MOST_PER_TURN, Wire};
 
 /// How many datagrams were sent and lost, and whether the wire failed then.
 #[derive(Clone, Copy)]

@@ -65,10 +65,11 @@ mod watched;
 pub use between::run_between_queues;
 pub use bound_service::BoundService;
 pub use enet_bridge::{
-    Bell, EventReceiver, MOST_PER_TURN, MemorySink, MemorySource, MemoryWire, MioWire, OrderSender,
-    Pumped, QueueSink, QueueSource, Sink, Source, Step, TakerBell, Told, Unopened, Wire,
+    EventReceiver, MemorySink, MemorySource, OrderSender, Pumped, QueueSink, QueueSource, Sink,
+    Source, TakerBell,
 };
 pub use enet_host::HostCore;
+pub use enet_wire::{Bell, MOST_PER_TURN, MemoryWire, MioWire, Step, Told, Unopened, Wire};
 pub use host::Core;
 pub use queues::{Ends, Queues};
 pub use report::{Fault, Report};

@@ -2,8 +2,8 @@
 ghost use Rattle.std.specs.Prelude.{◌≡◌, ◌+◌, List, Bool, Option, false, IfOk, IfErr, is_err};
 ghost use Rattle.enet_codec.specs.declared.event.Event.{Event as Offered};
 ghost use Rattle.enet_submit.specs.declared.order.Submission.{Submission as Item};
-ghost use Rattle.enet_bridge.specs.declared.told.Told.{Told as Call};
-ghost use Rattle.enet_bridge.specs.Wires.{also, unless_spent};
+ghost use Rattle.enet_wire.specs.declared.told.Told.{Told as Call};
+ghost use Rattle.enet_wire.specs.Wires.{also, unless_spent};
 ghost use Rattle.enet_service.specs.Phases.{Chain, Orders, EmitsAll};
 ghost use Rattle.enet_service.specs.LoneTurn.{Begins};
 ghost use Rattle.enet_service.specs.Counts.{count_of, given_in, came_in, went_in, blocked_in, taken_in, stopped};
@@ -15,8 +15,9 @@ use crate::receiving::receive_all;
 use crate::report::{Fault, Report};
 use crate::service::{Service, fault, report_of};
 use crate::telling::{offer_again, tell_all};
-use enet_bridge::{Sink, Source, Wire};
+use enet_bridge::{Sink, Source};
 use enet_codec::Refusal;
+use enet_wire::Wire;
 use std::sync::Wait;
 
 impl<H: Core> Service<H> {

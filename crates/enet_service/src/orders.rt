@@ -7,9 +7,10 @@ ghost use Rattle.enet_service.specs.Counts.{taken_in, given_in};
 
 use crate::host::Core;
 use crate::telling::offer;
-use enet_bridge::{MOST_PER_TURN, Sink, Source};
+use enet_bridge::{Sink, Source};
 use enet_codec::Event;
 use enet_submit::Submission;
+use enet_wire::MOST_PER_TURN;
 use std::sync::Wait;
 
 // Carries an order out; a refusal is told. How many events were taken.

@@ -1,12 +1,12 @@
 //! Datagrams that come.
 ghost use Rattle.std.specs.Prelude.{◌≡◌, ◌+◌, List};
-ghost use Rattle.enet_bridge.specs.declared.told.Told.{Told as Call};
-ghost use Rattle.enet_bridge.specs.Wires.{also, unless_spent};
+ghost use Rattle.enet_wire.specs.declared.told.Told.{Told as Call};
+ghost use Rattle.enet_wire.specs.Wires.{also, unless_spent};
 ghost use Rattle.enet_service.specs.Phases.{ReceivesAll};
 ghost use Rattle.enet_service.specs.Counts.{came_in, count_of};
 
 use crate::host::Core;
-use enet_bridge::{MOST_PER_TURN, Wire};
+use enet_wire::{MOST_PER_TURN, Wire};
 
 /// How many datagrams came, and whether the wire failed then.
 #[derive(Clone, Copy)]

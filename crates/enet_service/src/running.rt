@@ -1,6 +1,6 @@
 //! Turns one after another.
 ghost use Rattle.std.specs.Prelude.{◌≡◌, ◌+◌, List, is_err};
-ghost use Rattle.enet_bridge.specs.Wires.{also, unless_spent};
+ghost use Rattle.enet_wire.specs.Wires.{also, unless_spent};
 ghost use Rattle.enet_service.specs.Phases.{Chain};
 ghost use Rattle.enet_service.specs.Turn.{Round};
 ghost use Rattle.enet_service.specs.Run.{Rounds, Ends, all_gave, all_told, all_puts};
@@ -9,7 +9,8 @@ ghost use Rattle.enet_service.specs.Counts.{count_of};
 use crate::host::Core;
 use crate::report::{Fault, Report};
 use crate::service::Service;
-use enet_bridge::{Sink, Source, Wire};
+use enet_bridge::{Sink, Source};
+use enet_wire::Wire;
 use std::sync::Wait;
 use std::time::Clock;
 

@@ -1,6 +1,6 @@
 //! The service and its turns.
 ghost use Rattle.std.specs.Prelude.{◌≡◌, ◌+◌, None, is_err};
-ghost use Rattle.enet_bridge.specs.Wires.{also, unless_spent};
+ghost use Rattle.enet_wire.specs.Wires.{also, unless_spent};
 ghost use Rattle.enet_service.specs.Phases.{Chain};
 ghost use Rattle.enet_service.specs.Turn.{Round, Turn, Reports};
 ghost use Rattle.enet_service.specs.Counts.{count_of};
@@ -11,8 +11,9 @@ use crate::orders::take_orders;
 use crate::receiving::receive_all;
 use crate::report::{Fault, Report};
 use crate::telling::{offer_again, tell_all};
-use enet_bridge::{Sink, Source, Wire};
+use enet_bridge::{Sink, Source};
 use enet_codec::{Event, Refusal};
+use enet_wire::Wire;
 use std::sync::Wait;
 
 /// Where events come as seldom as this, in milliseconds, whoever takes them has little else to do, and their orders are worth a wait.

@@ -1,8 +1,8 @@
 //! A host with the socket at which it is reached.
 
-use enet_bridge::{MioWire, Wire};
 use enet_codec::{Addr, Refusal};
 use enet_host::{Config, HostCore};
+use enet_wire::{MioWire, Wire};
 use std::net::Net;
 use std::rt::Clock;
 use std::sync::Wait;

@@ -15,8 +15,8 @@ use Rattle.enet_submit.specs.declared.order.Order.{Order}
 use Rattle.enet_submit.specs.declared.order.Order.TheVariants as orders
 use Rattle.enet_submit.specs.declared.order.Submission.{Submission}
 use Rattle.enet_submit.specs.History.{of, CountsFrom}
-use Rattle.enet_bridge.specs.declared.told.Told.{Told}
-use Rattle.enet_bridge.specs.declared.told.Told.TheVariants.{Came, NothingCame, Went, Blocked, Waited}
+use Rattle.enet_wire.specs.declared.told.Told.{Told}
+use Rattle.enet_wire.specs.declared.told.Told.TheVariants.{Came, NothingCame, Went, Blocked, Waited}
 use Rattle.enet_peer.specs.declared.parts.PeerEvent.{PeerEvent}
 use Rattle.enet_peer.specs.declared.parts.PeerEvent.TheVariants as told
 use Rattle.enet_slot.specs.Calls.{event_of}

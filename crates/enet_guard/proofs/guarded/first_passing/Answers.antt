@@ -1,7 +1,7 @@
 use Rattle.std.proofs.Common.{ℕ, List, [], ◌∷◌, ◌++◌, take, Option, Ok, refl, ap, ◌∙◌, inl, arith}
 use Rattle.enet_codec.specs.declared.address.Addr.{Addr}
-use Rattle.enet_bridge.specs.declared.told.Told.TheVariants.{NothingCame}
-use Rattle.enet_bridge.specs.Wires.{also, unless_spent, came}
+use Rattle.enet_wire.specs.declared.told.Told.TheVariants.{NothingCame}
+use Rattle.enet_wire.specs.Wires.{also, unless_spent, came}
 use Rattle.enet_guard.proofs.Passings.{came_so, told_on, over_on, passes_more, length_more}
 use Rattle.enet_guard.proofs.guarded.first_passing.Goals as goal
 

@@ -1,6 +1,6 @@
 use Rattle.std.proofs.Common.{◌≡◌, ℕ, List, length}
 use Rattle.enet_codec.specs.declared.address.Addr.{Addr}
-use Rattle.enet_bridge.specs.Wires.{also, unless_spent}
+use Rattle.enet_wire.specs.Wires.{also, unless_spent}
 use Rattle.enet_guard.specs.Passing.{PassesOver}
 use Rattle.enet_guard.proofs.Passings.{came_so}
 use Rattle.enet_guard.proofs.guarded.first_passing.Given as goal

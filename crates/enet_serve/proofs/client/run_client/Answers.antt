@@ -1,5 +1,5 @@
 use Rattle.std.proofs.Common.{Some, rules}
-use Rattle.enet_bridge.specs.Socket.{failures_of, told_of}
+use Rattle.enet_wire.specs.Socket.{failures_of, told_of}
 use Rattle.enet_service.specs.declared.run_length.RunLength.TheVariants.{Turns}
 use Rattle.enet_service.specs.ServiceRuns.{HasTurned}
 use Rattle.enet_serve.specs.Private.Playing.{HasVisited}

@@ -1,8 +1,8 @@
 use Rattle.std.proofs.Common.{◌≡◌, ◌+◌, ℕ, List, [], ◌∷◌, ◌++◌, take, Bool, true, false, Ok, refl, ap, subst, ◌∙◌, arith}
 use Rattle.std.proofs.lemmas.List.{append-nil}
-use Rattle.enet_bridge.specs.declared.told.Told.{Told}
-use Rattle.enet_bridge.specs.declared.told.Told.TheVariants.{Went, Blocked}
-use Rattle.enet_bridge.specs.Wires.{also, unless_spent, went}
+use Rattle.enet_wire.specs.declared.told.Told.{Told}
+use Rattle.enet_wire.specs.declared.told.Told.TheVariants.{Went, Blocked}
+use Rattle.enet_wire.specs.Wires.{also, unless_spent, went}
 use Rattle.enet_service.specs.Phases.{EmitsAll, at_limit, has_none, fails}
 use Rattle.enet_service.proofs.PhaseSteps.{sends_on}
 use Rattle.enet_service.proofs.Tellings.{told_on, told_no_more, went_more, blocked_more}

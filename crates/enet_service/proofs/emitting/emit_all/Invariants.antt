@@ -1,6 +1,6 @@
 use Rattle.std.proofs.Common.{◌≡◌, List}
-use Rattle.enet_bridge.specs.declared.told.Told.{Told}
-use Rattle.enet_bridge.specs.Wires.{also, unless_spent}
+use Rattle.enet_wire.specs.declared.told.Told.{Told}
+use Rattle.enet_wire.specs.Wires.{also, unless_spent}
 use Rattle.enet_service.specs.Counts.{went_in, blocked_in}
 use Rattle.enet_service.proofs.PhaseSteps.{SendsOn}
 use Rattle.enet_service.proofs.emitting.emit_all.Given as goal

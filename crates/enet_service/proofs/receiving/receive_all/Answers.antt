@@ -1,9 +1,9 @@
 use Rattle.std.proofs.Common.{◌≡◌, ◌+◌, ℕ, List, [], ◌∷◌, ◌++◌, take, true, false, Option, Ok, refl, ap, subst, ◌∙◌, inl, inr, arith}
 use Rattle.std.proofs.lemmas.List.{append-nil}
 use Rattle.enet_codec.specs.declared.address.Addr.{Addr}
-use Rattle.enet_bridge.specs.declared.told.Told.{Told}
-use Rattle.enet_bridge.specs.declared.told.Told.TheVariants.{Came, NothingCame}
-use Rattle.enet_bridge.specs.Wires.{also, unless_spent, came}
+use Rattle.enet_wire.specs.declared.told.Told.{Told}
+use Rattle.enet_wire.specs.declared.told.Told.TheVariants.{Came, NothingCame}
+use Rattle.enet_wire.specs.Wires.{also, unless_spent, came}
 use Rattle.enet_service.specs.Phases.{ReceivesAll}
 use Rattle.enet_service.proofs.PhaseSteps.{hears_on}
 use Rattle.enet_service.proofs.Tellings.{told_on, told_no_more, came_more}

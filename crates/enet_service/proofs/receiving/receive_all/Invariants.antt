@@ -1,6 +1,6 @@
 use Rattle.std.proofs.Common.{◌≡◌, List}
-use Rattle.enet_bridge.specs.declared.told.Told.{Told}
-use Rattle.enet_bridge.specs.Wires.{also, unless_spent}
+use Rattle.enet_wire.specs.declared.told.Told.{Told}
+use Rattle.enet_wire.specs.Wires.{also, unless_spent}
 use Rattle.enet_service.specs.Counts.{came_in}
 use Rattle.enet_service.proofs.PhaseSteps.{HearsOn}
 use Rattle.enet_service.proofs.receiving.receive_all.Given as goal

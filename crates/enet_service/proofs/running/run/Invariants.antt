@@ -1,7 +1,7 @@
 use Rattle.std.proofs.Common.{◌≡◌, List}
 use Rattle.std.specs.Prelude.{length}
 use Rattle.std.specs.List.{All}
-use Rattle.enet_bridge.specs.Wires.{also, unless_spent}
+use Rattle.enet_wire.specs.Wires.{also, unless_spent}
 use Rattle.enet_service.specs.Phases.{Chain}
 use Rattle.enet_service.specs.Turn.{Round}
 use Rattle.enet_service.specs.Run.{Rounds, IsSound, all_gave, all_told, all_puts, total}

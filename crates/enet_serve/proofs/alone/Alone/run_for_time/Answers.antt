@@ -1,7 +1,7 @@
 use Rattle.std.proofs.Common.{◌+◌, List, [], ◌++◌, refl, sym, subst, ◌∙◌, arith, rules}
 use Rattle.std.proofs.lemmas.List.{length-append}
 use Rattle.enet_chat.proofs.Expansions.{expands_none}
-use Rattle.enet_bridge.specs.Socket.{failures_of}
+use Rattle.enet_wire.specs.Socket.{failures_of}
 use Rattle.enet_guard.specs.Journals.{told_of}
 use Rattle.enet_service.specs.Turn.{Round}
 use Rattle.enet_service.specs.ServiceRuns.{AreFew}

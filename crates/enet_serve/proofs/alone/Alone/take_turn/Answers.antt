@@ -1,5 +1,5 @@
 use Rattle.std.proofs.Common.{[], ◌∷◌, refl, sym, ◌∙◌}
-use Rattle.enet_bridge.specs.Socket.{failures_of}
+use Rattle.enet_wire.specs.Socket.{failures_of}
 use Rattle.enet_guard.specs.Journals.{told_of}
 use Rattle.enet_service.specs.Turn.{Round}
 use Rattle.enet_serve.specs.Private.Alone.{pair}

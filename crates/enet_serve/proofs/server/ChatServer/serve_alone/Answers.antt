@@ -1,5 +1,5 @@
 use Rattle.std.proofs.Common.{[], refl, subst}
-use Rattle.enet_bridge.specs.Socket.{failures_of}
+use Rattle.enet_wire.specs.Socket.{failures_of}
 use Rattle.enet_guard.specs.Journals.{told_of as told_at}
 use Rattle.enet_serve.specs.Serving.{told_of, faults_of}
 use Rattle.enet_serve.specs.declared.threads.Carryover.{Carryover}

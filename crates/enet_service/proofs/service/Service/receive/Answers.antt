@@ -1,6 +1,6 @@
 use Rattle.std.proofs.Common.{◌≡◌, ℕ, ◌+◌, List, ◌++◌, Bool, false, refl, subst, ◌∙◌, arith}
 use Rattle.enet_codec.specs.declared.event.Event.{Event}
-use Rattle.enet_bridge.specs.declared.told.Told.{Told}
+use Rattle.enet_wire.specs.declared.told.Told.{Told}
 use Rattle.enet_service.specs.Phases.{ReceivesAll}
 use Rattle.enet_service.proofs.PhaseSteps.{chain_more}
 use Rattle.enet_service.proofs.Reporting.{same_report, then_taken}

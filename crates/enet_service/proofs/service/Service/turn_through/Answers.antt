@@ -2,7 +2,7 @@ use Rattle.std.proofs.Common.{◌≡◌, ℕ, ◌+◌, List, [], ◌++◌, Bool,
 use Rattle.std.proofs.lemmas.List.{append-nil}
 use Rattle.enet_codec.specs.declared.event.Event.{Event}
 use Rattle.enet_submit.specs.declared.order.Submission.{Submission}
-use Rattle.enet_bridge.specs.declared.told.Told.{Told}
+use Rattle.enet_wire.specs.declared.told.Told.{Told}
 use Rattle.enet_service.specs.Phases.{ReceivesAll, EmitsAll}
 use Rattle.enet_service.specs.Counts.{count_of, stopped, taken_in, blocked_in}
 use Rattle.enet_service.proofs.PhaseSteps.{chain_more, sends_then, sends_nothing, tells_then, tells_nothing}

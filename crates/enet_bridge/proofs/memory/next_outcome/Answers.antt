@@ -1,5 +1,0 @@
-use Rattle.std.proofs.Common.{rules}
-use Rattle.enet_bridge.proofs.memory.next_outcome.Goals as goal
-
-pub returns-in-Some-Block-clause-taken : goal.returns-in-Some-Block-clause-taken
-returns-in-Some-Block-clause-taken c = search rules
