@@ -1,5 +1,9 @@
 //! What stands at an arrow, and what is told of it where the pointer rests.
 
+ghost use Rattle.std.specs.Prelude.{◌≡◌, ◌++◌, OnOk};
+ghost use Rattle.std.specs.String.{string_bytes};
+ghost use Rattle.enet_timeline.specs.Summaries.{seconds_text};
+
 use enet_captured::{Detail, Kind, Mark, Seen, Told};
 use enet_codec::CONTROL_CHANNEL;
 use std::alloc::{AllocError, Global};
@@ -145,9 +149,16 @@ fn push_len(text: &mut String, before: &str, behind: &str, len: usize) -> Result
     write!(text, "{before}{len}{behind}")
 }
 
-/// Microseconds as seconds.
-pub(crate) fn push_seconds(text: &mut String, microseconds: u64) -> Result<(), AllocError> {
-    let seconds = microseconds / 1_000_000;
-    let parts = microseconds % 1_000_000;
-    write!(text, "{seconds}.{parts:06}")
+/// Microseconds as seconds, with six digits behind the point.
+pub(crate) fn push_seconds(text: &mut String, microseconds: u64) -> Result<(), AllocError>
+    ensures { OnOk result (string_bytes text.new ≡ string_bytes text.old ++ seconds_text microseconds) }
+{
+    let whole = microseconds / 1_000_000;
+    let first = microseconds / 100_000 % 10;
+    let second = microseconds / 10_000 % 10;
+    let third = microseconds / 1_000 % 10;
+    let fourth = microseconds / 100 % 10;
+    let fifth = microseconds / 10 % 10;
+    let sixth = microseconds % 10;
+    write!(text, "{whole}.{first}{second}{third}{fourth}{fifth}{sixth}")
 }

@@ -1,13 +1,18 @@
 //! The summary in words.
 
+ghost use Rattle.std.specs.Prelude.{◌≡◌, ◌++◌, ℕ, List, Option, length, codes, IfOk, OnOk};
+ghost use Rattle.std.specs.List.{flat_map};
+ghost use Rattle.std.specs.String.{string_bytes};
+ghost use Rattle.enet_timeline.specs.Summaries.{counts_text, unkept_text, cut_text, first_connections_text, whole_text, names_text, id_text, began_text, ends_text, ways_text, going_text, lasting, unread_text, stopped_text, stops_text, counted_text, kind_text, all_text, commands_text, resends_text, unanswered_text, again_text, before_text, longest_text, gap_text, first_datagrams_text, TellsPart, Summarizes};
+
 use crate::drawing::{CONNECTIONS, DATAGRAMS};
 use crate::labels::push_seconds;
 use enet_captured::{
-    Kind, Part, Seen, Timeline, Way, count_of, going, longest_gap, part_of, resends, stopped_by,
-    unanswered,
+    Kind, Mark, Part, Seen, Timeline, Way, count_of, going, longest_gap, part_of, resends,
+    stopped_by, unanswered,
 };
 use enet_codec::Stop;
-use enet_text::address_text;
+use enet_text::{address_text, bytes_text};
 use std::alloc::{AllocError, Global};
 
 /// The kinds that carry no packet, and those that do.
@@ -29,10 +34,10 @@ const PACKETS: [Kind; 5] = [
     Kind::SendUnsequenced,
 ];
 
-const STOPS: [Stop; 3] = [Stop::Short, Stop::Compressed, Stop::BadCommand];
-
 /// What a timeline holds, in words: how much of everything, and of each connection the same. An error where there is no memory for it.
-pub fn summarize(alloc: Global, timeline: &Timeline) -> Result<String, AllocError> {
+pub fn summarize(alloc: Global, timeline: &Timeline) -> Result<String, AllocError>
+    ensures { IfOk result (λ text. Summarizes timeline.now (string_bytes text)) }
+{
     let mut text = String::new(alloc);
     push_whole(&mut text, timeline)?;
     for index in 0..timeline.connections.len() {
@@ -43,143 +48,280 @@ pub fn summarize(alloc: Global, timeline: &Timeline) -> Result<String, AllocErro
 }
 
 /// The lines of the whole.
-pub(crate) fn push_whole(text: &mut String, timeline: &Timeline) -> Result<(), AllocError> {
+pub(crate) fn push_whole(text: &mut String, timeline: &Timeline) -> Result<(), AllocError>
+    ensures { OnOk result (string_bytes text.new ≡ string_bytes text.old ++ whole_text timeline.now) }
+{
+    push_counts(text, timeline)?;
+    push_unkept(text, timeline.unkept)?;
+    push_cut(text, timeline.is_cut)?;
+    push_first_connections(text, timeline.connections.len())?;
+    Ok(())
+}
+
+// How many datagrams, connections and other packets there are.
+fn push_counts(text: &mut String, timeline: &Timeline) -> Result<(), AllocError>
+    ensures { OnOk result (string_bytes text.new ≡ string_bytes text.old ++ counts_text timeline.now) }
+{
     let datagrams = timeline.datagrams;
     let connections = timeline.connections.len();
     let others = timeline.others;
     write!(
         text,
         "datagrams {datagrams}, connections {connections}, other packets {others}\n"
-    )?;
-    push_limits(text, timeline)
+    )
 }
 
-// What isn't told, drawn or there.
-fn push_limits(text: &mut String, timeline: &Timeline) -> Result<(), AllocError> {
-    let unkept = timeline.unkept;
-    if unkept > 0 {
-        write!(
-            text,
-            "{unkept} datagrams of further connections aren't told\n"
-        )?;
+// What isn't told, where something isn't.
+fn push_unkept(text: &mut String, unkept: u64) -> Result<(), AllocError>
+    ensures { OnOk result (string_bytes text.new ≡ string_bytes text.old ++ unkept_text unkept) }
+{
+    if unkept == 0 {
+        return Ok(());
     }
-    if timeline.is_cut {
+    write!(
+        text,
+        "{unkept} datagrams of further connections aren't told\n"
+    )
+}
+
+// What isn't there.
+fn push_cut(text: &mut String, is_cut: bool) -> Result<(), AllocError>
+    ensures { OnOk result (string_bytes text.new ≡ string_bytes text.old ++ cut_text is_cut) }
+{
+    if is_cut {
         text.push_str("the capture is cut short\n")?;
     }
-    if timeline.connections.len() > CONNECTIONS {
+    Ok(())
+}
+
+// What isn't drawn.
+fn push_first_connections(text: &mut String, connections: usize) -> Result<(), AllocError>
+    ensures { OnOk result (string_bytes text.new ≡ string_bytes text.old ++ first_connections_text connections) }
+{
+    if connections > CONNECTIONS {
         write!(text, "drawn are the first {CONNECTIONS} connections\n")?;
     }
     Ok(())
 }
 
 /// The lines of a connection.
-pub(crate) fn push_part(alloc: Global, text: &mut String, part: &Part) -> Result<(), AllocError> {
+pub(crate) fn push_part(alloc: Global, text: &mut String, part: &Part) -> Result<(), AllocError>
+    ensures { OnOk result ((told : List ℕ) × (string_bytes text.new ≡ string_bytes text.old ++ told) × TellsPart part.now told) }
+{
     push_ends(alloc, text, part)?;
-    push_datagrams(text, part)?;
-    push_commands(text, part)?;
+    push_datagrams(text, part.seen.as_slice())?;
+    push_stops(text, part.seen.as_slice())?;
+    push_commands(text, part.marks.as_slice())?;
     push_again(text, part)?;
-    push_gap(text, part)?;
-    if part.seen.len() > DATAGRAMS {
-        write!(text, "  drawn are the first {DATAGRAMS} datagrams\n")?;
-    }
+    push_gap(text, longest_gap(part.seen.as_slice()))?;
+    push_first_datagrams(text, part.seen.len())?;
     Ok(())
 }
 
-/// The line that names the ends of a connection.
-pub(crate) fn push_ends(alloc: Global, text: &mut String, part: &Part) -> Result<(), AllocError> {
-    let index = part.index;
+// The line that names the ends of a connection.
+fn push_ends(alloc: Global, text: &mut String, part: &Part) -> Result<(), AllocError>
+    ensures { OnOk result (string_bytes text.new ≡ string_bytes text.old ++ ends_text part.now) }
+{
     let left = address_text(alloc, part.connection.left)?;
     let right = address_text(alloc, part.connection.right)?;
-    write!(text, "connection {index}: {left} and {right}")?;
-    if let Some(id) = part.connection.id {
-        write!(text, ", connect id {id:08x}")?;
+    push_names(text, part.index, left.as_str(), right.as_str())?;
+    push_began(alloc, text, part.connection.id)?;
+    Ok(())
+}
+
+fn push_names(text: &mut String, index: usize, left: &str, right: &str) -> Result<(), AllocError>
+    ensures { OnOk result (string_bytes text.new ≡ string_bytes text.old ++ names_text index left.now right.now) }
+{
+    write!(text, "connection {index}: {left} and {right}")
+}
+
+// The connect id that began it, where one did.
+fn push_began(alloc: Global, text: &mut String, began: Option<u32>) -> Result<(), AllocError>
+    ensures { OnOk result (string_bytes text.new ≡ string_bytes text.old ++ began_text began) }
+{
+    match began {
+        None => push_end(text),
+        Some(id) => push_id(alloc, text, id),
     }
+}
+
+fn push_end(text: &mut String) -> Result<(), AllocError>
+    ensures { OnOk result (string_bytes text.new ≡ string_bytes text.old ++ codes "\n") }
+{
     text.push_str("\n")?;
     Ok(())
 }
 
-fn push_datagrams(text: &mut String, part: &Part) -> Result<(), AllocError> {
-    let seen = part.seen.as_slice();
+fn push_id(alloc: Global, text: &mut String, id: u32) -> Result<(), AllocError>
+    ensures { OnOk result (string_bytes text.new ≡ string_bytes text.old ++ id_text id) }
+{
+    let id = bytes_text(alloc, &id.to_be_bytes())?;
+    text.push_str(", connect id ")?;
+    text.push_str(id.as_str())?;
+    text.push_str("\n")?;
+    Ok(())
+}
+
+// The datagrams: how many, and in which time.
+fn push_datagrams(text: &mut String, seen: &[Seen]) -> Result<(), AllocError>
+    ensures { OnOk result (string_bytes text.new ≡ string_bytes text.old ++ going_text seen.now) }
+{
+    push_ways(text, seen)?;
+    push_seconds(text, lasting(seen))?;
+    text.push_str(" s\n")?;
+    Ok(())
+}
+
+// How many datagrams go to the right and to the left.
+fn push_ways(text: &mut String, seen: &[Seen]) -> Result<(), AllocError>
+    ensures { OnOk result (string_bytes text.new ≡ string_bytes text.old ++ ways_text seen.now) }
+{
     let all = seen.len();
     let right = going(seen, Way::Right);
     let left = going(seen, Way::Left);
     write!(
         text,
         "  {all} datagrams, {right} to the right and {left} to the left, in "
-    )?;
-    push_seconds(text, lasting(part))?;
-    text.push_str(" s\n")?;
-    for stop in &STOPS {
-        push_stopped(text, seen, *stop)?;
-    }
-    Ok(())
+    )
 }
 
-// How many datagrams can't be read for this reason, where any can't.
-fn push_stopped(text: &mut String, seen: &[Seen], stop: Stop) -> Result<(), AllocError> {
-    let count = stopped_by(seen, stop);
-    if count == 0 {
-        return Ok(());
-    }
-    let label = stop.label();
-    write!(text, "  {count} can't be read to their end: {label}\n")
-}
-
-// From its first datagram to its last.
-fn lasting(part: &Part) -> u64 {
-    match (part.seen.first(), part.seen.last()) {
+// From the first datagram to the last.
+fn lasting(seen: &[Seen]) -> u64
+    ensures { result ≡ lasting seen.now }
+{
+    match (seen.first(), seen.last()) {
         (Some(first), Some(last)) => last.at.saturating_sub(first.at),
         _ => 0,
     }
 }
 
-fn push_commands(text: &mut String, part: &Part) -> Result<(), AllocError> {
-    let all = part.marks.len();
-    write!(text, "  {all} commands:")?;
-    push_kinds(text, part, &KINDS)?;
+fn push_stops(text: &mut String, seen: &[Seen]) -> Result<(), AllocError>
+    ensures { OnOk result (string_bytes text.new ≡ string_bytes text.old ++ stops_text seen.now) }
+{
+    push_stopped(text, seen, Stop::Short)?;
+    push_stopped(text, seen, Stop::Compressed)?;
+    push_stopped(text, seen, Stop::BadCommand)?;
+    Ok(())
+}
+
+// How many datagrams can't be read for this reason, where any can't.
+fn push_stopped(text: &mut String, seen: &[Seen], stop: Stop) -> Result<(), AllocError>
+    ensures { OnOk result (string_bytes text.new ≡ string_bytes text.old ++ stopped_text seen.now stop) }
+{
+    push_unread(text, stop.label(), stopped_by(seen, stop))
+}
+
+fn push_unread(text: &mut String, why: &str, count: usize) -> Result<(), AllocError>
+    ensures { OnOk result (string_bytes text.new ≡ string_bytes text.old ++ unread_text why.now count) }
+{
+    if count == 0 {
+        return Ok(());
+    }
+    write!(text, "  {count} can't be read to their end: {why}\n")
+}
+
+fn push_commands(text: &mut String, marks: &[Mark]) -> Result<(), AllocError>
+    ensures { OnOk result (string_bytes text.new ≡ string_bytes text.old ++ commands_text marks.now) }
+{
+    push_all(text, marks.len())?;
+    push_kinds(text, marks, &KINDS)?;
     text.push_str("\n  packets:")?;
-    push_kinds(text, part, &PACKETS)?;
+    push_kinds(text, marks, &PACKETS)?;
     text.push_str("\n")?;
     Ok(())
 }
 
+fn push_all(text: &mut String, commands: usize) -> Result<(), AllocError>
+    ensures { OnOk result (string_bytes text.new ≡ string_bytes text.old ++ all_text commands) }
+{
+    write!(text, "  {commands} commands:")
+}
+
 // How many commands are of each of these kinds, where any are.
-fn push_kinds(text: &mut String, part: &Part, kinds: &[Kind]) -> Result<(), AllocError> {
+fn push_kinds(text: &mut String, marks: &[Mark], kinds: &[Kind]) -> Result<(), AllocError>
+    ensures { OnOk result (string_bytes text.new ≡ string_bytes text.old ++ flat_map (kind_text marks.now) kinds.now) }
+{
     for kind in kinds {
-        push_kind(text, part, *kind)?;
+        push_kind(text, marks, *kind)?;
     }
     Ok(())
 }
 
-fn push_kind(text: &mut String, part: &Part, kind: Kind) -> Result<(), AllocError> {
-    let count = count_of(part.marks.as_slice(), kind);
+fn push_kind(text: &mut String, marks: &[Mark], kind: Kind) -> Result<(), AllocError>
+    ensures { OnOk result (string_bytes text.new ≡ string_bytes text.old ++ kind_text marks.now kind) }
+{
+    push_counted(text, kind.name(), count_of(marks, kind))
+}
+
+fn push_counted(text: &mut String, name: &str, count: usize) -> Result<(), AllocError>
+    ensures { OnOk result (string_bytes text.new ≡ string_bytes text.old ++ counted_text name.now count) }
+{
     if count == 0 {
         return Ok(());
     }
-    let name = kind.name();
     write!(text, " {name} {count}")
 }
 
-fn push_again(text: &mut String, part: &Part) -> Result<(), AllocError> {
-    let right = resends(part.to_right.as_slice());
-    let left = resends(part.to_left.as_slice());
+fn push_again(text: &mut String, part: &Part) -> Result<(), AllocError>
+    ensures { OnOk result ((right left : ℕ) × (string_bytes text.new ≡ string_bytes text.old ++ again_text part.now right left)) }
+{
+    push_resends(text, part.to_right.as_slice(), part.to_left.as_slice())?;
+    let right = unanswered(part.to_right.as_slice(), part.answers_left.as_slice());
+    let left = unanswered(part.to_left.as_slice(), part.answers_right.as_slice());
+    push_unanswered(text, right, left)?;
+    Ok(())
+}
+
+fn push_resends(text: &mut String, to_right: &[Mark], to_left: &[Mark]) -> Result<(), AllocError>
+    ensures { OnOk result (string_bytes text.new ≡ string_bytes text.old ++ resends_text to_right.now to_left.now) }
+{
+    let right = resends(to_right);
+    let left = resends(to_left);
     write!(
         text,
         "  sent again: {right} to the right, {left} to the left; "
-    )?;
-    let right = unanswered(part.to_right.as_slice(), part.answers_left.as_slice());
-    let left = unanswered(part.to_left.as_slice(), part.answers_right.as_slice());
+    )
+}
+
+fn push_unanswered(text: &mut String, right: usize, left: usize) -> Result<(), AllocError>
+    ensures { OnOk result (string_bytes text.new ≡ string_bytes text.old ++ unanswered_text right left) }
+{
     write!(
         text,
         "not acknowledged: {right} to the right, {left} to the left\n"
     )
 }
 
-fn push_gap(text: &mut String, part: &Part) -> Result<(), AllocError> {
-    if let Some((gap, number)) = longest_gap(part.seen.as_slice()) {
-        text.push_str("  longest gap: ")?;
-        push_seconds(text, gap)?;
-        write!(text, " s, before datagram {number}\n")?;
+fn push_gap(text: &mut String, gap: Option<(u64, u64)>) -> Result<(), AllocError>
+    ensures { OnOk result (string_bytes text.new ≡ string_bytes text.old ++ gap_text gap) }
+{
+    match gap {
+        None => Ok(()),
+        Some(gap) => push_longest(text, gap.0, gap.1),
+    }
+}
+
+fn push_longest(text: &mut String, gap: u64, number: u64) -> Result<(), AllocError>
+    ensures { OnOk result (string_bytes text.new ≡ string_bytes text.old ++ longest_text gap number) }
+{
+    text.push_str("  longest gap: ")?;
+    push_seconds(text, gap)?;
+    push_before(text, number)?;
+    Ok(())
+}
+
+fn push_before(text: &mut String, number: u64) -> Result<(), AllocError>
+    ensures { OnOk result (string_bytes text.new ≡ string_bytes text.old ++ before_text number) }
+{
+    write!(text, " s, before datagram {number}\n")
+}
+
+// What of it isn't drawn.
+fn push_first_datagrams(text: &mut String, datagrams: usize) -> Result<(), AllocError>
+    ensures { OnOk result (string_bytes text.new ≡ string_bytes text.old ++ first_datagrams_text datagrams) }
+{
+    if datagrams > DATAGRAMS {
+        write!(text, "  drawn are the first {DATAGRAMS} datagrams\n")?;
     }
     Ok(())
 }

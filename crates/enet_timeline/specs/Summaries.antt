@@ -1,0 +1,153 @@
+-- What a summary says: of the whole, and of one connection after another.
+use Rattle.std.specs.Prelude.{◌≡◌, ◌-◌, ◌/◌, ◌%◌, ◌==◌, ℕ, zero, suc, nat_lt, Bool, if◌then◌else◌, List, [], ◌∷◌, ◌++◌, length, vec_len, slice_get, count_by, codes, Option, Some, None}
+use Rattle.std.specs.Fmt.{decimal}
+use Rattle.std.specs.Int.{to_be_bytes, w32}
+use Rattle.std.specs.List.{flat_map}
+use Rattle.enet_codec.specs.declared.stop.Stop.{Stop}
+use Rattle.enet_codec.specs.declared.stop.Stop.TheVariants.{Short, Compressed, BadCommand}
+use Rattle.enet_codec.specs.Stop.{stop_label}
+use Rattle.enet_text.specs.Texts.{address_text, bytes_text}
+use Rattle.enet_captured.specs.declared.told.Kind.{Kind}
+use Rattle.enet_captured.specs.declared.told.Kind.TheVariants.{Acknowledge, Connect, VerifyConnect, Disconnect, Ping, SendReliable, SendUnreliable, SendFragment, SendUnsequenced, BandwidthLimit, ThrottleConfigure, SendUnreliableFragment}
+use Rattle.enet_captured.specs.declared.timeline.Way.TheVariants.{Right, Left}
+use Rattle.enet_captured.specs.declared.timeline.Seen.{Seen}
+use Rattle.enet_captured.specs.declared.timeline.Mark.{Mark}
+use Rattle.enet_captured.specs.declared.timeline.Timeline.{Timeline}
+use Rattle.enet_captured.specs.declared.part.Part.{Part}
+use Rattle.enet_captured.specs.Commands.{name_of, same_kind}
+use Rattle.enet_captured.specs.Counts.{same_way, is_stopped_by, resends}
+use Rattle.enet_captured.specs.Gaps.{IsLongest}
+use Rattle.enet_captured.specs.Parts.{IsPart}
+
+-- Microseconds as seconds, with six digits behind the point.
+unfoldable pub seconds_text : ℕ → List ℕ
+seconds_text us =
+    decimal (us / 1000000) ++ codes "." ++ decimal (us / 100000 % 10) ++ decimal (us / 10000 % 10) ++ decimal (us / 1000 % 10)
+    ++ decimal (us / 100 % 10) ++ decimal (us / 10 % 10) ++ decimal (us % 10)
+
+-- What isn't told, drawn or there, where something isn't.
+unfoldable pub unkept_text : ℕ → List ℕ
+unkept_text unkept = if unkept == 0 then [] else (decimal unkept ++ codes " datagrams of further connections aren't told\n")
+
+unfoldable pub cut_text : Bool → List ℕ
+cut_text is_cut = if is_cut then codes "the capture is cut short\n" else []
+
+unfoldable pub first_connections_text : ℕ → List ℕ
+first_connections_text connections = if nat_lt 24 connections then (codes "drawn are the first " ++ decimal 24 ++ codes " connections\n") else []
+
+unfoldable pub counts_text : Timeline → List ℕ
+counts_text t =
+    codes "datagrams " ++ decimal t.datagrams ++ codes ", connections " ++ decimal (vec_len t.connections) ++ codes ", other packets "
+    ++ decimal t.others ++ codes "\n"
+
+unfoldable pub whole_text : Timeline → List ℕ
+whole_text t =
+    counts_text t ++ unkept_text t.unkept ++ cut_text t.is_cut ++ first_connections_text (vec_len t.connections)
+
+-- The ends of a connection, and the connect id that began it, where one did.
+unfoldable pub id_text : ℕ → List ℕ
+id_text id = codes ", connect id " ++ bytes_text (to_be_bytes w32 id) ++ codes "\n"
+
+abbrev pub began_text : Option ℕ → List ℕ
+began_text None = codes "\n"
+began_text (Some id) = id_text id
+
+unfoldable pub names_text : ℕ → List ℕ → List ℕ → List ℕ
+names_text index left right = codes "connection " ++ decimal index ++ codes ": " ++ left ++ codes " and " ++ right
+
+unfoldable pub ends_text : Part → List ℕ
+ends_text p = names_text p.index (address_text p.connection.left) (address_text p.connection.right) ++ began_text p.connection.id
+
+-- Its datagrams, one way and the other, from the first to the last.
+abbrev pub time_between : Option Seen → Option Seen → ℕ
+time_between None last = 0
+time_between (Some first) None = 0
+time_between (Some first) (Some last) = last.at - first.at
+
+abbrev pub lasting : List Seen → ℕ
+lasting seen = time_between (slice_get seen 0) (slice_get seen (length seen - 1))
+
+unfoldable pub ways_text : List Seen → List ℕ
+ways_text seen =
+    codes "  " ++ decimal (length seen) ++ codes " datagrams, " ++ decimal (count_by (λ (one : Seen). same_way one.way Right) seen)
+    ++ codes " to the right and " ++ decimal (count_by (λ (one : Seen). same_way one.way Left) seen) ++ codes " to the left, in "
+
+unfoldable pub going_text : List Seen → List ℕ
+going_text seen = ways_text seen ++ seconds_text (lasting seen) ++ codes " s\n"
+
+-- How many of them can't be read to their end for a reason, where some can't.
+unfoldable pub unread_text : List ℕ → ℕ → List ℕ
+unread_text why count = if count == 0 then [] else (codes "  " ++ decimal count ++ codes " can't be read to their end: " ++ why ++ codes "\n")
+
+unfoldable pub stopped_text : List Seen → Stop → List ℕ
+stopped_text seen stop = unread_text (stop_label stop) (count_by (λ (one : Seen). is_stopped_by one.stop stop) seen)
+
+unfoldable pub stops_text : List Seen → List ℕ
+stops_text seen = stopped_text seen Short ++ stopped_text seen Compressed ++ stopped_text seen BadCommand
+
+-- How many of its commands are of a kind, where some are.
+unfoldable pub counted_text : List ℕ → ℕ → List ℕ
+counted_text name count = if count == 0 then [] else (codes " " ++ name ++ codes " " ++ decimal count)
+
+unfoldable pub kind_text : List Mark → Kind → List ℕ
+kind_text marks kind = counted_text (name_of kind) (count_by (λ (mark : Mark). same_kind mark.told.kind kind) marks)
+
+-- The kinds that carry no packet, and those that do.
+abbrev pub plain_kinds : List Kind
+plain_kinds = Connect ∷ VerifyConnect ∷ Disconnect ∷ Ping ∷ Acknowledge ∷ BandwidthLimit ∷ ThrottleConfigure ∷ []
+
+abbrev pub packet_kinds : List Kind
+packet_kinds = SendReliable ∷ SendFragment ∷ SendUnreliable ∷ SendUnreliableFragment ∷ SendUnsequenced ∷ []
+
+unfoldable pub all_text : ℕ → List ℕ
+all_text commands = codes "  " ++ decimal commands ++ codes " commands:"
+
+unfoldable pub commands_text : List Mark → List ℕ
+commands_text marks =
+    all_text (length marks) ++ flat_map (kind_text marks) plain_kinds ++ codes "\n  packets:"
+    ++ flat_map (kind_text marks) packet_kinds ++ codes "\n"
+
+-- What went again, and what nobody acknowledged.
+unfoldable pub resends_text : List Mark → List Mark → List ℕ
+resends_text to_right to_left =
+    codes "  sent again: " ++ decimal (resends to_right) ++ codes " to the right, " ++ decimal (resends to_left) ++ codes " to the left; "
+
+unfoldable pub unanswered_text : ℕ → ℕ → List ℕ
+unanswered_text right left = codes "not acknowledged: " ++ decimal right ++ codes " to the right, " ++ decimal left ++ codes " to the left\n"
+
+abbrev pub again_text : Part → ℕ → ℕ → List ℕ
+again_text p right left = resends_text p.to_right.items p.to_left.items ++ unanswered_text right left
+
+-- The longest gap between two datagrams, and the later one.
+unfoldable pub before_text : ℕ → List ℕ
+before_text number = codes " s, before datagram " ++ decimal number ++ codes "\n"
+
+unfoldable pub longest_text : ℕ → ℕ → List ℕ
+longest_text gap number = codes "  longest gap: " ++ seconds_text gap ++ before_text number
+
+abbrev pub gap_text : Option (ℕ × ℕ) → List ℕ
+gap_text None = []
+gap_text (Some gap) = longest_text gap.0 gap.1
+
+unfoldable pub first_datagrams_text : ℕ → List ℕ
+first_datagrams_text datagrams = if nat_lt 500 datagrams then (codes "  drawn are the first " ++ decimal 500 ++ codes " datagrams\n") else []
+
+-- The text of a connection. How many commands aren't acknowledged is only tested.
+pub record TellsPart (part : Part) (text : List ℕ) : Type 0 where
+  pub right : ℕ
+  pub left : ℕ
+  pub gap : Option (ℕ × ℕ)
+  pub is_longest : IsLongest part.seen.items gap
+  pub told : text ≡ ends_text part ++ going_text part.seen.items ++ stops_text part.seen.items ++ commands_text part.marks.items
+      ++ again_text part right left ++ gap_text gap ++ first_datagrams_text (vec_len part.seen)
+
+-- The texts of so many connections, one behind another.
+unfoldable pub TellsParts : Timeline → ℕ → List ℕ → Type 0
+TellsParts t zero text = text ≡ []
+TellsParts t (suc n) text =
+    (before last : List ℕ) × (part : Part) × (text ≡ before ++ last) × TellsParts t n before × IsPart t n part × TellsPart part last
+
+pub record Summarizes (t : Timeline) (text : List ℕ) : Type 0 where
+  pub parts : List ℕ
+  pub told : text ≡ whole_text t ++ parts
+  pub each : TellsParts t (length t.connections.items) parts
