@@ -46,15 +46,16 @@ pub fn what_is_taken()
 
 /// What an end puts out, over the same lists of events: each sequenced data command is a piece of a packet that its user submitted on that
 /// channel, in the form in which that packet is carried and under the number that its place in the order of submission gives it, whatever
-/// acknowledgements come. So the numbers tell the other end the order of submission, and no content is sent under two of them.
+/// acknowledgements come. So the numbers, modulo 65,536, tell the other end the order of submission, and no command goes under a number that
+/// isn't its place's.
 pub fn what_is_put_out()
     ensures answering { OfEachAnswering IsSent }
     ensures asking { OfEachAsking IsSent }
     ensures joined { OfEachJoined IsSent }
 {}
 
-/// A datagram is some of these events: where a peer is handed the commands of one (`Handles`, the contract of `enet_peer::receive`), those at
-/// the front of its bytes came to the end, one after another, up to the one that stops them or for which memory was wanting.
+/// A datagram is some of these events: where a peer is handed the commands of one (`Handles`, the contract of `enet_peer::receive`), it fares as
+/// by some of those at the front of its bytes, one after another; how many isn't said.
 pub fn a_datagram_comes_as_commands()
     ensures { (a : Arrival) (handled : ℕ) (bytes : List ℕ) (answer : Received) (e : OneEnd) (q : Peering)
         → Handles a (record { handled = handled; peer = e.peer }) bytes answer q → HasCome a bytes e q }

@@ -8,7 +8,7 @@
 //! So it is, too, after any turn of a run of two threads that goes on (`serves_on`).
 //! Premise: that of `law_service`, and for a run that goes on what the rules of its queues say of each moment, and what the relay did until
 //! then. Where the server takes leave of its clients after the runs, `ChatServer::take_leave` says what it does then (`TakesLeave`).
-//! Neither: a run that ended in an error, of which `serve` promises nothing; nor is it said of what i submitted unsequenced on channel 1.
+//! Neither: a run that ended in an error, of which `serve` promises nothing; nor is it said of what i submitted unsequenced, on either channel.
 #![tactic(auto)]
 
 ghost use Rattle.law_relay.specs.Chat.{EachServed, EachHasServed, EachServesOn, OfChatServer, OfChatThreads};
