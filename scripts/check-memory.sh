@@ -2,7 +2,7 @@
 # Refuses each growth of memory in turn while worked rows run: of hosts (the scripts that stand in crates/check_hosts), of two hosts with a
 # network between them, of a fleet, and of the making of both queues. The fleet's row is run with calls behind it, too, that take no memory: it
 # may have no more growths then. Before that each row runs with ample memory, where no call may be refused.
-# Then a stranger fills hosts as far as each kind of thing goes (check_hosts filled), over an allocator that counts (measure/counted.c):
+# Then hosts are filled with each kind of thing as far as it goes (scripts/filled.awk), over an allocator that counts (measure/counted.c):
 # what it gave may be no more than the definitions say (specs/Memory of enet_host).
 # The programs are those that `rt ci`, or `rt run` in crates/check_memory and crates/check_hosts, leaves. clients/faults.c, loaded into them,
 # refuses growth k of run k, until the one that is refused stands behind the row: that run ends with status 4. A refused call has to be
@@ -64,22 +64,40 @@ lab_row() {
     row "$1" check_memory 1
 }
 
-# The bytes that the allocator gave for what a stranger fills hosts with, beside those that the definitions say.
+# A host that is filled with the kind $1, as scripts/filled.awk says, with $2 channels, of whose packets $3 bytes may wait. It prints what it
+# holds, how many bytes that takes by definition, and how many the allocator gave.
+fill() {
+    local name="$1 on $2 channels, where $3 bytes may wait" commands bytes
+    awk -v kind="$1" -v channels="$2" -v waiting="$3" -f scripts/filled.awk > "$room/filled.hosts"
+    read -r _ _ commands bytes < "$room/filled.hosts"
+    if ! (cd "$room" && COUNTED=held LD_PRELOAD=$room/counted.so timeout 60 "$OLDPWD/crates/check_hosts/out/check_hosts" filled \
+        "$((commands * command + bytes))" < /dev/null > "$room/out" 2>&1); then
+        fail "$name" "$(tail -c 400 "$room/out")"
+        return
+    fi
+    echo "$name: $(cat "$room/out")"
+    passed=$((passed + 1))
+}
+
+# Hosts that are filled with each kind of thing, and what a command of a host's own user takes.
 filled() {
-    local status count
+    local kind command
     if ! cc -O2 -fno-builtin -shared -fPIC -o "$room/counted.so" measure/counted.c 2> "$room/out"; then
         fail filled "measure/counted.c can't be built: $(head -c 400 "$room/out")"
         return
     fi
-    COUNTED=held LD_PRELOAD=$room/counted.so timeout 300 crates/check_hosts/out/check_hosts filled < /dev/null > "$room/out" 2>&1
-    status=$?
-    count=$(grep -c 'bytes by definition, [0-9]* counted$' "$room/out")
-    if [ "$status" -ne 0 ]; then
-        fail filled "status $status: $(tail -n 2 "$room/out")"
-        return
-    fi
-    echo "filled: $count hosts took no more than the definitions say"
-    passed=$((passed + 1))
+    command=$(sed -n 's/^command_takes = //p' crates/enet_host/specs/Memory.antt)
+    for kind in untaken held released waiting lines pieces pieces-in-lines spread given-up pings; do
+        fill "$kind" 2 133120
+        fill "$kind" 255 532480
+        fill "$kind" 12 4198400
+    done
+    for kind in reliable unreliable unsequenced many-pieces body burst front; do
+        fill "$kind" 2 33554432
+    done
+    fill granted 255 33554432
+    fill open 1 33554432
+    fill open 4095 33554432
 }
 
 room=$(mktemp -d) || exit 1

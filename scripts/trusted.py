@@ -20,6 +20,8 @@ CLAUSES = [
     ("of it, what isn't of fleets", "", ["law_headline.Page.IsHeadline"]),
     ("the lists that are kept", "`Fleet::run`, `headline`", ["enet_fleet.Headline.HasHeadline"]),
     ("and that they are the events'", "`Fleet::run`, `steps`", ["enet_fleet.Headline.HasHeadline", "enet_fleet.Fleets.Runs"]),
+    ("what comes once nothing is lost", "`World::calm`, `progress`", ["enet_world.Progress.GetsThrough"]),
+    ("each peer of a host as one end", "`each_peer_of_a_host` of `law_one_end`", ["law_one_end.Hosts.EachIsOneEnd"]),
     ("what has nothing left to send was delivered", "`World::delivered`", ["enet_world.Delivered.HasDelivered"]),
     ("at each moment of running services", "`services_in_order`, `at_each_moment`", ["law_service.EndToEnd.AtEachMoment"]),
     ("by what services were given and told", "`services_in_order`, `services`", ["law_service.EndToEnd.EndToEnd"]),

@@ -1,46 +1,49 @@
-//! Hosts that a stranger fills with one kind of thing, as far as it goes: for that the allocator gave no more than the definitions say
-//! (`HostCore::memory_held`).
+//! A script that fills a host: for it the allocator gave no more than the definitions say (`HostCore::memory_held`).
 //!
 //! It is for a clock that tells bytes in the place of nanoseconds (measure/counted.c), and refuses any other.
 
-mod kind;
-mod own;
-
-use anyhow::{Result, bail};
-use check_scripts::{connect, receive};
-use enet_codec::{Addr, Config};
+use anyhow::{Context, Result, bail};
+use check_scripts::{Fault, Field, LONGEST_ANSWER, run_lines};
 use enet_host::HostCore;
-use kind::{KINDS, Kind};
-use std::alloc::Global;
-use std::rt::Clock;
+use std::fs;
+use std::rt::{Clock, Files};
 use std::time::Instant;
-
-/// The address of the stranger.
-const STRANGER: Addr = Addr {
-    ip: 0x0A00_0002,
-    port: 7_001,
-};
 
 /// As many bytes as this the clock has to tell of a list that has as many.
 const MEBIBYTE: usize = 1_048_576;
 
-/// How many channels the stranger's peer has, and how many bytes of its packets may wait.
-const SETTINGS: [(u8, u32); 3] = [(2, 133_120), (255, 532_480), (12, 4_198_400)];
-
-/// Fills hosts with each kind, in each setting.
-pub(crate) fn run<R>(rt: &R) -> Result<()>
+/// Runs the script `filled.hosts`, and compares what its host A takes with its definition. `own` is the definition's part of what is queued
+/// or unacknowledged, in bytes.
+pub(crate) fn run<R>(rt: &R, own: u64) -> Result<()>
 where
-    R: Clock + Print + AllocGlobal,
+    R: Clock + Files + Print + AllocGlobal,
 {
     see_that_the_clock_counts(rt)?;
-    open_with_slots(rt, 4_095)?;
-    open_with_slots(rt, 1)?;
-    for (channels, max_waiting) in SETTINGS {
-        for kind in KINDS {
-            fill(rt, kind, channels, max_waiting)?;
-        }
+    let text = fs::read_to_string(rt, "filled.hosts").context("reading filled.hosts")?;
+    let mut seen = String::with_capacity(rt.alloc(), LONGEST_ANSWER)?;
+    let Ok(mut field) = Field::new(rt.alloc()) else {
+        bail!("no memory for hosts");
+    };
+    let start = Instant::now(rt)?;
+    see(
+        run_lines(&mut field, text.as_str(), &mut seen).err(),
+        seen.as_str(),
+    )?;
+    let counted = bytes_since(rt, start)?;
+    match field.first() {
+        Some(host) => compare(rt, host, own, counted),
+        None => bail!("no host"),
     }
-    own::run(rt)
+}
+
+/// An error where a script ended early, whose last answer this is.
+fn see(fault: Option<Fault>, seen: &str) -> Result<()> {
+    match fault {
+        None => Ok(()),
+        Some(Fault::Differs(line)) => bail!("line {line}: {seen} differs"),
+        Some(Fault::Unreadable(line)) => bail!("line {line} can't be read"),
+        Some(_) => bail!("no memory for a script"),
+    }
 }
 
 /// How many bytes the program's lists have grown by since, as a clock of bytes tells it.
@@ -60,58 +63,16 @@ fn see_that_the_clock_counts<R: Clock + AllocGlobal>(rt: &R) -> Result<()> {
     Ok(())
 }
 
-/// Prints what was defined and what was counted. An error where more was counted.
-fn compare<R: Print>(rt: &R, what: &str, defined: u64, counted: u64) -> Result<()> {
-    println!(rt; "{what}: {defined} bytes by definition, {counted} counted")?;
-    if counted > defined {
-        bail!("{what}: more than the definitions say");
-    }
-    Ok(())
-}
-
-/// A host of so many slots to which nothing came.
-fn open_with_slots<R>(rt: &R, peers: u16) -> Result<()>
-where
-    R: Clock + Print + AllocGlobal,
-{
-    let start = Instant::now(rt)?;
-    let host = opened(rt.alloc(), Config::standard(peers, 255))?;
-    let counted = bytes_since(rt, start)?;
-    compare(rt, "open", host.memory_held(), counted)
-}
-
-fn opened(alloc: Global, config: Config) -> Result<HostCore> {
-    match HostCore::open(alloc, config) {
-        Ok(host) => Ok(host),
-        Err(_) => bail!("a host isn't opened"),
-    }
-}
-
-/// A host at which a stranger fills a peer of so many channels, of whose packets so many bytes may wait.
-fn fill<R>(rt: &R, kind: Kind, channels: u8, max_waiting: u32) -> Result<()>
-where
-    R: Clock + Print + AllocGlobal,
-{
-    let alloc = rt.alloc();
-    let mut datagram = Vec::with_capacity(alloc, 64)?;
-    let start = Instant::now(rt)?;
-    let config = Config {
-        max_waiting,
-        ..Config::standard(1, channels)
-    };
-    let mut host = opened(alloc, config)?;
-    if !connect(&mut host, STRANGER, 0, channels) {
-        bail!("a stranger isn't connected");
-    }
-    for number in 0..kind.count(max_waiting, channels) {
-        kind.write(&mut datagram, number, channels)?;
-        receive(&mut host, STRANGER, datagram.as_slice());
-    }
-    let counted = bytes_since(rt, start)?;
+/// Prints what a host holds, what was defined and what was counted. An error where more was counted.
+fn compare<R: Print>(rt: &R, host: &HostCore, own: u64, counted: u64) -> Result<()> {
     let held = host.held();
+    let defined = host.memory_held().saturating_add(own);
     println!(rt;
-        "{channels} channels, {kind}: {} packets, {} of them undispatched, {} acknowledgements",
+        "{} packets, {} undispatched, {} acknowledgements: {defined} bytes by definition, {counted} counted",
         held.packets, held.undispatched, held.acknowledgements
     )?;
-    compare(rt, "  held", host.memory_held(), counted)
+    if counted > defined {
+        bail!("more than the definitions say");
+    }
+    Ok(())
 }

@@ -38,7 +38,7 @@ pub(crate) enum Asked {
     All,
     Foreign { drawn: u32 },
     Crowd { channels: u8, measures: bool },
-    Filled,
+    Filled { own: u64 },
 }
 
 impl Asked {
@@ -46,7 +46,7 @@ impl Asked {
     pub(crate) fn is_all(self) -> bool {
         match self {
             Asked::All => true,
-            Asked::Foreign { .. } | Asked::Crowd { .. } | Asked::Filled => false,
+            Asked::Foreign { .. } | Asked::Crowd { .. } | Asked::Filled { .. } => false,
         }
     }
 }
@@ -63,7 +63,7 @@ where
         }
         Asked::Foreign { drawn } => run_foreign(rt, drawn),
         Asked::Crowd { channels, measures } => run_crowd(rt, channels, measures),
-        Asked::Filled => filled::run(rt),
+        Asked::Filled { own } => filled::run(rt, own),
     }
 }
 
@@ -88,7 +88,8 @@ fn read(word: &str, second: &str, measures: bool) -> Result<Asked> {
         return Ok(Asked::Crowd { channels, measures });
     }
     if word == "filled" {
-        return Ok(Asked::Filled);
+        let own = second.parse::<u64>().context("not a number")?;
+        return Ok(Asked::Filled { own });
     }
     let drawn = word.parse::<u32>().context("not a number")?;
     Ok(Asked::Foreign { drawn })

@@ -1,6 +1,5 @@
-//! `check_hosts` runs scripts over hosts of ours and compares each answer with the one that the script wants. Then it has two hosts talk
-//! at the limit of what may wait (`stalls`), has hosts with connected peers take in datagrams that nobody should send, and looks at a
-//! host of 4,095 slots (`foreign`).
+//! `check_hosts` runs scripts over hosts of ours and compares each answer with the one that the script wants. Then it has hosts with
+//! connected peers take in datagrams that nobody should send, and looks at a host of 4,095 slots (`foreign`).
 //!
 //! Five scripts stand in the program, each other one is a file NAME.hosts; the files lie where the program runs. The wanted answers
 //! were worked out by hand from the rules. Those of the captured scripts, which are whole captured files, come from the captured datagrams,
@@ -12,7 +11,8 @@
 //! `check_hosts DRAWN` has hosts take in foreign datagrams alone, of which so many are drawn in place of 1,000,000.
 //! `check_hosts crowd [CHANNELS [measure]]` looks at the host of 4,095 slots alone, whose peers have so many channels (1 where no number
 //! is given); with the word `measure` it prints how long each call took, and what the system tells of the memory that the program
-//! has, before and after the host was opened. `check_hosts filled` has a stranger fill hosts (`filled`), over a clock that counts bytes.
+//! has, before and after the host was opened. `check_hosts filled OWN` runs a script that fills a host (`filled`), over a clock that counts
+//! bytes.
 //! Where a host does what it must not the program ends with status 1 and says what,
 //! and after which datagram. Standard input is read before all this.
 //!
@@ -26,7 +26,6 @@ mod fault;
 mod filled;
 mod foreign;
 mod scarce;
-mod stalls;
 
 use check_scripts::{Account, LONGEST_ANSWER, run_script};
 use fault::Fault;
@@ -96,7 +95,6 @@ where
     if asked.is_all() {
         run_kept(rt)?;
         run_files(rt, &SCRIPTS)?;
-        run_stalls(rt)?;
     }
     match foreign::run(rt, asked) {
         Ok(()) => Ok(()),
@@ -153,21 +151,6 @@ fn run_files<R: Files + Print + AllocGlobal>(rt: &R, names: &[&str]) -> Result<(
         run_file(rt, name)?;
     }
     Ok(())
-}
-
-/// Runs the cases in which hosts could stand still, and prints how many packets came.
-fn run_stalls<R: Print + AllocGlobal>(rt: &R) -> Result<(), Fault> {
-    let alloc = rt.alloc();
-    let (Ok(pause), Ok(pieces)) = (
-        stalls::after_a_pause(alloc),
-        stalls::after_lost_pieces(alloc),
-    ) else {
-        return Err(Fault::OwnMemory);
-    };
-    let told = println!(rt;
-        "after a pause {pause} of 120 packets come, behind lost pieces {pieces} of 5"
-    );
-    told.map_err(|_| Fault::Io)
 }
 
 /// Runs the script of a file.

@@ -29,6 +29,7 @@ fn read_part(alloc: Global, part: &str, bytes: &mut Vec<u8>) -> Result<(), Fault
     for pair in text.as_bytes().chunks(2) {
         once.push(read_byte(pair)?).map_err(AllocError::from)?;
     }
+    bytes.reserve_exact(once.len().saturating_mul(count as usize))?;
     for _ in 0..count {
         bytes.extend_from_slice(once.as_slice())?;
     }

@@ -98,7 +98,7 @@ fn set_three(
 
 /// The hosts of a script, A first, and all datagrams that they put out.
 #[derive(Drop)]
-pub(crate) struct Field {
+pub struct Field {
     alloc: Global,
     hosts: Vec<HostCore>,
     sent: Vec<Sent>,
@@ -107,13 +107,18 @@ pub(crate) struct Field {
 
 impl Field {
     /// No host yet, and room for what scripts put out.
-    pub(crate) fn new(alloc: Global) -> Result<Field, Fault> {
+    pub fn new(alloc: Global) -> Result<Field, Fault> {
         Ok(Field {
             alloc,
             hosts: Vec::with_capacity(alloc, MOST_HOSTS)?,
             sent: Vec::with_capacity(alloc, MOST_DATAGRAMS)?,
             bytes: Vec::with_capacity(alloc, MOST_BYTES)?,
         })
+    }
+
+    /// The host A, once it was opened.
+    pub fn first(&self) -> Option<&HostCore> {
+        self.hosts.first()
     }
 
     /// What the first hosts tell.

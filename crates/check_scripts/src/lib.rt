@@ -18,4 +18,5 @@ mod words;
 
 pub use client::{connect, next_event, put_out, receive};
 pub use fault::Fault;
-pub use script::{Account, LONGEST_ANSWER, run_script};
+pub use field::Field;
+pub use script::{Account, LONGEST_ANSWER, run_lines, run_script};

@@ -23,7 +23,8 @@ pub fn run_script(alloc: Global, text: &str, seen: &mut String) -> Result<Accoun
     run_lines(&mut field, text, seen)
 }
 
-fn run_lines(field: &mut Field, text: &str, seen: &mut String) -> Result<Account, Fault> {
+/// The same over hosts that were there before, and stay.
+pub fn run_lines(field: &mut Field, text: &str, seen: &mut String) -> Result<Account, Fault> {
     let mut account = Account {
         steps: 0,
         repeated: 0,

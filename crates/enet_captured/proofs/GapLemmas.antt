@@ -2,7 +2,8 @@
 use Rattle.std.proofs.Common.{◌≡◌, ◌≤◌, ◌<◌, ◌+◌, ℕ, Bool, true, false, nat_lt, if◌then◌else◌, List, Option, Some, None, refl, arith, below_more}
 use Rattle.std.proofs.lemmas.Bool.{ltb-true, ltb-false}
 use Rattle.enet_captured.specs.declared.timeline.Seen.{Seen}
-use Rattle.enet_captured.specs.Gaps.{gap_behind, longer, IsLongestOf}
+use Rattle.enet_captured.specs.Gaps.{gap_behind, IsLongestOf}
+use Rattle.enet_captured.specs.Private.Gaps.{longer}
 
 module _ (seen : List Seen) (n : ℕ) where
   abbrev gap : ℕ × ℕ

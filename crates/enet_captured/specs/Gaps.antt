@@ -1,5 +1,5 @@
 -- The times between datagrams that follow one another.
-use Rattle.std.specs.Prelude.{◌≡◌, ◌≤◌, ◌<◌, nat_lt, if◌then◌else◌, ◌+◌, ◌-◌, ℕ, List, length, slice_get, Option, Some, None, MatchOption}
+use Rattle.std.specs.Prelude.{◌≡◌, ◌≤◌, ◌<◌, ◌+◌, ◌-◌, ℕ, List, length, slice_get, Option, Some, None, MatchOption}
 use Rattle.enet_captured.specs.declared.timeline.Seen.{Seen}
 
 -- How long after a datagram the next one was captured, and the number of that.
@@ -10,11 +10,6 @@ gap_between (Some one) (Some next) = (next.at - one.at, next.number)
 
 abbrev pub gap_behind : List Seen → ℕ → ℕ × ℕ
 gap_behind seen place = gap_between (slice_get seen place) (slice_get seen (place + 1))
-
--- The longer of two, the first if they are as long.
-abbrev pub longer : Option (ℕ × ℕ) → ℕ × ℕ → ℕ × ℕ
-longer None gap = gap
-longer (Some longest) gap = if nat_lt longest.0 gap.0 then gap else longest
 
 -- Among the gaps behind so many datagrams, none is longer than this one, which is one of them.
 abbrev pub IsLongestOf : List Seen → ℕ → Option (ℕ × ℕ) → Type 0

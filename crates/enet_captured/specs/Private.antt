@@ -3,3 +3,4 @@ pub mod Belonging
 pub mod Readings
 pub mod Timelines
 pub mod Commands
+pub mod Gaps

@@ -7,7 +7,8 @@ ghost use Rattle.enet_captured.specs.declared.timeline.Mark.{Mark};
 ghost use Rattle.enet_captured.specs.declared.timeline.Seen.{Seen};
 ghost use Rattle.enet_captured.specs.Commands.{is_same, same_kind, answers};
 ghost use Rattle.enet_captured.specs.Counts.{same_way, is_stopped_by, near, resends, went_before, goes_again};
-ghost use Rattle.enet_captured.specs.Gaps.{IsLongest, gap_behind, longer};
+ghost use Rattle.enet_captured.specs.Gaps.{IsLongest, gap_behind};
+ghost use Rattle.enet_captured.specs.Private.Gaps.{longer};
 
 use crate::timeline::{Mark, Seen, Way};
 use crate::told::{Detail, Kind, Told};

@@ -11,8 +11,8 @@ use Rattle.enet_bridge.specs.Ends.{orders}
 use Rattle.enet_bridge.specs.Holding.{asked, received, waiting_at, submitted_at}
 use Rattle.enet_chat.specs.Chat.{noted, IsNewcomer, relayed}
 use Rattle.enet_chat.specs.declared.relaying.Relay.{Relay}
-use Rattle.enet_chat.specs.Relaying.{events, noted_all, relayed_all, is_for, those_for, SameForEach, SameQueues, Relays, SubmitsOn}
-use Rattle.enet_chat.specs.Private.Relaying.{ArePackets}
+use Rattle.enet_chat.specs.Relaying.{events, noted_all, relayed_all, is_for, those_for, SameForEach, SameQueues, Relays}
+use Rattle.enet_chat.specs.Private.Relaying.{SubmitsOn, ArePackets}
 use Rattle.enet_chat.proofs.GroupingLemmas.{packets_note}
 
 pub noted_more : (peers : List PeerRef) (es fs : List Event) → noted_all peers (es ++ fs) ≡ noted_all (noted_all peers es) fs

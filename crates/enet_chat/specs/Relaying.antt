@@ -54,14 +54,6 @@ IsHeldUp relay = FoundFull (sender_of relay) ⊎ IsSpent relay
 abbrev pub HasSubmitted : Relay → Type 0
 HasSubmitted relay = (waiting_at (sender_of relay) ≡ []) ⊎ IsHeldUp relay
 
--- it submitted some orders, or none
-abbrev pub SubmitsOn : Relay → Relay → Type 0
-SubmitsOn old new = (more : List Order) × (orders (submitted_at (sender_of new)) ≡ orders (submitted_at (sender_of old)) ++ more)
-
--- all that had been asked for was submitted before anything else was, but for that
-abbrev pub SubmitsFirst : Relay → Relay → Type 0
-SubmitsFirst old new = ((more : List Order) × (orders (submitted_at (sender_of new)) ≡ asked (sender_of old) ++ more)) ⊎ IsHeldUp new
-
 -- events without their numbers
 abbrev pub events : List Numbered → List Event
 events numbered = map (λ x. x.event) numbered

@@ -101,8 +101,8 @@ impl<'a> Relay<'a> {
     ghost use Rattle.enet_submit.specs.Words.{IsFinishedOf, all_sent};
     ghost use Rattle.enet_bridge.specs.Ends.{orders};
     ghost use Rattle.enet_bridge.specs.Holding.{asked, waiting_at, submitted_at, received, sender_queue, receiver_queue, FoundFull, FoundNone};
-    ghost use Rattle.enet_chat.specs.Relaying.{peers_of, backlog_of, sender_of, receiver_of, Relays, IsThrough, IsSpent, IsHeldUp, HasSubmitted, SubmitsFirst, SubmitsOn};
-    ghost use Rattle.enet_chat.specs.Private.Relaying.{ArePackets};
+    ghost use Rattle.enet_chat.specs.Relaying.{peers_of, backlog_of, sender_of, receiver_of, Relays, IsThrough, IsSpent, IsHeldUp, HasSubmitted};
+    ghost use Rattle.enet_chat.specs.Private.Relaying.{SubmitsFirst, SubmitsOn, ArePackets};
 
     /// A relay that goes on from these peers and these events.
     pub fn new(

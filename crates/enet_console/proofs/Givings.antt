@@ -5,7 +5,8 @@ use Rattle.std.specs.Str.{IsUtf8, is_utf8}
 use Rattle.std.proofs.lemmas.Str.{IsUtf8-from_is_utf8, is_utf8-from_IsUtf8}
 use Rattle.enet_console.specs.declared.input.Input.{Input}
 use Rattle.enet_console.specs.declared.word.Word.TheVariants.{Say}
-use Rattle.enet_console.specs.Inputs.{rest, Goes, Gives}
+use Rattle.enet_console.specs.Inputs.{rest, Goes}
+use Rattle.enet_console.specs.Private.Inputs.{Gives, Takes}
 use Rattle.enet_console.specs.Words.{kick_of, say_of}
 
 range-none : (chunk : List ℕ) (from to : ℕ) → to ≤ from → slice_range chunk from to ≡ []
@@ -15,10 +16,11 @@ goes-over : (before after : Input) (bytes : List ℕ) → before.to ≤ before.f
 goes-over before after bytes over =
     (bytes ++ rest after, ap (λ (l : List ℕ). l ++ (bytes ++ rest after)) (range-none before.chunk before.from before.to over))
 
--- where nothing was left, all that is there came
-pub gives-fresh : (before after : Input) (given : Option ℕ) → before.to ≤ before.from → Gives before after given
-gives-fresh before after None over = goes-over before after [] over
-gives-fresh before after (Some byte) over = goes-over before after (byte ∷ []) over
+-- where nothing was left, all that is given came
+pub gives-fresh : (before between after : Input) (given : Option ℕ) → before.to ≤ before.from → Takes between after given → Gives before after given
+gives-fresh before between after None over takes =
+    (goes-over before after [] over, ap (λ (i : Input). rest i) takes.0 ∙ takes.1)
+gives-fresh before between after (Some byte) over takes = goes-over before after (byte ∷ []) over
 
 -- a peer's name with several pieces behind it
 pub kick-none : (name : List ℕ) (others : List (List ℕ)) → 1 ≤ length others → length others ≢ 1 → kick_of (name ∷ others) ≡ None

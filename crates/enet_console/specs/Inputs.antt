@@ -1,5 +1,5 @@
 -- Standard input: bytes come, and each is given once, in the order in which they came.
-use Rattle.std.specs.Prelude.{◌≡◌, ◌≢◌, ◌≤◌, ◌<◌, ℕ, Bool, true, false, if◌then◌else◌, nat_lt, List, [], ◌∷◌, ◌++◌, length, take, slice_range, Option, MatchOption, unwrap_or, Result, IfOk}
+use Rattle.std.specs.Prelude.{◌≡◌, ◌≢◌, ◌⊎◌, ◌≤◌, ◌<◌, ℕ, Bool, true, false, if◌then◌else◌, nat_lt, List, [], ◌∷◌, ◌++◌, length, take, slice_range, Option, MatchOption, unwrap_or, Result, IfOk}
 use Rattle.std.specs.declared.alloc.AllocError.{AllocError}
 use Rattle.enet_console.specs.declared.input.Input.{Input}
 use Rattle.enet_console.specs.declared.control.Control.{Control}
@@ -11,19 +11,9 @@ use Rattle.enet_console.specs.Words.{spells}
 abbrev pub rest : Input → List ℕ
 rest input = slice_range input.chunk input.from input.to
 
-abbrev pub IsUntouched : Input → Input → Type 0
-IsUntouched before after = (after.from ≡ before.from) × (after.to ≡ before.to)
-
 -- Bytes came behind what was there, and these went from the front of it all.
 abbrev pub Goes : Input → Input → List ℕ → Type 0
 Goes before after bytes = (came : List ℕ) × (rest before ++ came ≡ bytes ++ rest after)
-
-abbrev pub Gives : Input → Input → Option ℕ → Type 0
-Gives before after given = MatchOption given (Goes before after []) (λ byte. Goes before after (byte ∷ []))
-
--- The first of what was read and not given.
-abbrev pub Takes : Input → Input → Option ℕ → Type 0
-Takes before after given = MatchOption given (after ≡ before) (λ byte. before.from < before.to → rest before ≡ byte ∷ rest after)
 
 -- The line that is read begins with these bytes: they are kept, or are more than a line may have.
 abbrev pub IsKept : Bool → ℕ → List ℕ → List ℕ → Type 0
@@ -48,11 +38,15 @@ ReadsLine before after word =
     (more : List ℕ) × HasNoFeed more × Goes before.input after.input (more ++ (10 ∷ []))
     × ((begun : List ℕ) → Begins before begun → IfOk word (λ word. word ≡ meant (begun ++ more))) × Begins after []
 
--- No line ends yet.
-abbrev pub ReadsOn : Control → Control → Type 0
-ReadsOn before after =
-    (more : List ℕ) × HasNoFeed more × Goes before.input after.input more
+-- So many bytes are read, and no line ends yet.
+abbrev pub ReadsOn : ℕ → Control → Control → Type 0
+ReadsOn count before after =
+    (more : List ℕ) × HasNoFeed more × (length more ≡ count) × Goes before.input after.input more
     × ((begun : List ℕ) → Begins before begun → Begins after (begun ++ more))
 
+-- No line ends among all that was read, or among the 4,096 bytes at which a call looks at most.
+abbrev pub Pauses : Control → Control → Type 0
+Pauses before after = (count : ℕ) × ReadsOn count before after × ((rest after.input ≡ []) ⊎ (count ≡ 4096))
+
 abbrev pub Reads : Control → Control → Option (Result Word AllocError) → Type 0
-Reads before after read = MatchOption read (ReadsOn before after) (ReadsLine before after)
+Reads before after read = MatchOption read (Pauses before after) (ReadsLine before after)

@@ -1,3 +1,4 @@
 pub mod Words
 pub mod Inputs
 pub mod Outlets
+pub mod Private

@@ -10,7 +10,7 @@ misses lines outlet = record outlet { missed = min (outlet.missed + lines) 18446
 abbrev pub is_settled : Outlet → Outlet
 is_settled outlet = record outlet { missed = 0 }
 
--- A line was written behind what was to be told of those before it, or it is missed, too.
+-- What the count is where a line was written behind what was to be told of those before it, or where it is missed, too.
 abbrev pub TakesLine : Outlet → Outlet → Type 0
 TakesLine before after = (after ≡ is_settled before) ⊎ (after ≡ misses 1 before)
 

@@ -34,11 +34,12 @@ impl Control {
         }
     }
 
-    /// What the next line says that is there; None where none is there yet. An error where there is no memory for a text.
+    /// What the next line says that is there; None where none is there yet, or where 4,096 bytes more of one were read. An error where there
+    /// is no memory for a text.
     pub fn next(&mut self, alloc: Global) -> Option<Result<Word, AllocError>>
         ensures { Reads self.old self.new result }
     {
-        'bytes: for _ in 0..4 * LONGEST {
+        'bytes: for _count in 0..4 * LONGEST {
             match self.input.next()? {
                 b'\n' => return Some(self.end_line(alloc)),
                 byte => self.add(byte),

@@ -1,7 +1,8 @@
 //! Standard input, read without waiting.
 
 ghost use Rattle.std.specs.Prelude.{◌≡◌, List, ℕ, []};
-ghost use Rattle.enet_console.specs.Inputs.{Gives, Takes, rest, IsUntouched};
+ghost use Rattle.enet_console.specs.Inputs.{rest};
+ghost use Rattle.enet_console.specs.Private.Inputs.{Gives, Takes, IsUntouched};
 
 use libc::net::{POLLIN, poll};
 use libc::types::pollfd;

@@ -2,11 +2,13 @@
 //! input ([`Control`]), and lines of standard output and error that hold up nobody ([`Outlet`]).
 //!
 //! Proved, by the definitions of specs/: what a line says (`spells`), also one that is too long (`meant`); that of the bytes which come each is
-//! of one line, in order, in whatever pieces they come (`Control::next`, by `Reads`); how many lines weren't written, until that is told
+//! of one line, in order, in whatever pieces they come, and that a call gives no line only where nothing that was read is left, or 4,096 bytes
+//! had no end of one (`Control::next`, by `Reads`); that the count of lines which weren't written grows by one, or is told and begins anew
 //! (`Outlet::line` by `TakesLine`, `settle` by `Settles`, `miss`); of the rest that it is safe, and that each call returns.
 //! Only tested, by scripts/check-rows.sh: command lines and what each is answered; the lines of `serve --control`; that an output which takes
 //! nothing holds up nothing. By scripts/check-operator.sh: the same of standard error, and what the lines do to clients.
-//! Neither: which bytes the system gives, and what it is given.
+//! Neither: which bytes the system gives, and what it is given: so nor that a line was written where the count says so. One that the system
+//! fails to write isn't counted.
 #![tactic(auto)]
 
 mod admission;

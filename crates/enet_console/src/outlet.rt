@@ -18,7 +18,7 @@ pub enum Stream {
 }
 
 /// A stream to which lines are written only where it takes one at once. Of the others it is told later how many there were. A line that
-/// can't be written ends nothing.
+/// the system fails to write ends nothing, and isn't counted.
 #[derive(Drop)]
 pub struct Outlet {
     stream: Stream,

@@ -18,7 +18,8 @@ use Rattle.law_headline.specs.declared.node.Node.{Node}
 use Rattle.law_headline.specs.declared.node.Node.TheVariants.{Server, Client}
 use Rattle.enet_fleet.specs.Alone.{refused_call, call_of, at_node, calls_at, LeadAlone, EachAlone}
 use Rattle.law_headline.specs.Nets as nets
-use Rattle.enet_fleet.specs.Fleets.{Fleet, place_of, address_of, around, node_of, from_of, lacks, RefusesAt, RefusesIf, Refuses, Steps, Runs}
+use Rattle.enet_fleet.specs.Fleets.{Fleet, place_of, address_of, node_of, from_of, lacks, RefusesAt, RefusesIf, Refuses, Steps, Runs}
+use Rattle.enet_fleet.specs.Private.Around.{around}
 
 abbrev pub HappensAt : Node → Node → Happening → Fleet → Fleet → Type 0
 HappensAt n from what old new = nets.HappensAt address_of n from what old new

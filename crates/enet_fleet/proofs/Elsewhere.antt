@@ -34,7 +34,8 @@ use Rattle.enet_fleet.specs.declared.answer.Answer.{Answer}
 use Rattle.enet_fleet.specs.declared.answer.Answer.TheVariants as answers
 use Rattle.enet_fleet.specs.declared.event.FleetEvent.{FleetEvent}
 use Rattle.enet_fleet.specs.declared.event.FleetEvent.TheVariants as happen
-use Rattle.enet_fleet.specs.Fleets.{Fleet, place_of, address_of, far_address, around, asked_after, node_of, from_of, Steps, Runs, open_fleet}
+use Rattle.enet_fleet.specs.Fleets.{Fleet, place_of, address_of, far_address, asked_after, node_of, from_of, Steps, Runs, open_fleet}
+use Rattle.enet_fleet.specs.Private.Around.{around}
 use Rattle.enet_fleet.specs.Headline.{HasHeadline}
 use Rattle.enet_fleet.specs.Transcript.{Happened, IsOnTranscript, is_node, places, placed, asked}
 use Rattle.enet_fleet.proofs.Places.{apart, Sound}

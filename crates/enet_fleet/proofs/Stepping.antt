@@ -37,7 +37,8 @@ use Rattle.enet_fleet.specs.declared.event.FleetEvent.{FleetEvent}
 use Rattle.enet_fleet.specs.declared.event.FleetEvent.TheVariants as happen
 use Rattle.law_headline.specs.declared.node.Node.{Node}
 use Rattle.law_headline.specs.declared.node.Node.TheVariants.{Server, Client}
-use Rattle.enet_fleet.specs.Fleets.{Fleet, place_of, with_place, address_of, is_host, numbers_far, around, asked_after, sent_if, sent_after, HappensAt, logged_to, next_number, brings, lacks, RefusesAt, RefusesTakeAt, refused_there, refused_delivery, RefusesThere, RefusesIf, Refuses, IsFrom, Steps}
+use Rattle.enet_fleet.specs.Fleets.{Fleet, place_of, with_place, address_of, is_host, numbers_far, asked_after, sent_if, sent_after, HappensAt, logged_to, next_number, brings, lacks, RefusesAt, RefusesTakeAt, refused_there, refused_delivery, RefusesThere, RefusesIf, Refuses, IsFrom, Steps}
+use Rattle.enet_fleet.specs.Private.Around.{around}
 use Rattle.enet_fleet.specs.Private.Turning.{PutsOutByTurn, sent_of}
 use Rattle.enet_fleet.proofs.Runs.{is_connect}
 

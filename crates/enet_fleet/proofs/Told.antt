@@ -29,7 +29,8 @@ use Rattle.law_headline.specs.declared.node.Node.{Node}
 use Rattle.law_headline.specs.declared.node.Node.TheVariants.{Server, Client}
 use Rattle.enet_fleet.specs.declared.event.FleetEvent.{FleetEvent}
 use Rattle.enet_fleet.specs.declared.event.FleetEvent.TheVariants as happen
-use Rattle.enet_fleet.specs.Fleets.{Fleet, place_of, with_place, is_host, address_of, around, asked_after, node_of, from_of, Makes, Steps, Runs, open_fleet}
+use Rattle.enet_fleet.specs.Fleets.{Fleet, place_of, with_place, is_host, address_of, asked_after, node_of, from_of, Makes, Steps, Runs, open_fleet}
+use Rattle.enet_fleet.specs.Private.Around.{around}
 use Rattle.law_headline.specs.Nets as nets
 use Rattle.law_headline.proofs.Net as net
 use Rattle.enet_fleet.proofs.Places.{apart, Sound}

@@ -1,5 +1,5 @@
 -- A server and its clients, with strangers around them, and the events of such a fleet one by one.
-use Rattle.std.specs.Prelude.{◌≡◌, ℕ, ◌+◌, ◌==◌, ◌&&◌, ◌||◌, nat_le, nat_lt, Bool, true, false, if◌then◌else◌, List, [], ◌∷◌, ◌++◌, length, take, Option, Some, None, is_none, Result, Ok, Err, slice_get, slice_set}
+use Rattle.std.specs.Prelude.{◌≡◌, ℕ, ◌+◌, ◌||◌, Bool, true, false, if◌then◌else◌, List, [], ◌∷◌, ◌++◌, length, take, Option, Some, None, is_none, Result, Ok, Err, slice_get}
 use Rattle.std.specs.Option.{option_map, option_and_then, option_flatten}
 use Rattle.enet_codec.specs.declared.address.Addr.{Addr}
 use Rattle.enet_codec.specs.declared.config.Config.{Config}
@@ -15,13 +15,13 @@ use Rattle.law_network.specs.Calls as call
 use Rattle.enet_fleet.specs.declared.answer.Answer.{Answer}
 use Rattle.enet_fleet.specs.declared.answer.Answer.TheVariants as answers
 use Rattle.law_network.specs.Log.{Logged}
-use Rattle.law_network.specs.Network.{Site, numbers_of, delivery_refusal}
+use Rattle.law_network.specs.Network.{Site, delivery_refusal}
 use Rattle.law_network.specs.Running.{RunsBy}
-use Rattle.law_network.specs.Steps.{Around, Happening, Calls, Delivers, HappensAmong}
+use Rattle.law_network.specs.Steps.{Happening, Calls, Delivers}
 use Rattle.law_network.specs.World.{IsRefusedFor, RefusesCall, RefusesTake}
 use Rattle.enet_site.specs.declared.put_out.Sent.{Sent}
 use Rattle.enet_site.specs.declared.put_out.Sent.TheVariants.{Of, Away}
-use Rattle.enet_site.specs.Places.{Place, opened_at, all_opened}
+use Rattle.enet_site.specs.Places.{Place}
 use Rattle.law_headline.specs.declared.node.Node.{Node}
 use Rattle.law_headline.specs.declared.node.Node.TheVariants.{Server, Client}
 use Rattle.law_headline.specs.Nets as nets
@@ -46,9 +46,6 @@ far_address f (Client i) x = Some (address_of Server)
 -- whether a host is at an address where there are so many clients
 abbrev pub is_host : ℕ → Addr → Bool
 is_host clients a = nets.is_host address_of clients a
-
-abbrev pub around : Fleet → Node → Around
-around f n = nets.around address_of f n
 
 -- what a host has put out after a call of service that gave a datagram
 abbrev pub sent_if : Bool → PeerRef × Addr × ℕ → List ℕ → Place → List Sent

@@ -3,3 +3,4 @@ pub mod Turning
 pub mod Places
 pub mod Reached
 pub mod Lending
+pub mod Around

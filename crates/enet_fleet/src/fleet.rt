@@ -7,6 +7,7 @@ ghost use Rattle.enet_codec.specs.Config.{is_in_range};
 ghost use Rattle.law_network.specs.Headline.{submitted_at, taken_at, events_at};
 ghost use Rattle.enet_fleet.specs.Transcript.{IsOnEachFront};
 ghost use Rattle.enet_fleet.specs.Fleets.{Fleet as AllHosts, Steps, Runs, open_fleet, place_of, sent_by};
+ghost use Rattle.enet_fleet.specs.Ends.{EachIsOneEnd};
 ghost use Rattle.enet_fleet.specs.Headline.{HasHeadline, end_at, far_end};
 ghost use Rattle.enet_fleet.specs.Reached.{fit};
 
@@ -112,6 +113,12 @@ impl Fleet {
     /// server's user has the peer of a connection for which that client asked, at the server's a client's user that of one for which it
     /// asked, and neither has anybody else at a host's address, nor the peer of a connection elsewhere. At a host where no stranger's
     /// datagram was taken in, all that was taken is of these connections.
+    ///
+    /// `ends`: each peer of each host is one end, by the calls that these events make at the host (`calls_at`), whoever is at the other, a
+    /// stranger too. What the host's user took of it on a channel was carried by commands in datagrams that came since its connection began,
+    /// from the address that the host has for it: the reliable packets have all numbers from 1 on, and each packet is whole. If the other end
+    /// keeps the rules of the wire, it follows what that end sent. Each datagram that the host put out for it went there, with commands of what
+    /// the user submitted to it, under their numbers (`IsEnd` of `law_one_end`).
     pub fn play(
         alloc: Global,
         server: Config,
@@ -122,6 +129,7 @@ impl Fleet {
         ensures in_range { fit server clients.now ≡ true → IfErr result (λ why. why ≡ Refusal.Memory) }
         ensures steps { IfOk result (λ answers. (f : AllHosts) × Runs (open_fleet server clients.now) events.now answers.items f) }
         ensures headline { IfOk result (λ answers. IsOnEachFront (length clients.now) (zip events.now answers.items)) }
+        ensures ends { IfOk result (λ answers. EachIsOneEnd server clients.now events.now answers.items) }
     {
         let mut fleet = Fleet::open(alloc, server, clients)?;
         let answers = fleet.run(events);

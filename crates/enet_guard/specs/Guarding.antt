@@ -67,6 +67,10 @@ may_pass g from connect_id = not (list_any (λ ip. eqb ip from.ip) g.banned) && 
 abbrev pub later : ℕ → ℕ → ℕ
 later clock ms = min (clock + ms) 18446744073709551615
 
+-- whether one passes that did not pass before: only it is noted, which takes memory
+abbrev pub is_new : Guarding → Addr → ℕ → Bool
+is_new g from connect_id = may_pass g from connect_id && not (is_again g from connect_id)
+
 -- a CONNECT that passed counts as half-open for 8 seconds, and as recent for one
 abbrev pub noted : Guarding → Addr → ℕ → Guarding
 noted g from connect_id = record g {
@@ -108,3 +112,15 @@ is_known (Some (Some before)) (Some there) = is_same before there
 
 abbrev pub seated : Guarding → ℕ → Option Seated → Guarding
 seated g slot there = if is_known (slice_get g.seats slot) there then g else seated_now g slot there
+
+-- who is connected in these slots, one after another
+abbrev pub Learns : Guarding → List (ℕ × Option Seated) → Guarding → Type 0
+Learns old [] new = new ≡ old
+Learns old (t ∷ ts) new = Learns (seated old t.0 t.1) ts new
+
+abbrev pub HasLearned : Guarding → Guarding → Type 0
+HasLearned old new = (ts : List (ℕ × Option Seated)) × Learns old ts new
+
+-- a wait of so many milliseconds: time goes on, and the guard is told who is connected in some slots
+abbrev pub Waits : Guarding → ℕ → Guarding → Type 0
+Waits old ms new = HasLearned (record old { clock = later old.clock ms }) new

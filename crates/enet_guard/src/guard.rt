@@ -81,10 +81,10 @@ impl Model for Guard {
 }
 
 impl Guard {
-    ghost use Rattle.std.specs.Prelude.{◌≡◌, ◌++◌, ◌∷◌, [], OnOk, OnErr, IfOk, IfErr, count_by};
+    ghost use Rattle.std.specs.Prelude.{◌≡◌, ◌++◌, ◌∷◌, [], true, OnOk, OnErr, IfOk, IfErr, count_by};
     ghost use Rattle.std.specs.List.{filter, list_any};
     ghost use Rattle.std.specs.Prelude.{eqb};
-    ghost use Rattle.enet_guard.specs.Guarding.{new_guard, has_no_rule, forgotten, Judges, noted, is_again, has_room, is_other, peers_at, later, seated};
+    ghost use Rattle.enet_guard.specs.Guarding.{new_guard, has_no_rule, forgotten, Judges, noted, is_again, is_new, has_room, is_other, peers_at, later, seated};
 
     /// A guard with these rules for a host of so many slots, to which nothing came. E1 for want of memory.
     pub fn new(alloc: Global, rules: Rules, slots: u16) -> Result<Guard, Refusal>
@@ -160,10 +160,11 @@ impl Guard {
 
     /// Whether a CONNECT from there, with this connect id, passes; then it counts. One that comes again counts once.
     ///
-    /// E1 for want of memory: then it is to be passed over, and doesn't count.
+    /// E1 for want of memory, only of one that passes and didn't before: then it is to be passed over, and doesn't count.
     pub fn lets_pass(&mut self, from: Addr, connect_id: u32) -> Result<bool, Refusal>
         ensures judged { IfOk result (λ passes. Judges self.old from connect_id passes self.new) }
         ensures memory { IfErr result (λ why. why ≡ Refusal.Memory) }
+        ensures needed { OnErr result (is_new (forgotten self.old) from connect_id ≡ true) }
         ensures same { OnErr result (self.new ≡ forgotten self.old) }
     {
         self.forget();

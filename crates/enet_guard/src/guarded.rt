@@ -1,6 +1,7 @@
 //! A wire behind a guard.
 ghost use Rattle.std.specs.Prelude.{◌≡◌, ◌≤◌, true, false, None, Ok, IfOk, IfSome, IfErr};
 ghost use Rattle.enet_wire.specs.Wires.{faults_after, last_fault};
+ghost use Rattle.enet_guard.specs.Guarding.{HasLearned};
 ghost use Rattle.enet_guard.specs.Passing.{Lets, Refuses, Receives};
 
 use crate::asking::asks;
@@ -61,8 +62,9 @@ impl<N: Drop> Guarded<N> {
 }
 
 impl<N: Wire> Wire for Guarded<N> {
-    ghost use Rattle.std.specs.Prelude.{◌≡◌, ◌≤◌, ◌++◌, Some, None, Ok, false, IfOk, IfSome, IfErr};
+    ghost use Rattle.std.specs.Prelude.{◌≡◌, ◌≤◌, ◌++◌, Some, None, Ok, false, IfOk, IfSome, IfErr, OnErr};
     ghost use Rattle.enet_wire.specs.Wires.{also, came, went, waited, unless_spent, faults_after, last_fault};
+    ghost use Rattle.enet_guard.specs.Guarding.{Waits};
     ghost use Rattle.enet_guard.specs.Passing.{Receives};
     ghost use Rattle.enet_guard.specs.Journals.{told_of};
 
@@ -118,13 +120,15 @@ impl<N: Wire> Wire for Guarded<N> {
         Ok(taken)
     }
 
-    /// As the wire behind the guard does.
+    /// As the wire behind the guard does. Time goes on for the guard, and it is told who is connected; its rules and whom it bans stay.
     fn wait<R: Wait + Clock>(&mut self, rt: &R) -> Result<u32, Refusal>
         ensures told { told_of self.new ≡ told_of self.old ++ unless_spent (N.faults self.old.wire) (waited result) }
         ensures fault { IfErr result (λ why. why ≡ Refusal.WireFault) }
         ensures faults { N.faults self.new.wire ≡ faults_after (N.faults self.old.wire) result }
         ensures spent { N.faults self.old.wire ≡ last_fault → result ≡ Ok 0 }
         ensures waits { N.told self.new.wire ≡ also (N.told self.old.wire) (unless_spent (N.faults self.old.wire) (waited result)) }
+        ensures guard { IfOk result (λ ms. Waits self.old.guard ms self.new.guard) }
+        ensures same { OnErr result (self.new.guard ≡ self.old.guard) }
     {
         let spent = self.wire.failures() == u64::MAX;
         let ms = self.wire.wait(rt)?;
@@ -183,7 +187,9 @@ fn judge(guard: &mut Guard, from: Addr, bytes: &[u8]) -> bool
 }
 
 // Has the guard know who is connected in each slot.
-fn learn(guard: &mut Guard, register: &Register) {
+fn learn(guard: &mut Guard, register: &Register)
+    ensures { HasLearned guard.old guard.new }
+{
     for slot in 0..register.len() {
         guard.seat(slot, register.seated(slot));
     }

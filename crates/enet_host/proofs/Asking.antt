@@ -72,14 +72,14 @@ all-asked-more now n from k number old new after f count inside place asked p = 
     (nat_eq i number) refl
 
 -- those that sleep are as good as asked
-pub all-passed : (now n from k m : ℕ) (v : Noted) (old new : List SlotState) → length old ≡ n → KeepsSleepers now v old → PassesTurns v.awake n from k m → k ≤ m
+pub all-passed : (now n from k m : ℕ) (v : Noted) (old new : List SlotState) → length old ≡ n → KeepsSleepers now v new → PassesTurns v.awake n from k m → k ≤ m
     → AllAsked now n from k old new → AllAsked now n from m old new
 all-passed now n from k m v old new count kept passes more asked = λ i s t a b.
     let inside : i < n = subst (λ (c : ℕ). i < c) count (slice_get_within old i s a) in
     record {
       before = λ less. elim (cases_lt (turn_of n from i) k) [
         | inl earlier ↦ (asked i s t a b).before earlier
-        | inr later ↦ subst (λ (u : SlotState). Passes now s u) (sym ((asked i s t a b).after later)) (passes-waiting now s (sleeps-waits v i s (kept.asleep i s a (passes i inside later less))))
+        | inr later ↦ subst (λ (u : SlotState). Passes now u t) ((asked i s t a b).after later) (passes-waiting now t (sleeps-waits v i t (kept.asleep i t b (passes i inside later less))))
       ];
       after = λ past. (asked i s t a b).after (omega (arith, past, more));
     }

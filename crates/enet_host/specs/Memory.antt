@@ -1,5 +1,7 @@
--- How many bytes a host holds, and how many at most. What one of each kind takes is at least what the allocator gave for it, as
--- scripts/check-memory.sh counts it.
+-- How many bytes a host holds, and how many at most: for what others sent, and for what is queued or unacknowledged. What one of each kind
+-- takes is at least what the allocator gave for it, as scripts/check-memory.sh counts it. Lists keep the room that they had, which counts
+-- only as far as the bound has it for what others sent: of commands until an acknowledgement leaves none, of unsequenced packets (up to
+-- 160 bytes each), and of the queue of a channel whose packets ask for no acknowledgement (8), until the slot is free.
 use Rattle.std.specs.Prelude.{◌≡◌, ℕ, ◌+◌, ◌*◌, ◌==◌, ◌&&◌, Bool, false, not, if◌then◌else◌, Option, Some, None, List, [], ◌∷◌, length, map, sum_by}
 use Rattle.enet_codec.specs.declared.command.Fragment.{Fragment}
 use Rattle.enet_codec.specs.declared.config.Config.{Config}
@@ -20,17 +22,18 @@ use Rattle.enet_host.specs.Held.{held_by, most_held}
 abbrev pub host_takes : ℕ
 host_takes = 4096
 
--- a slot, free or not: its peer's numbers, the marks of 1,024 unsequenced groups, the lists of channel 0xFF, its part in the host's lists
+-- a slot, free or not: its peer's numbers, the marks of 1,024 unsequenced groups, the lists of channel 0xFF, its part in the host's lists,
+-- and the room for 16 commands that it keeps where there are none
 abbrev pub slot_takes : ℕ
-slot_takes = 1536
+slot_takes = 3584
 
 -- a channel on which packets come: its receiver, the marks of eight blocks of numbers that are held, and room to dispatch 64 packets
 abbrev pub channel_takes : ℕ
 channel_takes = 9216
 
--- a channel on which others are sent to, with its lists of numbers
+-- a channel on which others are sent to, with its lists of numbers, which keep room for 16 each
 abbrev pub sender_takes : ℕ
-sender_takes = 192
+sender_takes = 288
 
 -- a packet that came: its place among those that the user can take, and the frame of its body
 abbrev pub packet_takes : ℕ
@@ -56,8 +59,8 @@ memory_of_held h =
     + h.packets * packet_takes + h.undispatched * undispatched_takes + h.bytes
     + h.acknowledgements * acknowledgement_takes
 
--- What this end brought about itself: the channels of its peers, which it granted or asked for, and what its user submitted and nobody
--- acknowledged.
+-- What this end brought about itself: the channels of its peers, which it granted or asked for, and what is queued or unacknowledged, which
+-- its user submitted but for the commands of channel 0xFF.
 pub record Own : Type 0 where
   pub channels : ℕ
   pub senders : ℕ
@@ -94,7 +97,7 @@ sending_bytes e = bytes_after None e.sender.queued + bytes_after None (map (λ (
 abbrev pub sending_commands : SendingEnd → ℕ
 sending_commands e = length e.sender.queued + length e.sender.sent
 
--- what a peer has to send, or has sent and nobody acknowledged
+-- what a peer has queued or unacknowledged
 abbrev pub commands_of : Outbox → ℕ
 commands_of o = sum_by sending_commands o.senders + length o.unsequenced + length o.control.queued + length o.control.sent
 

@@ -36,10 +36,11 @@ fn emit_from(
     Some((name, address, len))
 }
 
-/// Asks one slot after another for a datagram at the time `now`, up to the first that has one. Those that sleep have none.
+/// Asks one slot after another for a datagram at the time `now`, up to the first that has one. Those that sleep have none; each
+/// that was asked may fall asleep, if it has nothing more to do.
 pub(crate) fn emit(
     slots: &mut Vec<Slot>,
-    sleepers: &Sleepers,
+    sleepers: &mut Sleepers,
     peers: u16,
     from: u16,
     now: u32,
@@ -47,20 +48,22 @@ pub(crate) fn emit(
 ) -> Option<(PeerRef, Addr, usize)>
     requires within { from < peers }
     requires all { length slots.old.items ≡ peers }
-    requires sleepers { KeepsSleepers now sleepers.now (all_shown slots.old.items) }
+    requires sleepers { KeepsSleepers now sleepers.old (all_shown slots.old.items) }
     ensures gives { IfSome result (λ gave. EmitsInTurn now from (all_shown slots.old.items) (served_of gave buf.new) (all_shown slots.new.items)) }
     ensures passes { IfNone result (AllPass now (all_shown slots.old.items) (all_shown slots.new.items)) }
     ensures within { IfSome result (λ gave. gave.0.slot < peers) }
     ensures fits { IfSome result (λ gave. gave.2 ≤ 4096) }
     ensures count { length slots.new.items ≡ length slots.old.items }
-    ensures sleepers { KeepsSleepers now sleepers.now (all_shown slots.new.items) }
+    ensures sleepers { KeepsSleepers now sleepers.new (all_shown slots.new.items) }
 {
     let mut turn = next_turn(sleepers, peers, from, 0);
     while turn < peers {
         let number = slot_of_turn(peers, from, turn);
         if let Some(sent) = emit_from(slots, number, now, buf) {
+            sleepers.rest(slots, usize::from(number), now);
             return Some(sent);
         }
+        sleepers.rest(slots, usize::from(number), now);
         turn = next_turn(sleepers, peers, from, turn + 1);
     }
     None

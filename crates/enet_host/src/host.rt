@@ -184,7 +184,7 @@ impl HostCore {
     {
         let Some(sent) = emit(
             &mut self.slots,
-            &self.sleepers,
+            &mut self.sleepers,
             self.start.config.peers,
             self.service_from,
             self.start.clock,

@@ -25,8 +25,8 @@
 //! - `held` counts what the host holds of what others sent (`held_by`). Whatever datagrams come, and whether or not its user takes, that is
 //!   no more than `most_held` of its settings: each peer has their limits (`AreLimited`, by the invariant of `HostCore`).
 //! - `memory_held` tells how many bytes that takes, with the slots, as one of each kind takes so many (`memory_with`, specs/Memory), and
-//!   `most_memory_held` how many it is at most. All that a host holds, `memory_of`, is within `memory_bound` of its settings and of what its
-//!   own user submitted.
+//!   `most_memory_held` how many it is at most. All that a host holds, `memory_of`, is within `memory_bound` of its settings and of what is
+//!   queued or unacknowledged.
 //!
 //! Of every host: no slot holds a peer that is free (`HostCore::keeps`). By the invariant of `HostCore` a slot that sleeps has nothing to
 //! put out or to tell, and it is noted when time brings it something (`KeepsSleepers` of `enet_sleepers`). Want of memory, of which no

@@ -13,13 +13,13 @@ use enet_peer::Held;
 const HOST: u64 = 4_096;
 
 /// What a slot takes, free or not.
-const SLOT: u64 = 1_536;
+const SLOT: u64 = 3_584;
 
 /// What a channel takes on which packets come.
 const CHANNEL: u64 = 9_216;
 
 /// What a channel takes on which others are sent to.
-const SENDER: u64 = 192;
+const SENDER: u64 = 288;
 
 /// What a packet takes that came, beside its bytes.
 const PACKET: u64 = 192;
@@ -61,10 +61,11 @@ fn most_of(max_packet: u32, max_waiting: u32) -> Held
 }
 
 impl HostCore {
-    /// How many bytes it holds at most, but for what its own user submitted: each thing counts as many as one of its kind takes
+    /// How many bytes it holds at most, but for what is queued or unacknowledged: each thing counts as many as one of its kind takes
     /// (specs/Memory). Whatever datagrams came, from whomever and in whatever order, and whether or not the user takes, that is no more
-    /// than the settings allow; and all that the host holds is no more than that and what its user submitted and nobody acknowledged.
-    /// Lists may have more room than what is in them needs, for as much as ever was in them at once. Each slot is looked at.
+    /// than the settings allow; and all that the host holds is no more than that and what is queued or unacknowledged. Lists may have more
+    /// room than what is in them needs, for as much as ever was in them at once; of commands, until an acknowledgement leaves none. Each slot
+    /// is looked at.
     pub fn memory_held(&self) -> u64
         ensures value { result ≡ memory_with (length self.now.slots) (held_by self.now.slots) }
         ensures most { result ≤ memory_with self.now.config.peers (most_held self.now.config) }

@@ -15,7 +15,7 @@ ghost use Rattle.enet_inbox.specs.Private.InboxParts.{met_by, FindsRoom};
 
 use crate::arriving::{Foreseen, acknowledges, finds_no_room, seen};
 use crate::receivers::{
-    clear_all, give_way, give_way_but, held_in, open_all, packets_in, waiting_in,
+    clear_all, give_way, give_way_but, held_in, keep_first, open_all, packets_in, waiting_in,
     waiting_packets_in,
 };
 use crate::taking::{append, take_in, take_in_at_once, take_in_instead};
@@ -256,7 +256,7 @@ impl Inbox {
         if channels < self.receivers.len() {
             self.waiting -= held_in(&self.receivers[channels..]);
             self.packets -= packets_in(&self.receivers[channels..]);
-            self.receivers.truncate(channels);
+            keep_first(&mut self.receivers, channels);
         }
     }
 

@@ -1,6 +1,6 @@
 //! A peer's receivers, by channel.
 
-ghost use Rattle.std.specs.Prelude.{◌≡◌, ◌^◌, ◌<◌, map, IfOk, IfErr};
+ghost use Rattle.std.specs.Prelude.{◌≡◌, ◌^◌, ◌<◌, map, take, IfOk, IfErr};
 ghost use Rattle.std.specs.List.{range_with_len};
 ghost use Rattle.enet_receiver.specs.Foresight.{new_end};
 ghost use Rattle.enet_inbox.specs.Inbox.{cleared_receiver, given_way_receiver};
@@ -116,4 +116,12 @@ pub(crate) fn clear_all(receivers: &mut Vec<Incoming>)
         let receiver = &mut receivers[channel];
         receiver.clear();
     }
+}
+
+/// Keeps so many receivers, the first ones, and room for no more.
+pub(crate) fn keep_first(receivers: &mut Vec<Incoming>, count: usize)
+    ensures { receivers.new.items ≡ take count receivers.old.items }
+{
+    receivers.truncate(count);
+    receivers.shrink_to_fit();
 }

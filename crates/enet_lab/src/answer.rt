@@ -96,6 +96,7 @@ fn share_text(alloc: Global, share: Share) -> Result<String, AllocError>
         sent,
         refused,
         taken,
+        ..
     } = share;
     format!(in alloc; "sent {sent} refused {refused} taken {taken}")
 }

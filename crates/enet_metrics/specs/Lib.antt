@@ -3,4 +3,4 @@ pub mod Trips
 pub mod Readings
 pub mod Questions
 pub mod Answers
-pub mod Figures
+pub mod Private

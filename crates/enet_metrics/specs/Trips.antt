@@ -1,5 +1,5 @@
 -- Round trips, in buckets by their lengths.
-use Rattle.std.specs.Prelude.{ℕ, ◌+◌, min, nat_lt, if◌then◌else◌, List, [], ◌∷◌, ◌++◌, codes, get_or}
+use Rattle.std.specs.Prelude.{ℕ, ◌+◌, min, nat_lt, List, [], ◌∷◌, ◌++◌, codes, get_or}
 use Rattle.std.specs.List.{count_by}
 use Rattle.std.specs.Fmt.{decimal}
 use Rattle.enet_metrics.specs.declared.trips.Trips.{Trips}
@@ -12,9 +12,6 @@ bounds = 1 ∷ 2 ∷ 5 ∷ 10 ∷ 20 ∷ 50 ∷ 100 ∷ 200 ∷ 500 ∷ 1000 ∷
 -- the bucket of a round trip: how many bounds it is above
 unfoldable pub bucket_of : ℕ → ℕ
 bucket_of ms = count_by (λ bound. nat_lt bound ms) bounds
-
-abbrev pub one_above : ℕ → ℕ → ℕ
-one_above ms bound = if nat_lt bound ms then 1 else 0
 
 -- the same bounds in seconds, as they are told
 abbrev pub bound_texts : List (List ℕ)

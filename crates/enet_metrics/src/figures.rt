@@ -1,7 +1,7 @@
 //! What is known of a service, for two threads.
 
 ghost use Rattle.std.specs.Prelude.{◌≡◌};
-ghost use Rattle.enet_metrics.specs.Figures.{standing_in};
+ghost use Rattle.enet_metrics.specs.Private.Figures.{standing_in};
 
 use crate::reading::{Reading, Standing};
 use crate::trips::{BUCKETS, Trips, bucket_of};

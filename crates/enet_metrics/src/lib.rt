@@ -7,7 +7,8 @@
 //! that each call but the two that wait returns.
 //! Only tested, by scripts/check-metrics.sh: what the page says, beside what clients counted; that a client which says nothing, or reads
 //! nothing, holds up neither another one nor the server; that `/healthz` tells of a service that doesn't look.
-//! Neither: that the numbers of one page are of one moment.
+//! Neither: that a figure which is read is one that was stored, and stored in its place: cells that threads share say nothing of what is in
+//! them. Nor that the numbers of one page are of one moment.
 #![tactic(auto)]
 
 mod answering;

@@ -2,7 +2,8 @@
 
 ghost use Rattle.std.specs.Prelude.{◌≡◌, ◌≤◌, ◌++◌, length, IfOk, OnOk};
 ghost use Rattle.std.specs.String.{string_bytes};
-ghost use Rattle.enet_metrics.specs.Trips.{bucket_of, bound_text, bucket_line, buckets_from, total_from, capped, trips_text, one_above};
+ghost use Rattle.enet_metrics.specs.Trips.{bucket_of, bound_text, bucket_line, buckets_from, total_from, capped, trips_text};
+ghost use Rattle.enet_metrics.specs.Private.Trips.{one_above};
 
 use crate::text::{push_head, push_line, push_seconds};
 use std::alloc::AllocError;

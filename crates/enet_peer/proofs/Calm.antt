@@ -1,5 +1,6 @@
 -- A moment that brings a peer nothing.
-use Rattle.std.proofs.Common.{◌≡◌, ℕ, Bool, true, false, ◌||◌, ◌&&◌, if◌then◌else◌, refl, ap, ◌∙◌}
+use Rattle.std.proofs.Common.{◌≡◌, ℕ, ◌≤◌, Bool, true, false, ◌||◌, ◌&&◌, if◌then◌else◌, refl, ap, ap₂, ◌∙◌, arith}
+use Rattle.enet_rtt.specs.Clock.{HappensIn}
 use Rattle.enet_rtt.specs.declared.expiry.Expiry.{Expiry}
 use Rattle.enet_senders.specs.declared.control.Control.TheVariants as control
 use Rattle.enet_outbox.specs.Outbox.{has_late, with_control}
@@ -30,3 +31,16 @@ pub some-pinged : (connected quiet passed : Bool) → (connected && quiet) ≡ t
 some-pinged true true passed e = refl
 some-pinged true false passed e = absurd (let y : false ≡ true = e in cc)
 some-pinged false quiet passed e = absurd (let y : false ≡ true = e in cc)
+
+not-pinged : (connected quiet passed : Bool) → passed ≡ false → (connected && quiet && passed) ≡ false
+not-pinged true true passed e = e
+not-pinged true false passed e = refl
+not-pinged false quiet passed e = refl
+
+-- what is late by the time that a ping could be wanted comes first
+pub late-first : (late passed : ℕ → Bool) (connected quiet : Bool) (now a b : ℕ) → HappensIn late now a → HappensIn passed now b → a ≤ b
+    → HappensIn (λ (later : ℕ). late later || (connected && quiet && passed later)) now a
+late-first late passed connected quiet now a b h k sooner = record {
+  before = λ later l less. ap₂ (λ (x y : Bool). x || y) (h.before later l less) (not-pinged connected quiet (passed later) (k.before later l (omega arith)));
+  first = λ some later l is. ap (λ (x : Bool). x || (connected && quiet && passed later)) (h.first some later l is);
+}

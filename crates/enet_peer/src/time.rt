@@ -1,6 +1,6 @@
 //! What a moment brings.
 
-ghost use Rattle.std.specs.Prelude.{◌≡◌, ℕ, ◌≤◌, ◌<◌, ◌^◌, ◌&&◌, IsTrue};
+ghost use Rattle.std.specs.Prelude.{◌≡◌, ℕ, ◌≤◌, ◌<◌, ◌^◌, ◌&&◌, nat_le, IsTrue};
 ghost use Rattle.enet_rtt.specs.Clock.{elapsed_time, HappensIn};
 ghost use Rattle.enet_outbox.specs.Outbox.{has_nothing_reliable};
 ghost use Rattle.enet_peer.specs.Endings.{cut_off};
@@ -30,7 +30,17 @@ impl Peer {
         ensures calm { (later : ℕ) → later < 2 ^ 32 → elapsed_time later now < result → ticked self.now.peer later ≡ self.now.peer }
     {
         let late = self.outbox.next_late(now);
+        if late <= self.silent_in(now) {
+            return late;
+        }
         late.min(self.pinged_in(now))
+    }
+
+    /// In how many milliseconds after the moment `now` nothing was heard for the ping interval, if nothing comes before that.
+    fn silent_in(&self, now: u32) -> u32
+        ensures { HappensIn (λ (later : ℕ). nat_le self.now.peer.ping_interval (elapsed_time later self.now.peer.heard)) now result }
+    {
+        self.ping_interval.saturating_sub(elapsed(now, self.heard))
     }
 
     /// In how many milliseconds after the moment `now` a PING is wanted, if nothing comes before that.
@@ -38,7 +48,7 @@ impl Peer {
         ensures { HappensIn (is_pinged self.now.peer) now result }
     {
         if self.awaits_ping() {
-            return self.ping_interval.saturating_sub(elapsed(now, self.heard));
+            return self.silent_in(now);
         }
         u32::MAX
     }

@@ -1,7 +1,7 @@
 //! One end of a connection, as its host's side keeps it.
 
 ghost use Rattle.std.specs.Prelude.{◌≡◌, ◌==◌, ◌<◌, length, IfSome};
-ghost use Rattle.std.specs.Option.{option_copied};
+ghost use Rattle.std.specs.Option.{option_copied, option_map};
 ghost use Rattle.std.specs.List.{position};
 ghost use Rattle.law_network.specs.Log.{packets_at};
 ghost use Rattle.law_network.specs.Network.{HostEnd, is_same_name, end_of, numbers_in};
@@ -111,6 +111,13 @@ fn end_of(ends: &[End], connection: u64) -> Option<&End>
 {
     let place = place_of_connection(ends, connection)?;
     Some(&ends[place])
+}
+
+/// What the host calls the peer of the end of this connection; None where there is no such end.
+pub fn peer_of(ends: &[End], connection: u64) -> Option<PeerRef>
+    ensures { result ≡ option_map (λ e. e.name) (end_of connection ends.now) }
+{
+    Some(end_of(ends, connection)?.name)
 }
 
 /// The greatest numbers that were sent at the end of this connection, by channel; empty where there is no such end.

@@ -6,7 +6,7 @@
 //! Proved, without a premise but those that are named: `Records::open`, `Records::joined` and `fresh_end` give the stated first
 //! states. `note` counts the commands of a datagram at its end and marks them as its bytes spell them (`Notes`).
 //! `End::keep_packet` keeps a packet that is taken as the network's definition says (`with_event`). `comes_late` is the network's
-//! test for lateness. What was submitted and taken, events and numbers are lent by connection and channel as they are. Of all that
+//! test for lateness. What was submitted and taken, events, numbers and names are lent by connection and channel as they are. Of all that
 //! is kept `AreKept` holds: an end has 256 channels and numbers, which stay far below 128 bits, and no two ends have one name.
 //! Only tested, by scripts/rows and `check_lists`, through `enet_world`: that calls succeed with ample memory.
 #![tactic(auto)]
@@ -21,7 +21,7 @@ mod opening;
 mod records;
 
 pub use around::Around;
-pub use end::{Channel, End, events, numbers_of, position_of, submitted, taken};
+pub use end::{Channel, End, events, numbers_of, peer_of, position_of, submitted, taken};
 pub use lateness::comes_late;
 pub use marks::MAX_COMMANDS;
 pub use opening::fresh_end;

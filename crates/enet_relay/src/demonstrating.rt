@@ -3,7 +3,7 @@
 use crate::failure::Failure;
 use enet_codec::Addr;
 use enet_console::DemoOptions;
-use enet_serve::Demonstration;
+use enet_demo::Demonstration;
 use std::net::Net;
 use std::rt::Clock;
 use std::sync::Wait;
@@ -22,7 +22,7 @@ where
         turns: options.turns,
         server: options.port.map(|port| Addr { ip: HERE, port }),
     };
-    let visits = enet_serve::demonstrate(rt, shown)?;
+    let visits = enet_demo::demonstrate(rt, shown)?;
     for (client, visit) in visits.iter().enumerate() {
         let received = visit.received;
         println!(rt; "client {client} got {received}").map_err(|_| Failure::Io)?;

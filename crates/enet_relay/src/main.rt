@@ -3,7 +3,7 @@
 //! process.
 //!
 //! Proved: that it is safe; what a run of the server did is said by `enet_serve`, what came of each client of the demonstration by
-//! `enet_serve`, how a script of the lab is answered by `enet_lab`, and what is told of a datagram by `enet_text`.
+//! `enet_demo`, how a script of the lab is answered by `enet_lab`, and what is told of a datagram by `enet_text`.
 //! Only tested, by scripts/check-inspect.sh: what `inspect` writes and its status. By scripts/check-rows.sh: the scripts of scripts/rows;
 //! the command lines `--help`, no subcommand, an unknown one, a word too many, and those of `serve` and `demo` with numbers out of range;
 //! what both print; the answers to the lines of `serve --control`, and that a standard output that takes nothing holds up nothing; an

@@ -2,7 +2,7 @@
 
 ghost use Rattle.std.specs.Prelude.{◌≡◌, ℕ, ◌+◌, ◌<◌, ◌≤◌, ◌∷◌, ◌++◌, [], if◌then◌else◌, IsTrue, IsOk, IfOk, OnOk, IfErr, IsErrAnd, ◌⊎◌, ◌↔◌, List, Option, Some, None, IfSome, IfNone, length, map, take, drop, slice_get, true, false};
 ghost use Rattle.std.specs.VecDeque.{deque_len, deque_capacity};
-ghost use Rattle.slab.specs.Slab.{get, slab_len, HasRoomFor};
+ghost use Rattle.slab.specs.Slab.{get, slab_len, SameValues, HasRoomFor};
 ghost use Rattle.enet_rtt.specs.Clock.{HappensIn};
 ghost use Rattle.enet_seq.specs.Numbering.{wire};
 ghost use Rattle.enet_seq.specs.Windows.{after as number_after};
@@ -26,7 +26,8 @@ ghost use Rattle.enet_sender.specs.Private.Rings.{IsFirstDue};
 use crate::course::{Course, cut};
 use crate::pending::Pending;
 use crate::ring::{
-    any_ends, any_late, first, first_due, mark_all, next_late, place_of, take_all, vacate,
+    any_ends, any_late, first, first_due, give_back, mark_all, next_late, place_of, take_all,
+    vacate,
 };
 use crate::tally::count_sent_again;
 use crate::writing::{bytes_of, due_kind, is_more, put};
@@ -116,11 +117,40 @@ impl Outgoing {
         ensures passes { PassesIn pending.old self.old pending.new self.new }
         ensures room { HasRoom self.old → HasRoom self.new }
     {
+        let bytes = self.take_acknowledged(pending, number)?;
+        self.give_unused_back(pending);
+        Some(bytes)
+    }
+
+    /// The same with all room.
+    #[inline(always)]
+    fn take_acknowledged(&mut self, pending: &mut Pending, number: u16) -> Option<u32>
+        requires { KeepsIn pending.old self.old }
+        ensures bytes { result ≡ acknowledged_bytes (sender_in pending.old self.old) number }
+        ensures removed { end_in pending.new self.new ≡ record (end_in pending.old self.old) { sender = after_acknowledgement (sender_in pending.old self.old) number } }
+        ensures kept { KeepsIn pending.new self.new }
+        ensures passes { PassesIn pending.old self.old pending.new self.new }
+        ensures room { HasRoom self.old → HasRoom self.new }
+    {
         let place = place_of(&self.sent, self.passed, number)?;
         let key = self.sent[place];
         let sent = pending.take(key)?;
         vacate(&mut self.sent, &mut self.due_from, place);
         Some(sent.command.body.len() as u32)
+    }
+
+    /// Gives most room of the rings back, where nothing is in them, and most of the commands' where there is none.
+    #[inline(always)]
+    fn give_unused_back(&mut self, pending: &mut Pending)
+        ensures commands { SameValues pending.old.slab pending.new.slab }
+        ensures rings { rings_of self.new ≡ rings_of self.old }
+        ensures channel { self.new.channel ≡ self.old.channel }
+        ensures room { HasRoom self.old → HasRoom self.new }
+    {
+        if self.sent.is_empty() {
+            give_back(&mut self.queued, &mut self.sent);
+            pending.give_unused_back();
+        }
     }
 
     /// Writes the next command at `at`, where one may go, and keeps it as sent if it is reliable: the first sent one that is

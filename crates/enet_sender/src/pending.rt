@@ -3,8 +3,8 @@
 ghost use Rattle.std.specs.Prelude.{◌≡◌, ℕ, ◌+◌, ◌<◌, ◌≤◌, Some, None, [], true, false, if◌then◌else◌, IsOk, IfOk, IfSome, IfNone, IsTrue, option_copied};
 ghost use Rattle.std.specs.Option.{option_map};
 ghost use Rattle.enet_rtt.specs.Clock.{HappensIn};
-ghost use Rattle.slab.specs.Slab.{get, slab_len, Updates, HasRoomFor};
-ghost use Rattle.enet_sender.specs.Pending.{vacant};
+ghost use Rattle.slab.specs.Slab.{get, slab_len, Updates, SameValues, HasRoomFor};
+ghost use Rattle.enet_sender.specs.Pending.{vacant, most_unused};
 ghost use Rattle.enet_sender.specs.Private.Pending.{queued};
 ghost use Rattle.enet_sender.specs.Private.Rounds.{test_at};
 ghost use Rattle.enet_sender.specs.declared.sent.Sent.{Sent};
@@ -136,6 +136,15 @@ impl Pending {
         ensures absent { IfNone result (self.new.slab ≡ self.old.slab) }
     {
         self.slab.take(key)
+    }
+
+    /// Gives most of the room back, where there is no command.
+    #[inline(always)]
+    pub(crate) fn give_unused_back(&mut self)
+        ensures same { SameValues self.old.slab self.new.slab }
+        ensures room { slab_len self.new.slab ≡ 0 → self.new.slab.capacity ≤ most_unused }
+    {
+        self.slab.give_unused_back();
     }
 
     /// The command under a key goes once more.

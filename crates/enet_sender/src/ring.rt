@@ -6,7 +6,7 @@ ghost use Rattle.std.specs.VecDeque.{deque_len, deque_capacity};
 ghost use Rattle.enet_rtt.specs.Clock.{HappensIn};
 ghost use Rattle.enet_seq.specs.Windows.{ahead};
 ghost use Rattle.enet_sender.specs.declared.sent.Sent.{Sent};
-ghost use Rattle.enet_sender.specs.Pending.{vacant, times};
+ghost use Rattle.enet_sender.specs.Pending.{vacant, most_unused, times};
 ghost use Rattle.enet_sender.specs.Private.Rounds.{marked_at, taken_at, test_at};
 ghost use Rattle.enet_sender.specs.Sender.{ends, is_late};
 ghost use Rattle.slab.specs.Slab.{get};
@@ -15,6 +15,7 @@ ghost use Rattle.enet_sender.specs.Private.Trims.{Trims};
 
 use crate::Pending;
 use crate::pending::VACANT;
+use crate::timed::MOST_UNUSED;
 use enet_rtt::Patience;
 use enet_seq::ahead;
 use std::collections::VecDeque;
@@ -94,6 +95,24 @@ pub(crate) fn vacate(sent: &mut VecDeque<u32>, due_from: &mut usize, place: usiz
         sent[place] = VACANT;
     }
     trim(sent, due_from);
+}
+
+/// Gives most of the room of both rings back, where nothing is in them.
+#[inline(always)]
+pub(crate) fn give_back(queued: &mut VecDeque<u32>, sent: &mut VecDeque<u32>)
+    ensures queued { queued.new.items ≡ queued.old.items }
+    ensures sent { sent.new.items ≡ sent.old.items }
+    ensures places { deque_len sent.old + deque_len queued.old ≤ deque_capacity sent.old → deque_len sent.new + deque_len queued.new ≤ deque_capacity sent.new }
+    ensures room { deque_len queued.new ≡ 0 → deque_len sent.new ≡ 0 → (deque_capacity queued.new ≤ most_unused) × (deque_capacity sent.new ≤ most_unused) }
+{
+    if sent.is_empty() && queued.is_empty() {
+        if sent.capacity() > MOST_UNUSED {
+            sent.shrink_to_fit();
+        }
+        if queued.capacity() > MOST_UNUSED {
+            queued.shrink_to_fit();
+        }
+    }
 }
 
 /// Whether the peer, heard last at `heard`, has timed out over a command of a ring.

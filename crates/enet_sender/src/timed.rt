@@ -1,11 +1,11 @@
 //! The commands of a peer under their keys, and when each that waits for its acknowledgement is late.
 
 ghost use Rattle.std.specs.Prelude.{◌≡◌, ℕ, ◌+◌, ◌<◌, ◌≤◌, ◌^◌, ◌++◌, Some, None, [], false, length, replicate, IsTrue, IfNone, IfSome, option_copied};
-ghost use Rattle.slab.specs.Slab.{Slab, get, slab_len, Updates, HasRoomFor};
+ghost use Rattle.slab.specs.Slab.{Slab, get, slab_len, Updates, SameValues, HasRoomFor};
 ghost use Rattle.std.specs.Option.{option_map};
 ghost use Rattle.enet_sender.specs.declared.sent.Sent.{Sent};
 ghost use Rattle.enet_sender.specs.Foretold.{IsLateIn, NonePasses, SomePasses};
-ghost use Rattle.enet_sender.specs.Pending.{vacant};
+ghost use Rattle.enet_sender.specs.Pending.{vacant, most_unused};
 ghost use Rattle.enet_sender.specs.Private.Pending.{queued};
 ghost use Rattle.enet_sender.specs.Sender.{again, begun, ends, is_late, marked};
 
@@ -22,6 +22,9 @@ use std::marker::Model;
 
 /// For so many commands room is made at least.
 const FEWEST: usize = 4;
+
+/// For no more than so many commands room is kept where there are none.
+pub(crate) const MOST_UNUSED: usize = 16;
 
 /// The commands of a peer, each under a key, and of each that is sent and not due to go again the moment at which it is late. Contracts
 /// see the commands alone, with room for as many as have a place for their moment.
@@ -147,6 +150,17 @@ impl TimedSlab {
         self.slab.get(key as usize)
     }
 
+    /// Gives most of the room back, where there is no command.
+    #[inline(always)]
+    pub(crate) fn give_unused_back(&mut self)
+        ensures same { SameValues self.old self.new }
+        ensures room { slab_len self.new ≡ 0 → self.new.capacity ≤ most_unused }
+    {
+        if self.slab.is_empty() && self.slab.capacity() > MOST_UNUSED {
+            self.give_back();
+        }
+    }
+
     /// Takes the command under a key out.
     #[inline(always)]
     pub(crate) fn take(&mut self, key: u32) -> Option<Sent>
@@ -159,6 +173,17 @@ impl TimedSlab {
             self.deadlines.clear(key as usize);
         }
         Some(sent)
+    }
+
+    /// Gives its room back; there must be no command.
+    #[inline(never)]
+    fn give_back(&mut self)
+        requires { slab_len self.old ≡ 0 }
+        ensures same { SameValues self.old self.new }
+        ensures room { self.new.capacity ≡ 0 }
+    {
+        self.slab = Slab::new(self.alloc);
+        self.deadlines = Deadlines::none(self.alloc);
     }
 
     /// The command under a key goes for the first time.

@@ -193,6 +193,7 @@ fn keep_first(channels: &mut Vec<Outgoing>, pending: &mut Pending, count: usize)
         clear_on(channels, pending, dropped);
     }
     channels.truncate(count);
+    channels.shrink_to_fit();
 }
 
 /// In how many milliseconds after the moment `now` a sent command of a channel is late first: 0 where one is, 4,294,967,295 where none

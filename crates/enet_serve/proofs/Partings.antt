@@ -9,16 +9,16 @@ use Rattle.enet_codec.specs.declared.event.PeerRef.{PeerRef}
 use Rattle.enet_submit.specs.declared.order.Submission.{Submission}
 use Rattle.enet_host.specs.Host.{Host, all_names}
 use Rattle.enet_bridge.specs.Memory.{FirstIs}
-use Rattle.enet_service.specs.declared.service.Service.{Service}
-use Rattle.enet_service.specs.Hosting.{host_calls}
-use Rattle.enet_service.specs.LoneTurn.{beside}
-use Rattle.enet_service.specs.Phases.{Chain}
+use Rattle.enet_turn.specs.declared.service.Service.{Service}
+use Rattle.enet_turn.specs.Hosting.{host_calls}
+use Rattle.enet_turn.specs.LoneTurn.{beside}
+use Rattle.enet_turn.specs.Phases.{Chain}
 use Rattle.enet_service.specs.Queues.{given}
-use Rattle.enet_service.specs.Run.{all_gave}
+use Rattle.enet_turn.specs.Run.{all_gave}
 use Rattle.enet_service.specs.ServiceRuns.{TakesTurns, PartsFrom}
-use Rattle.enet_service.specs.Spans.{Span, Parts, IsSpan, Spans, rounds_in}
-use Rattle.enet_service.specs.Turn.{Round}
-use Rattle.enet_service.proofs.PhaseSteps.{chain_step}
+use Rattle.enet_turn.specs.Spans.{Span, Parts, IsSpan, Spans, rounds_in}
+use Rattle.enet_turn.specs.Turn.{Round}
+use Rattle.enet_turn.proofs.PhaseSteps.{chain_step}
 use Rattle.enet_service.proofs.Spells.{given_both}
 use Rattle.enet_serve.specs.Leaving.{PartsFromAll, AreGentle, Leaves, TakesLeave}
 use Rattle.enet_serve.specs.Private.SeeingOff.{Idles, AreLater, SeesOff, HasSeenOff}

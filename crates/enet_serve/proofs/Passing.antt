@@ -14,13 +14,13 @@ use Rattle.enet_chat.specs.Lone.{IsGiven, IsPut, Expands}
 use Rattle.enet_chat.specs.declared.lone.LoneRelay.{LoneRelay}
 use Rattle.enet_chat.specs.Relaying.{noted_all}
 use Rattle.enet_chat.proofs.Relays.{noted_more, on_for_each, joined}
-use Rattle.enet_service.specs.declared.report.Report.{Report}
-use Rattle.enet_service.specs.Counts.{stopped, given_in, came_in, went_in, blocked_in, taken_in}
-use Rattle.enet_service.specs.LoneTurn.{Applied, gave_in, puts_in}
-use Rattle.enet_service.specs.Phases.{Chain}
+use Rattle.enet_turn.specs.declared.report.Report.{Report}
+use Rattle.enet_turn.specs.Counts.{stopped, given_in, came_in, went_in, blocked_in, taken_in}
+use Rattle.enet_turn.specs.LoneTurn.{Applied, gave_in, puts_in}
+use Rattle.enet_turn.specs.Phases.{Chain}
 use Rattle.enet_service.specs.Queues.{given, accepted}
-use Rattle.enet_service.proofs.Reporting.{same_report}
-use Rattle.enet_service.proofs.Tellings.{taken_more, given_more}
+use Rattle.enet_turn.proofs.Reporting.{same_report}
+use Rattle.enet_turn.proofs.Tellings.{taken_more, given_more}
 use Rattle.enet_serve.specs.Private.Passing.{Passes}
 
 abbrev pub Puts : List Event → List (Event × Bool) → List Event → Type 0

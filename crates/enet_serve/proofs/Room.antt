@@ -22,13 +22,13 @@ use Rattle.enet_bridge.specs.declared.event_receiver.EventReceiver.{EventReceive
 use Rattle.enet_bridge.specs.Holding.{received}
 use Rattle.enet_events.specs.declared.numbered.Numbered.{Numbered}
 use Rattle.enet_service.proofs.Settled.{of_one_seat}
-use Rattle.enet_service.specs.declared.report.Report.{Report}
+use Rattle.enet_turn.specs.declared.report.Report.{Report}
 use Rattle.enet_service.specs.declared.run_length.RunLength.{RunLength}
-use Rattle.enet_service.specs.LoneTurn.{beside}
+use Rattle.enet_turn.specs.LoneTurn.{beside}
 use Rattle.enet_service.specs.Queues.{given, accepted}
-use Rattle.enet_service.specs.Run.{all_gave, all_told, all_puts}
+use Rattle.enet_turn.specs.Run.{all_gave, all_told, all_puts}
 use Rattle.enet_host.specs.Host.{Host}
-use Rattle.enet_service.specs.declared.service.Service.{Service}
+use Rattle.enet_turn.specs.declared.service.Service.{Service}
 use Rattle.enet_service.specs.ServiceRuns.{HasTurned, Standing, TakesTurns}
 use Rattle.enet_chat.specs.declared.relaying.Relay.{Relay}
 use Rattle.enet_chat.specs.declared.relaying.RelayParts.{RelayParts}

@@ -16,16 +16,16 @@ use Rattle.enet_wire.specs.Wires.{also, unless_spent, is_spent}
 use Rattle.enet_chat.specs.Lone.{Expands}
 use Rattle.enet_chat.specs.declared.lone.LoneRelay.{LoneRelay}
 use Rattle.enet_chat.specs.Relaying.{noted_all, relayed_all, SameForEach, AreBehind, AreFarBehind}
-use Rattle.enet_service.specs.Counts.{stopped, given_in, came_in, went_in, blocked_in, taken_in}
-use Rattle.enet_service.specs.Hosting.{host_calls}
-use Rattle.enet_service.specs.LoneTurn.{LoneTurn, lone}
+use Rattle.enet_turn.specs.Counts.{stopped, given_in, came_in, went_in, blocked_in, taken_in}
+use Rattle.enet_turn.specs.Hosting.{host_calls}
+use Rattle.enet_turn.specs.LoneTurn.{LoneTurn, lone}
 use Rattle.enet_service.specs.Queues.{given, accepted}
-use Rattle.enet_service.specs.Turn.{Round}
-use Rattle.enet_service.specs.Run.{IsSound, all_gave, all_told, all_puts, total}
+use Rattle.enet_turn.specs.Turn.{Round}
+use Rattle.enet_turn.specs.Run.{IsSound, all_gave, all_told, all_puts, total}
 use Rattle.enet_service.specs.ServiceRuns.{Lasts}
-use Rattle.enet_service.proofs.PhaseSteps.{chain_more}
-use Rattle.enet_service.proofs.Reporting.{same_report}
-use Rattle.enet_service.specs.declared.report.Report.{Report}
+use Rattle.enet_turn.proofs.PhaseSteps.{chain_more}
+use Rattle.enet_turn.proofs.Reporting.{same_report}
+use Rattle.enet_turn.specs.declared.report.Report.{Report}
 use Rattle.enet_service.specs.declared.run_length.RunLength.{RunLength}
 use Rattle.enet_serve.specs.declared.server.ChatServer.{ChatServer}
 use Rattle.enet_serve.specs.Serving.{Serves, told_of, faults_of}

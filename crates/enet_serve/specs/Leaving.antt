@@ -2,13 +2,13 @@
 use Rattle.std.specs.Prelude.{◌≡◌, List, [], ◌∷◌, ◌++◌}
 use Rattle.enet_codec.specs.declared.event.DisconnectMode.TheVariants.{Later}
 use Rattle.enet_host.specs.Host.{Host, all_names}
-use Rattle.enet_service.specs.declared.service.Service.{Service}
-use Rattle.enet_service.specs.Hosting.{host_calls}
-use Rattle.enet_service.specs.LoneTurn.{RoundsOf}
-use Rattle.enet_service.specs.Phases.{Chain}
+use Rattle.enet_turn.specs.declared.service.Service.{Service}
+use Rattle.enet_turn.specs.Hosting.{host_calls}
+use Rattle.enet_turn.specs.LoneTurn.{RoundsOf}
+use Rattle.enet_turn.specs.Phases.{Chain}
 use Rattle.enet_service.specs.Queues.{given}
-use Rattle.enet_service.specs.Run.{all_gave}
-use Rattle.enet_service.specs.Spans.{Span, Parts, IsSpan, rounds_in}
+use Rattle.enet_turn.specs.Run.{all_gave}
+use Rattle.enet_turn.specs.Spans.{Span, Parts, IsSpan, rounds_in}
 
 -- some turns, and after them the server parts from each peer that its host has then
 abbrev pub PartsFromAll : Service Host → Span → Service Host → Type 0

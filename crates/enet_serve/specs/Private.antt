@@ -2,6 +2,4 @@
 pub mod Alone
 pub mod SeeingOff
 pub mod Passing
-pub mod Playing
 pub mod Threads
-pub mod Visits

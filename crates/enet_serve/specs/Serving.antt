@@ -17,13 +17,13 @@ use Rattle.enet_wire.specs.declared.told.Told.{Told}
 use Rattle.enet_wire.specs.Wires.{unless_spent}
 use Rattle.enet_guard.specs.Guarding.{Guarding, new_guard}
 use Rattle.enet_guard.specs.Journals.{told_of as told_at}
-use Rattle.enet_service.specs.declared.report.Report.{Report}
-use Rattle.enet_service.specs.declared.service.Service.{Service}
-use Rattle.enet_service.specs.Hosting.{host_calls}
-use Rattle.enet_service.specs.LoneTurn.{Kind, RoundsOf}
+use Rattle.enet_turn.specs.declared.report.Report.{Report}
+use Rattle.enet_turn.specs.declared.service.Service.{Service}
+use Rattle.enet_turn.specs.Hosting.{host_calls}
+use Rattle.enet_turn.specs.LoneTurn.{Kind, RoundsOf}
 use Rattle.enet_service.specs.Queues.{given, accepted}
-use Rattle.enet_service.specs.Turn.{Round}
-use Rattle.enet_service.specs.Run.{IsSound, all_gave, all_told, all_puts, total}
+use Rattle.enet_turn.specs.Turn.{Round}
+use Rattle.enet_turn.specs.Run.{IsSound, all_gave, all_told, all_puts, total}
 use Rattle.enet_chat.specs.Relaying.{noted_all, relayed_all, SameForEach, AreBehind, AreFarBehind}
 use Rattle.enet_service.specs.declared.run_length.RunLength.{RunLength}
 use Rattle.enet_service.specs.ServiceRuns.{Lasts, IsCapacity}

@@ -3,14 +3,13 @@ use crate::lone_turn::lone_turn;
 use enet_chat::{Gauge, LoneRelay};
 use enet_codec::Refusal;
 use enet_guard::Guarded;
-use enet_service::{Bell, BoundService, Fault, MioWire, Report, RunLength, Watch, is_over};
+use enet_service::{
+    Bell, BoundService, Fault, MioWire, Report, RunLength, TURNS_AT_ONCE, Watch, is_over,
+};
 use std::alloc::Global;
 use std::rt::Clock;
 use std::sync::{Arc, Wait};
 use std::time::{Duration, Instant};
-
-/// Between two looks at the clock so many turns are taken.
-const TURNS_AT_ONCE: u64 = 64;
 
 /// The relay of a run in one thread, with what shows how far it has come, and what keeps the service awake while orders wait.
 #[derive(Drop)]
@@ -25,8 +24,8 @@ impl Alone<'_> {
     ghost use Rattle.enet_wire.specs.Socket.{failures_of};
     ghost use Rattle.enet_guard.specs.Journals.{told_of};
     ghost use Rattle.enet_chat.specs.Relaying.{AreBehind, AreFarBehind};
-    ghost use Rattle.enet_service.specs.Turn.{Round};
-    ghost use Rattle.enet_service.specs.Run.{total};
+    ghost use Rattle.enet_turn.specs.Turn.{Round};
+    ghost use Rattle.enet_turn.specs.Run.{total};
     ghost use Rattle.enet_service.specs.ServiceRuns.{Lasts, LastsForTime};
     ghost use Rattle.enet_serve.specs.Private.Alone.{Goes, pair};
 

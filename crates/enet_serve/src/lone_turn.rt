@@ -1,9 +1,9 @@
 //! A turn of a service whose relay shares its thread.
 ghost use Rattle.std.specs.Prelude.{◌≡◌, ◌≢◌, ◌+◌, ◌⊎◌, List, ◌∷◌, OnOk, IfOk, IfErr};
 ghost use Rattle.enet_chat.specs.Relaying.{AreBehind, AreFarBehind};
-ghost use Rattle.enet_service.specs.LoneTurn.{LoneTurn, Applied, AppliesAll, gave_in, puts_in};
-ghost use Rattle.enet_service.specs.Turn.{Round};
-ghost use Rattle.enet_service.specs.Counts.{given_in, taken_in, stopped};
+ghost use Rattle.enet_turn.specs.LoneTurn.{LoneTurn, Applied, AppliesAll, gave_in, puts_in};
+ghost use Rattle.enet_turn.specs.Turn.{Round};
+ghost use Rattle.enet_turn.specs.Counts.{given_in, taken_in, stopped};
 ghost use Rattle.enet_wire.specs.declared.told.Told.TheVariants.{Waited};
 ghost use Rattle.enet_wire.specs.Wires.{also, unless_spent};
 ghost use Rattle.enet_chat.specs.Lone.{Expands};

@@ -72,7 +72,7 @@ impl ChatServer {
     ghost use Rattle.enet_submit.specs.Words.{capacity_of};
     ghost use Rattle.enet_guard.specs.Guarding.{is_other};
     ghost use Rattle.enet_service.specs.ServiceRuns.{AreNew, IsCapacity};
-    ghost use Rattle.enet_service.specs.LoneTurn.{beside, lone};
+    ghost use Rattle.enet_turn.specs.LoneTurn.{beside, lone};
     ghost use Rattle.enet_serve.specs.Serving.{Serves, EndsRun, IsNotServed, IsOpened, is_in_range, host_of, faults_of, guard_of, waiting_of, service_of, peers_of, backlog_of, orders_of, queue_capacity_of};
     ghost use Rattle.enet_serve.specs.Leaving.{TakesLeave};
 

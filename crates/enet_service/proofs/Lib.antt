@@ -1,11 +1,4 @@
 pub mod Settled
 pub mod Spells
-pub mod Options
-pub mod PhaseSteps
-pub mod Among
 pub mod ManyCalls
-pub mod Reporting
-pub mod Runs
-pub mod Tellings
-pub mod Untold
 pub mod Parting

@@ -15,7 +15,7 @@ use Rattle.enet_bridge.specs.Ends.{DrainGives, PosterPuts}
 use Rattle.enet_bridge.specs.Serving.{queue_of, drain_of, sink_queue, poster_of}
 use Rattle.enet_bridge.specs.declared.source.QueueSource.{QueueSource}
 use Rattle.enet_bridge.specs.declared.sink.QueueSink.{QueueSink}
-use Rattle.enet_service.specs.Phases.{Chain}
+use Rattle.enet_turn.specs.Phases.{Chain}
 use Rattle.enet_service.specs.Queues.{given, accepted, DrainsOn, PostsOn}
 
 -- ---- numbers without gaps

@@ -10,9 +10,9 @@ use Rattle.enet_peer.specs.Peering.{Peering}
 use Rattle.enet_slot.specs.Slot.{SlotState, name_of, with_peer}
 use Rattle.enet_host.specs.Host.{Host, name_if, name_held, name_in, names_below, one_name}
 use Rattle.enet_host.proofs.Holding.{does-over}
-use Rattle.enet_service.specs.Hosting.{AppliesOrder}
+use Rattle.enet_turn.specs.Hosting.{AppliesOrder}
 use Rattle.enet_service.specs.ServiceRuns.{PartsFrom}
-use Rattle.enet_service.proofs.PhaseSteps.{chain_step}
+use Rattle.enet_turn.proofs.PhaseSteps.{chain_step}
 
 get-set-other : (xs : List SlotState) (i j : ℕ) (y : SlotState) → i ≢ j → slice_get (slice_set xs i y) j ≡ slice_get xs j
 get-set-other [] i j y n = refl

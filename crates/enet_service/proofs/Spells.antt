@@ -15,16 +15,16 @@ use Rattle.enet_codec.specs.declared.refusal.Refusal.TheVariants.{WireFault}
 use Rattle.enet_wire.specs.declared.told.Told.{Told}
 use Rattle.enet_wire.specs.declared.told.Told.TheVariants.{Waited}
 use Rattle.enet_wire.specs.Wires.{also, unless_spent}
-use Rattle.enet_service.specs.declared.report.Fault.{Fault}
-use Rattle.enet_service.specs.declared.report.Report.{Report}
-use Rattle.enet_service.specs.Counts.{stopped}
+use Rattle.enet_turn.specs.declared.report.Fault.{Fault}
+use Rattle.enet_turn.specs.declared.report.Report.{Report}
+use Rattle.enet_turn.specs.Counts.{stopped}
 use Rattle.enet_service.specs.Queues.{given, accepted, DrainsOn}
-use Rattle.enet_service.specs.Turn.{Round}
-use Rattle.enet_service.specs.Run.{IsSound, EndsInTurn, EndsInWait, all_gave, all_told, all_puts, total}
+use Rattle.enet_turn.specs.Turn.{Round}
+use Rattle.enet_turn.specs.Run.{IsSound, EndsInTurn, EndsInWait, all_gave, all_told, all_puts, total}
 use Rattle.enet_service.proofs.ManyCalls.{drains_none, drains_more}
-use Rattle.enet_service.proofs.PhaseSteps.{chain_more}
-use Rattle.enet_service.proofs.Tellings.{told_on, also_nothing}
-use Rattle.enet_service.proofs.Reporting.{same_report}
+use Rattle.enet_turn.proofs.PhaseSteps.{chain_more}
+use Rattle.enet_turn.proofs.Tellings.{told_on, also_nothing}
+use Rattle.enet_turn.proofs.Reporting.{same_report}
 use Rattle.enet_service.specs.ServiceRuns.{Standing, Spell}
 
 -- events without their numbers

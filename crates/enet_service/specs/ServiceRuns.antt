@@ -22,17 +22,17 @@ use Rattle.enet_bridge.specs.Ends.{orders}
 use Rattle.enet_bridge.specs.Serving.{queue_of, drain_of, poster_of}
 use Rattle.enet_host.specs.Host.{Host}
 use Rattle.enet_host.specs.Opening.{opened}
-use Rattle.enet_service.specs.declared.report.Report.{Report}
-use Rattle.enet_service.specs.Hosting.{host_calls, AppliesOrder}
-use Rattle.enet_service.specs.Phases.{Chain}
+use Rattle.enet_turn.specs.declared.report.Report.{Report}
+use Rattle.enet_turn.specs.Hosting.{host_calls, AppliesOrder}
+use Rattle.enet_turn.specs.Phases.{Chain}
 use Rattle.enet_service.specs.Queues.{given, accepted, DrainsOn, PostsOn}
-use Rattle.enet_service.specs.Turn.{Round}
-use Rattle.enet_service.specs.Run.{Rounds, IsSound, all_gave, all_told, all_puts, total}
+use Rattle.enet_turn.specs.Turn.{Round}
+use Rattle.enet_turn.specs.Run.{Rounds, IsSound, all_gave, all_told, all_puts, total}
 use Rattle.enet_service.specs.declared.queues.Ends.{Ends}
 use Rattle.enet_service.specs.declared.settling.Returned.{Returned}
 use Rattle.enet_service.specs.declared.run_length.RunLength.{RunLength}
 use Rattle.enet_service.specs.declared.run_length.RunLength.TheVariants.{Turns, Time}
-use Rattle.enet_service.specs.declared.service.Service.{Service}
+use Rattle.enet_turn.specs.declared.service.Service.{Service}
 
 -- how many places a queue may have
 abbrev pub IsCapacity : ℕ → Type 0

@@ -1,17 +1,14 @@
 //! Turns between the two queues.
 ghost use Rattle.std.specs.Prelude.{◌≡◌, ◌+◌, List, is_err};
 ghost use Rattle.enet_wire.specs.Wires.{also, unless_spent};
-ghost use Rattle.enet_service.specs.Turn.{Round};
-ghost use Rattle.enet_service.specs.Run.{Rounds, Ends, all_gave, all_told, all_puts};
+ghost use Rattle.enet_turn.specs.Turn.{Round};
+ghost use Rattle.enet_turn.specs.Run.{Rounds, Ends, all_gave, all_told, all_puts};
 ghost use Rattle.enet_service.specs.Queues.{given, accepted, DrainsOn, PostsOn};
 ghost use Rattle.enet_bridge.specs.Serving.{queue_of, drain_of, poster_of};
-ghost use Rattle.enet_service.specs.Counts.{count_of};
+ghost use Rattle.enet_turn.specs.Counts.{count_of};
 
-use crate::host::Core;
-use crate::report::{Fault, Report};
-use crate::running::run;
-use crate::service::Service;
 use enet_bridge::{QueueSink, QueueSource};
+use enet_turn::{Core, Fault, Report, Service, run};
 use enet_wire::Wire;
 use std::sync::Wait;
 use std::time::Clock;

@@ -4,20 +4,12 @@
 //!
 //! - A service beside a game thread: [`Queues::open`], [`BoundService::open`] and [`beside_turns`], which runs the service beside a function
 //!   of the user's; then [`settle`].
-//! - One thread that does all: [`run`], a turn at a time, or [`Service::receive`], [`Service::apply_orders`] and [`Service::emit`], between
-//!   which it makes the orders.
+//! - One thread that does all: by [`run`], or by the parts of a turn, between which it makes the orders (`enet_turn`, of which all is handed
+//!   on here).
 //!
 //! # Proved
 //!
-//! Of every host that says what its calls do ([`Core`]), as [`HostCore`] says it by its own definitions:
-//! - A turn ([`Service::turn`]) is the stated calls in the stated order, on what the source gave and the wire told, and what was sent and put
-//!   is what these calls answered. A refused order becomes one event. While an event waits no order is taken.
-//! - E14 comes exactly where the wire failed. Then the host is where the first part of the work left it, and the report counts that part.
-//! - A turn ends where the calls of source and sink return, since each event that a host tells leaves fewer.
-//! - The parts of a turn between which orders are made are those of its phases that they name.
-//! - A run ([`run`]) is its turns, each after a wait, up to the first fault, and its report their sums.
-//!
-//! Between the two queues:
+//! What a turn is, and a run of them: `enet_turn`. Between the two queues:
 //! - New ones have the places that were asked for, and a seat that may submit 4,294,967,295 orders ([`Queues::open`]).
 //! - The orders of a run are each seat's next ones, once and in its order, and what was taken begins a history of the queue
 //!   ([`run_between_queues`]).
@@ -32,32 +24,19 @@
 //!
 //! # Only tested, or neither
 //!
-//! - By `check_service`: turns and runs of a real host over memory, with each call of the wire failing and each send blocking in its turn;
-//!   that a game thread submits and takes while the service is inside its wire; a connection's opening through a socket of 127.0.0.1.
+//! - By `check_service`: that a game thread submits and takes while the service is inside its wire; a connection's opening through a socket of
+//!   127.0.0.1.
 //! - By scripts/check-rows.sh and scripts/check-clients.sh: that the queues settle (no E16), what is noted and shown to a [`Watch`], and that
 //!   turns for a time end once the other thread has left.
-//! - Neither: that a wait or a call of a queue returns, when the source is told to expect orders, that two threads ran, what a network gives,
-//!   and when; that a run for a time lasts that time; when [`settle`] answers E16; what the host and the queues are after a
-//!   [`beside_turns`] that ended with E14.
-//! - That turns go by what their wire gave is said of each wire that tells its calls. Of a socket two functions are trusted with that
-//!   (`enet_bridge`).
+//! - Neither: that a wait or a call of a queue returns, that two threads ran; that a run for a time lasts that time; when [`settle`] answers
+//!   E16; what the host and the queues are after a [`beside_turns`] that ended with E14.
 #![tactic(auto)]
 
 mod between;
 mod bound_service;
-mod emitting;
-mod host;
-mod hosting;
-mod lone;
-mod orders;
 mod queues;
-mod receiving;
-mod report;
 mod run_length;
-mod running;
-mod service;
 mod settling;
-mod telling;
 mod turning;
 mod watch;
 mod watched;
@@ -69,13 +48,10 @@ pub use enet_bridge::{
     Source, TakerBell,
 };
 pub use enet_host::HostCore;
+pub use enet_turn::{Core, Fault, Report, Service, run};
 pub use enet_wire::{Bell, MOST_PER_TURN, MemoryWire, MioWire, Step, Told, Unopened, Wire};
-pub use host::Core;
 pub use queues::{Ends, Queues};
-pub use report::{Fault, Report};
-pub use run_length::{RunLength, is_over};
-pub use running::run;
-pub use service::Service;
+pub use run_length::{RunLength, TURNS_AT_ONCE, is_over};
 pub use settling::{Returned, settle};
 pub use turning::{Shared, Signals, beside_turns};
 pub use watch::{Unwatched, Watch};

@@ -1,8 +1,8 @@
 //! How long a service takes turns.
 ghost use Rattle.std.specs.Prelude.{◌≡◌, ◌+◌, true, false, List, length, IfOk, IfErr, is_err};
-ghost use Rattle.enet_service.specs.Turn.{Round as OneTurn};
+ghost use Rattle.enet_turn.specs.Turn.{Round as OneTurn};
 ghost use Rattle.enet_bridge.specs.Serving.{queue_of, poster_of};
-ghost use Rattle.enet_service.specs.Counts.{count_of};
+ghost use Rattle.enet_turn.specs.Counts.{count_of};
 ghost use Rattle.enet_service.specs.ServiceRuns.{Lasts, LastsForTime, AreFew, Spell, standing};
 
 use crate::turning::Signals;
@@ -16,7 +16,7 @@ use std::sync::Wait;
 use std::time::{Duration, Instant};
 
 /// Between two looks at the clock a service takes so many turns.
-const TURNS_AT_ONCE: u64 = 64;
+pub const TURNS_AT_ONCE: u64 = 64;
 
 /// After so many orders or events a run for a time ends: its queues count 4,294,967,295 of each at most.
 const MANY: u32 = 2_147_483_648;

@@ -1,6 +1,6 @@
 //! The service's thread of a run.
 ghost use Rattle.std.specs.Prelude.{◌≡◌, ◌+◌, IfOk, IfErr, is_err};
-ghost use Rattle.enet_service.specs.Counts.{count_of};
+ghost use Rattle.enet_turn.specs.Counts.{count_of};
 ghost use Rattle.enet_bridge.specs.Serving.{queue_of, poster_of};
 ghost use Rattle.enet_service.specs.ServiceRuns.{HasTurned, standing};
 

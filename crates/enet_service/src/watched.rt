@@ -1,7 +1,7 @@
 //! A host whose operator is told who came and went, whom it asked for a connection, and which orders were refused.
 
-ghost use Rattle.enet_service.specs.Calls.{why_of};
-ghost use Rattle.enet_service.specs.Hosting.{AppliesOrder};
+ghost use Rattle.enet_turn.specs.Calls.{why_of};
+ghost use Rattle.enet_turn.specs.Hosting.{AppliesOrder};
 ghost use Rattle.enet_submit.specs.declared.order.Order.TheVariants as orders;
 
 use crate::Core;
@@ -14,7 +14,7 @@ use std::marker::Model;
 /// So many notes are kept at most until they are looked at.
 const MOST_NOTES: usize = 4_096;
 
-/// What happened at a host.
+/// What happened at a host, as its operator is told; the `Note` of `enet_wire` is of one call of a wire.
 #[derive(Clone, Copy, Debug, PartialEq, Eq)]
 pub enum Note {
     /// An order to connect was carried out: this peer asks there, under this connect id, which is the order's `word`. Its Connect event
@@ -239,7 +239,7 @@ impl WatchedHost {
 }
 
 impl Core for WatchedHost {
-    ghost use Rattle.enet_service.specs.Hosting.{host_calls, untold};
+    ghost use Rattle.enet_turn.specs.Hosting.{host_calls, untold};
 
     ghost calls = { host_calls };
 

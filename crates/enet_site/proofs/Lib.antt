@@ -10,3 +10,4 @@ pub mod Takes
 pub mod Hears
 pub mod AtSite
 pub mod Opens
+pub mod Ended

@@ -1,4 +1,5 @@
 pub mod Sites
 pub mod Turning
 pub mod Places
+pub mod Standing
 pub mod Private

@@ -7,7 +7,7 @@
 //! changed: `connect`, `submit`, `deliver`, `receive`, `turn`, `tick`, `take` and `disconnect`. `turn` supposes that each peer at a
 //! host's address is that of an end (`AreEnds`), which the network's headline says of every run. `delivery_refusal` is the network's
 //! definition of that name: E13, then E12, then E11, each exactly where it is the first that applies; `connect_refusal` foretells E8
-//! and E7. The lists and datagrams are lent as they are. Of every site `IsWhole` holds: each end's peer stands, or its name is never
+//! and E7. The lists, datagrams and states are told as they are. Of every site `IsWhole` holds: each end's peer stands, or its name is never
 //! given again. A `Place` is a site with all that it put out, to strangers too; `open_clients` opens many of them.
 //! Only tested, by scripts/rows and `check_lists`, through `enet_world`: that calls succeed with ample memory.
 #![tactic(auto)]
@@ -20,6 +20,7 @@ mod place;
 mod places;
 mod put_out;
 mod site;
+mod standing;
 mod submitting;
 mod taking;
 mod turn;

@@ -12,6 +12,7 @@ ghost use Rattle.law_network.specs.Calls as call;
 ghost use Rattle.law_network.specs.Steps.{Calls, Delivers, Happens, Called};
 ghost use Rattle.law_network.specs.World.{joined_end, IsRefusedFor, RefusesCall, RefusesTake};
 ghost use Rattle.enet_site.specs.Sites.{CallsAt};
+ghost use Rattle.enet_site.specs.Standing.{state_at};
 ghost use Rattle.enet_site.specs.Turning.{TurnsAmong};
 
 use crate::arriving::deliver;
@@ -19,12 +20,13 @@ use crate::connecting::{Question, connect, connect_refusal};
 use crate::delivery::refused_delivery;
 use crate::leaving::disconnect;
 use crate::put_out::Turned;
+use crate::standing::state;
 use crate::submitting::submit;
 use crate::taking::{next_event_from, take};
 use crate::turn::turn;
 use bytes::Bytes;
 use enet_codec::{Addr, Config, DisconnectMode, Event, Packet, PeerRef, Received, Refusal};
-use enet_host::HostCore;
+use enet_host::{HostCore, PeerState};
 use enet_records::{Around, Records, numbers_of};
 use std::alloc::Global;
 use std::marker::Model;
@@ -224,6 +226,13 @@ impl Site {
         ensures { result ≡ delivery_refusal from.now self.now (slice_get from.now.log k) }
     {
         refused_delivery(&self.host, &self.records, from.address, &from.records, k)
+    }
+
+    /// How far a connection has come at this end; None where there is no such connection, or its peer is gone.
+    pub fn state(&self, connection: u64) -> Option<PeerState>
+        ensures { result ≡ state_at self.now connection }
+    {
+        state(&self.host, &self.records.ends, connection)
     }
 
     /// How many connections have an end here: fewer than 2^63.

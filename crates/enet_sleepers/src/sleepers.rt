@@ -19,6 +19,9 @@ use std::marker::Model;
 /// Where the clock stands from which on it begins anew, in milliseconds; it takes 146 million years to get there.
 const LAST_CLOCK: u64 = 1 << 62;
 
+/// For each slot so many naps begin between two ticks at most.
+const NAPS: u32 = 4;
+
 /// Which slots of a host sleep. They are free, or their peer is connected, asks for a connection or for its end, or has answered, and
 /// has nothing to tell and nothing that goes, though what was sent may be unacknowledged; and time brings it something later. Where slots
 /// are asked in turn, and at a tick, these are passed over. A slot falls asleep where it is looked at (`settle`), and is woken before
@@ -35,6 +38,8 @@ pub struct Sleepers {
     pub(crate) marks: Vec<Mark>,
     /// The host's clock as it was last told, on a clock that doesn't wrap.
     pub(crate) clock: u64,
+    /// How many slots may still fall asleep by `rest` before the clock goes on.
+    naps: u32,
 }
 
 impl Model for Sleepers {
@@ -82,6 +87,7 @@ impl Sleepers {
             due,
             marks,
             clock: u64::from(now),
+            naps: 0,
         })
     }
 
@@ -141,6 +147,15 @@ impl Sleepers {
     pub fn advance(&mut self, now: u32)
         ensures { (was : ℕ) (slots : List SlotState) → KeepsSleepers was self.old slots → KeepsSleepers now self.new slots }
     {
+        self.go_on(now);
+        self.naps = (self.awake.len() as u32).saturating_mul(NAPS);
+    }
+
+    /// The clock goes on, and those to which that brings something are awake.
+    #[inline(always)]
+    fn go_on(&mut self, now: u32)
+        ensures { (was : ℕ) (slots : List SlotState) → KeepsSleepers was self.old slots → KeepsSleepers now self.new slots }
+    {
         if self.clock >= LAST_CLOCK {
             self.wake_all();
             self.clock = u64::from(now);
@@ -179,6 +194,20 @@ impl Sleepers {
             };
             self.look_at(slots, number, now);
             from = number + 1;
+        }
+    }
+
+    /// The slot of this number, which is awake and was asked for a datagram, falls asleep if it has nothing to do. Where slots are woken
+    /// and asked again and again without a tick between, they stay awake from their fifth time on, on average.
+    #[inline(always)]
+    pub fn rest(&mut self, slots: &[Slot], number: usize, now: u32)
+        requires kept { KeepsSleepers now self.old (all_shown slots.now) }
+        requires awake { IsIn self.old.awake number }
+        ensures { KeepsSleepers now self.new (all_shown slots.now) }
+    {
+        if self.naps > 0 {
+            self.naps -= 1;
+            self.look_at(slots, number, now);
         }
     }
 

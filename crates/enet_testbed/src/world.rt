@@ -36,7 +36,8 @@ pub struct Plan {
     pub asks: bool,
 }
 
-/// A server, its clients and the network between them.
+/// A server, its clients and the network between them, as the benchmark runs them: nothing is kept of them, where the `World` of
+/// `enet_world` keeps what the law speaks of.
 #[derive(Drop)]
 pub struct World {
     alloc: Global,

@@ -1,3 +1,3 @@
-pub mod Places
-pub mod Queues
+pub mod Pictures
 pub mod Summaries
+pub mod Private

@@ -118,7 +118,7 @@ unanswered_text right left = codes "not acknowledged: " ++ decimal right ++ code
 abbrev pub again_text : Part → ℕ → ℕ → List ℕ
 again_text p right left = resends_text p.to_right.items p.to_left.items ++ unanswered_text right left
 
--- The longest gap between two datagrams, and the later one.
+-- A longest gap between two datagrams, and the later one: of gaps that are as long, any.
 unfoldable pub before_text : ℕ → List ℕ
 before_text number = codes " s, before datagram " ++ decimal number ++ codes "\n"
 

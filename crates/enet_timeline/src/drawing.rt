@@ -1,5 +1,10 @@
 //! The picture.
 
+ghost use Rattle.std.specs.Prelude.{◌≡◌, ◌++◌, ℕ, List, codes, IfOk, OnOk};
+ghost use Rattle.std.specs.Str.Lines.{lines};
+ghost use Rattle.std.specs.String.{string_bytes};
+ghost use Rattle.enet_timeline.specs.Pictures.{opening_text, ground_text, lines_text, IsPicture};
+
 use crate::element::{
     push_cross, push_left_head, push_line, push_right_head, push_title, push_words,
 };
@@ -45,38 +50,65 @@ struct Look {
 }
 
 /// Draws a timeline as an SVG. An error where there is no memory for it.
-pub fn draw(alloc: Global, timeline: &Timeline) -> Result<String, AllocError> {
+pub fn draw(alloc: Global, timeline: &Timeline) -> Result<String, AllocError>
+    ensures { IfOk result (λ text. IsPicture timeline.now (string_bytes text)) }
+{
+    let mut summary = String::new(alloc);
+    push_whole(&mut summary, timeline)?;
+    let mut top = String::new(alloc);
+    let y = push_lines(&mut top, 24, summary.as_str())?;
     let mut pen = Pen {
         text: String::new(alloc),
-        y: 24,
+        y,
         begun: timeline.seen.first().map_or(0, |seen| seen.at),
         queue: Vec::new(alloc),
         next: 0,
         right: 0,
         left: 0,
     };
-    let mut summary = String::new(alloc);
-    push_whole(&mut summary, timeline)?;
-    push_summary(&mut pen, summary.as_str())?;
     push_legend(&mut pen)?;
     for index in 0..timeline.connections.len().min(CONNECTIONS) {
         let part = part_of(alloc, timeline, index)?;
         draw_part(alloc, &mut pen, &part)?;
     }
+    picture(alloc, top.as_str(), &pen)
+}
+
+// The picture with these lines on top, and below what was drawn.
+fn picture(alloc: Global, top: &str, pen: &Pen) -> Result<String, AllocError>
+    ensures { IfOk result (λ text. (height : ℕ) × (style drawn : List ℕ)
+        × (string_bytes text ≡ opening_text height ++ style ++ ground_text height ++ top.now ++ drawn ++ codes "</svg>\n")) }
+{
     let mut text = String::new(alloc);
     push_head(&mut text, pen.y.saturating_add(20))?;
+    text.push_str(top)?;
     text.push_str(pen.text.as_str())?;
     text.push_str("</svg>\n")?;
     Ok(text)
 }
 
 // What the picture begins with.
-fn push_head(text: &mut String, height: u64) -> Result<(), AllocError> {
+fn push_head(text: &mut String, height: u64) -> Result<(), AllocError>
+    ensures { OnOk result ((style : List ℕ) × (string_bytes text.new ≡ string_bytes text.old ++ (opening_text height ++ style ++ ground_text height))) }
+{
+    push_opening(text, height)?;
+    text.push_str(STYLE)?;
+    push_ground(text, height)?;
+    Ok(())
+}
+
+fn push_opening(text: &mut String, height: u64) -> Result<(), AllocError>
+    ensures { OnOk result (string_bytes text.new ≡ string_bytes text.old ++ opening_text height) }
+{
     write!(
         text,
         "<svg xmlns=\"http://www.w3.org/2000/svg\" width=\"{PAGE}\" height=\"{height}\" viewBox=\"0 0 {PAGE} {height}\">\n"
-    )?;
-    text.push_str(STYLE)?;
+    )
+}
+
+fn push_ground(text: &mut String, height: u64) -> Result<(), AllocError>
+    ensures { OnOk result (string_bytes text.new ≡ string_bytes text.old ++ ground_text height) }
+{
     write!(
         text,
         "<rect width=\"{PAGE}\" height=\"{height}\" fill=\"#fff\"/>\n"
@@ -115,11 +147,20 @@ text.again{fill:#b85c00;font-weight:bold}
 
 // The lines of a summary, one below another.
 fn push_summary(pen: &mut Pen, summary: &str) -> Result<(), AllocError> {
-    for line in summary.lines() {
-        push_words(&mut pen.text, "sum", 16, pen.y, line)?;
-        pen.y = pen.y.saturating_add(15);
-    }
+    pen.y = push_lines(&mut pen.text, pen.y, summary)?;
     Ok(())
+}
+
+// Lines from there on, one below another. Where the next one would stand.
+fn push_lines(text: &mut String, top: u64, words: &str) -> Result<u64, AllocError>
+    ensures { OnOk result (string_bytes text.new ≡ string_bytes text.old ++ lines_text top (lines words.now)) }
+{
+    let mut y = top;
+    for line in words.lines() {
+        push_words(text, "sum", 16, y, line)?;
+        y = y.saturating_add(15);
+    }
+    Ok(y)
 }
 
 /// What the looks of arrows say: where each stands, its class and its words.

@@ -1,6 +1,10 @@
 //! The elements of the picture, each put behind the text that is there. Their words have no letter that XML keeps for itself: they are numbers,
 //! and names and sentences of this crate.
 
+ghost use Rattle.std.specs.Prelude.{◌≡◌, ◌++◌, OnOk};
+ghost use Rattle.std.specs.String.{string_bytes};
+ghost use Rattle.enet_timeline.specs.Pictures.{words_text};
+
 use std::alloc::AllocError;
 
 /// A line between two points. Classes are those of the style sheet.
@@ -67,7 +71,9 @@ pub(crate) fn push_words(
     x: u64,
     y: u64,
     words: &str,
-) -> Result<(), AllocError> {
+) -> Result<(), AllocError>
+    ensures { OnOk result (string_bytes text.new ≡ string_bytes text.old ++ words_text class.now x y words.now) }
+{
     write!(
         text,
         "<text class=\"{class}\" x=\"{x}\" y=\"{y}\">{words}</text>\n"

@@ -1,7 +1,7 @@
 //! Where things stand in the picture, in its units: a letter is some 6 wide.
 
 ghost use Rattle.std.specs.Prelude.{◌≡◌, ◌≤◌};
-ghost use Rattle.enet_timeline.specs.Places.{step_of};
+ghost use Rattle.enet_timeline.specs.Private.Places.{step_of};
 
 /// The width of the picture.
 pub(crate) const PAGE: u64 = 1180;

@@ -1,7 +1,7 @@
 //! The reliable numbers that wait for their acknowledgement.
 
 ghost use Rattle.std.specs.Prelude.{◌≡◌, position};
-ghost use Rattle.enet_timeline.specs.Queues.{is_answer_to, is_of};
+ghost use Rattle.enet_timeline.specs.Private.Queues.{is_answer_to, is_of};
 
 use crate::element::{push_dot, push_line, push_words};
 use crate::labels::push_channel;

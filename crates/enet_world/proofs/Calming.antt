@@ -6,19 +6,23 @@ use Rattle.law_network.specs.declared.event.Side.{Side}
 use Rattle.law_network.specs.declared.event.WorldEvent.TheVariants as happen
 use Rattle.law_network.specs.World.{World, Steps, other}
 use Rattle.enet_world.specs.declared.calm.Calm.{Calm}
-use Rattle.enet_world.specs.Calm.{CarriesMany, Round, Rounds, both, datagram_in, refusals_in}
+use Rattle.enet_world.specs.Calm.{CarriesMany, Round, Rounds, both, datagram_in, refusals_in, stops_in}
 
 -- one more datagram
-pub carries-more : (side far : Side) (n before now k : ℕ) (first old between new : World) (told answer : Result Answer Refusal) → far ≡ other side → CarriesMany side n before first old
-    → Steps old (happen.Turn side) told between → datagram_in told ≡ Some k → Steps between (happen.Deliver far k) answer new → now ≡ refusals_in answer → CarriesMany side (n + 1) (before + now) first new
-carries-more side far n before now k first old between new told answer is many goes sent comes counted =
+pub carries-more : (side far : Side) (n before before_stopped now stopped k : ℕ) (first old between new : World) (told answer : Result Answer Refusal) → far ≡ other side → CarriesMany side n before before_stopped first old
+    → Steps old (happen.Turn side) told between → datagram_in told ≡ Some k → Steps between (happen.Deliver far k) answer new → now ≡ refusals_in answer → stopped ≡ stops_in answer
+    → CarriesMany side (n + 1) (before + now) (before_stopped + stopped) first new
+carries-more side far n before before_stopped now stopped k first old between new told answer is many goes sent comes refusals stops =
     let one : suc n ≡ n + 1 = omega arith in
-    subst (λ m. CarriesMany side m (before + now) first new) one (
+    subst (λ m. CarriesMany side m (before + now) (before_stopped + stopped) first new) one (
       before,
+      before_stopped,
       now,
+      stopped,
       old,
       many,
-      record { k = k; between = between; told = told; goes = goes; is_sent = sent; answer = answer; comes = subst (λ s. Steps between (happen.Deliver s k) answer new) is comes; counted = counted },
+      record { k = k; between = between; told = told; goes = goes; is_sent = sent; answer = answer; comes = subst (λ s. Steps between (happen.Deliver s k) answer new) is comes; refusals = refusals; stops = stops },
+      refl,
       refl,
     )
 

@@ -28,10 +28,10 @@ use Rattle.law_network.proofs.Runs.{Sound, less-or-not, sound-list, sound-joined
 use Rattle.law_network.proofs.Submitting.{same-some}
 use Rattle.law_network.proofs.Worlds.{KeptEither, Pair, IsHost, end-none}
 use Rattle.enet_world.specs.Delivered.{HasNothingLeft, ArrivesFrom, HasDelivered}
-use Rattle.enet_world.specs.Worlds.{IsReached}
+use Rattle.enet_world.specs.Private.Worlds.{IsReached}
 
 -- an end that stands is the one that is shown
-standing : (s : Site) (count x : ℕ) (own : End) → IsHost s count → ShowsAt s x own → (a : Stands s x) → Shows s a.end own
+pub standing : (s : Site) (count x : ℕ) (own : End) → IsHost s count → ShowsAt s x own → (a : Stands s x) → Shows s a.end own
 standing s count x own k (inl shown) a =
     let there : end_of x s.ends ≡ Some shown.0 = subst (λ (n : ℕ). end_of n s.ends ≡ Some shown.0) shown.2 (end-there s.ends shown.0 shown.1 (k.apart shown.0 shown.1)) in
     let same : shown.0 ≡ a.end = same-some shown.0 a.end (sym there ∙ a.there) in

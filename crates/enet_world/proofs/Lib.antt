@@ -4,3 +4,10 @@ pub mod Told
 pub mod Playing
 pub mod Calming
 pub mod Delivering
+pub mod Lasting
+pub mod Offers
+pub mod Living
+pub mod TwoEnds
+pub mod Crossing
+pub mod InRounds
+pub mod Through

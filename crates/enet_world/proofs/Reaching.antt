@@ -7,7 +7,8 @@ use Rattle.law_network.specs.Headline.{HasHeadline}
 use Rattle.law_network.specs.Law.{OfEachList, OfEachJoinedList}
 use Rattle.law_network.specs.World.{World, Steps}
 use Rattle.law_network.proofs.Running.{runs-push}
-use Rattle.enet_world.specs.Worlds.{IsReached, first}
+use Rattle.enet_world.specs.Worlds.{first}
+use Rattle.enet_world.specs.Private.Worlds.{IsReached}
 
 pub reached-step : (joined : Bool) (w v : World) (e : WorldEvent) (x : Result Answer Refusal) → IsReached joined w → Steps w e x v → IsReached joined v
 reached-step joined w v e x r step = record {

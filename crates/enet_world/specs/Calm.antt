@@ -1,5 +1,5 @@
 -- Rounds in which the network loses nothing: what a side puts out comes at once, and in order, to the other side.
-use Rattle.std.specs.Prelude.{◌≡◌, ℕ, zero, suc, ◌+◌, min, ◌⊎◌, Option, Some, None, Result, Ok, Err}
+use Rattle.std.specs.Prelude.{◌≡◌, ℕ, zero, suc, ◌+◌, min, ◌⊎◌, ◌==◌, ◌&&◌, Bool, if◌then◌else◌, is_some, Option, Some, None, Result, Ok, Err}
 use Rattle.enet_codec.specs.declared.event.Event.{Event}
 use Rattle.enet_codec.specs.declared.refusal.Refusal.{Refusal}
 use Rattle.law_network.specs.declared.event.Answer.{Answer}
@@ -25,6 +25,11 @@ abbrev pub refusals_in : Result Answer Refusal → ℕ
 refusals_in (Ok answer) = 0
 refusals_in (Err why) = 1
 
+-- a datagram was taken in only up to a command that stopped it
+abbrev pub stops_in : Result Answer Refusal → ℕ
+stops_in (Ok (answers.Received received)) = if is_some received.stop then 1 else 0
+stops_in _ = 0
+
 -- an event happens, whatever is answered
 abbrev pub Meets : WorldEvent → World → World → Type 0
 Meets event old new = (answer : Result Answer Refusal) × Steps old event answer new
@@ -35,7 +40,7 @@ most = 65536
 
 -- ---- what a side puts out
 -- a datagram, which comes at once to the other side, whether that takes it in or refuses it
-pub record Carries (side : Side) (refused : ℕ) (old new : World) : Type 0 where
+pub record Carries (side : Side) (refused stopped : ℕ) (old new : World) : Type 0 where
   pub k : ℕ
   pub between : World
   pub told : Result Answer Refusal
@@ -43,21 +48,23 @@ pub record Carries (side : Side) (refused : ℕ) (old new : World) : Type 0 wher
   pub is_sent : datagram_in told ≡ Some k
   pub answer : Result Answer Refusal
   pub comes : Steps between (happen.Deliver (other side) k) answer new
-  pub counted : refused ≡ refusals_in answer
+  pub refusals : refused ≡ refusals_in answer
+  pub stops : stopped ≡ stops_in answer
 
--- so many datagrams, of which so many are refused
-abbrev pub CarriesMany : Side → ℕ → ℕ → World → World → Type 0
-CarriesMany side zero refused old new = (refused ≡ 0) × (new ≡ old)
-CarriesMany side (suc n) refused old new =
-    (before : ℕ) × (now : ℕ) × (between : World) × CarriesMany side n before old between × Carries side now between new × (refused ≡ before + now)
+-- so many datagrams, of which so many are refused, and so many stopped
+abbrev pub CarriesMany : Side → (sent refused stopped : ℕ) → World → World → Type 0
+CarriesMany side zero refused stopped old new = (refused ≡ 0) × (stopped ≡ 0) × (new ≡ old)
+CarriesMany side (suc n) refused stopped old new =
+    (before before_stopped now now_stopped : ℕ) × (between : World) × CarriesMany side n before before_stopped old between × Carries side now now_stopped between new
+    × (refused ≡ before + now) × (stopped ≡ before_stopped + now_stopped)
 
--- and then none, as far as there is memory for it
-abbrev pub PutsNone : Side → World → World → Type 0
-PutsNone side old new = (told : Result Answer Refusal) × Steps old (happen.Turn side) told new × (datagram_in told ≡ None)
+-- and then none, or it is cut short for want of memory
+abbrev pub PutsNone : Side → (cut : ℕ) → World → World → Type 0
+PutsNone side cut old new = (told : Result Answer Refusal) × Steps old (happen.Turn side) told new × (datagram_in told ≡ None) × (cut ≡ refusals_in told)
 
-abbrev pub PutsAllOut : Side → ℕ → ℕ → World → World → Type 0
-PutsAllOut side sent refused old new =
-    (between : World) × CarriesMany side sent refused old between × (PutsNone side between new ⊎ ((sent ≡ most) × (new ≡ between)))
+abbrev pub PutsAllOut : Side → (sent refused stopped cut : ℕ) → World → World → Type 0
+PutsAllOut side sent refused stopped cut old new =
+    (between : World) × CarriesMany side sent refused stopped old between × (PutsNone side cut between new ⊎ ((sent ≡ most) × (cut ≡ 1) × (new ≡ between)))
 
 -- ---- what a user takes
 pub record TakesOne (side : Side) (old new : World) : Type 0 where
@@ -70,11 +77,11 @@ abbrev pub TakesMany : Side → ℕ → World → World → Type 0
 TakesMany side zero old new = new ≡ old
 TakesMany side (suc n) old new = (between : World) × TakesMany side n old between × TakesOne side between new
 
-abbrev pub TakesNone : Side → World → World → Type 0
-TakesNone side old new = (told : Result Answer Refusal) × Steps old (happen.Take side) told new × (event_in told ≡ None)
+abbrev pub TakesNone : Side → (cut : ℕ) → World → World → Type 0
+TakesNone side cut old new = (told : Result Answer Refusal) × Steps old (happen.Take side) told new × (event_in told ≡ None) × (cut ≡ refusals_in told)
 
-abbrev pub TakesAll : Side → ℕ → World → World → Type 0
-TakesAll side taken old new = (between : World) × TakesMany side taken old between × (TakesNone side between new ⊎ ((taken ≡ most) × (new ≡ between)))
+abbrev pub TakesAll : Side → (taken cut : ℕ) → World → World → Type 0
+TakesAll side taken cut old new = (between : World) × TakesMany side taken old between × (TakesNone side cut between new ⊎ ((taken ≡ most) × (cut ≡ 1) × (new ≡ between)))
 
 -- ---- rounds
 -- both clocks go on by so many milliseconds; then A puts out all that it may, and then B; and then both users take all that there is
@@ -83,23 +90,39 @@ pub record Round (ms : ℕ) (told : Calm) (old new : World) : Type 0 where
   pub ticks_a : Meets (happen.Tick A ms) old ticked_a
   pub ticked : World
   pub ticks_b : Meets (happen.Tick B ms) ticked_a ticked
+  pub cut_forth : ℕ  -- whether each is cut short
+  pub cut_back : ℕ
+  pub cut_a : ℕ
+  pub cut_b : ℕ
   pub sent_a : World
-  pub forth : PutsAllOut A told.a.sent told.a.refused ticked sent_a
+  pub forth : PutsAllOut A told.a.sent told.a.refused told.a.stopped cut_forth ticked sent_a
   pub sent : World
-  pub back : PutsAllOut B told.b.sent told.b.refused sent_a sent
+  pub back : PutsAllOut B told.b.sent told.b.refused told.b.stopped cut_back sent_a sent
   pub taken_a : World
-  pub takes_a : TakesAll A told.a.taken sent taken_a
-  pub takes_b : TakesAll B told.b.taken taken_a new
+  pub takes_a : TakesAll A told.a.taken cut_a sent taken_a
+  pub takes_b : TakesAll B told.b.taken cut_b taken_a new
+  pub all_a : told.a.cut_short ≡ cut_forth + cut_a
+  pub all_b : told.b.cut_short ≡ cut_back + cut_b
 
 abbrev pub no_share : Share
-no_share = record { sent = 0; refused = 0; taken = 0 }
+no_share = record { sent = 0; refused = 0; stopped = 0; taken = 0; cut_short = 0 }
 
 -- the counts stop there
 abbrev pub sum : ℕ → ℕ → ℕ
 sum m n = min (m + n) 18446744073709551615
 
 abbrev pub both : Share → Share → Share
-both s t = record { sent = sum s.sent t.sent; refused = sum s.refused t.refused; taken = sum s.taken t.taken }
+both s t = record {
+  sent = sum s.sent t.sent;
+  refused = sum s.refused t.refused;
+  stopped = sum s.stopped t.stopped;
+  taken = sum s.taken t.taken;
+  cut_short = sum s.cut_short t.cut_short;
+}
+
+-- all that a side put out was taken in, and nothing was cut short
+abbrev pub is_smooth : Share → Bool
+is_smooth s = s.refused == 0 && (s.stopped == 0 && s.cut_short == 0)
 
 -- so many rounds
 abbrev pub Rounds : ℕ → ℕ → Calm → World → World → Type 0

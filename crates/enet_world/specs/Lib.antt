@@ -3,3 +3,4 @@ pub mod Private
 pub mod Transcript
 pub mod Calm
 pub mod Delivered
+pub mod Progress

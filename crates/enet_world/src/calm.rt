@@ -1,9 +1,10 @@
 //! Rounds in which the network loses nothing.
 
-ghost use Rattle.std.specs.Prelude.{◌≡◌, ◌≤◌, is_some};
+ghost use Rattle.std.specs.Prelude.{◌≡◌, ◌≤◌, ◌&&◌, is_some};
 ghost use Rattle.law_network.specs.Headline.{HasHeadline};
 ghost use Rattle.enet_world.specs.Delivered.{HasDelivered};
-ghost use Rattle.enet_world.specs.Calm.{PutsAllOut, Round, Rounds, TakesAll, both, datagram_in, event_in, refusals_in};
+ghost use Rattle.enet_world.specs.Progress.{GetsThrough};
+ghost use Rattle.enet_world.specs.Calm.{PutsAllOut, Round, Rounds, TakesAll, both, datagram_in, event_in, is_smooth, refusals_in, stops_in};
 
 use crate::world::{World, other};
 use enet_codec::Refusal;
@@ -19,8 +20,12 @@ pub struct Share {
     pub sent: u64,
     /// How many of them the other side refused.
     pub refused: u64,
+    /// How many of them stopped there at a command, those behind it being passed over.
+    pub stopped: u64,
     /// How many events its user took.
     pub taken: u64,
+    /// How often it was cut short in what it put out or its user took, for want of memory or since there was more than 65,536 of it.
+    pub cut_short: u64,
 }
 
 /// What came of rounds without losses.
@@ -37,14 +42,32 @@ pub struct Calm {
 struct Output {
     sent: u64,
     refused: u64,
+    stopped: u64,
+    cut: u64,
+}
+
+/// What a user took in a round.
+#[derive(Clone, Copy)]
+struct Takings {
+    taken: u64,
+    cut: u64,
 }
 
 impl Share {
     const NOTHING: Share = Share {
         sent: 0,
         refused: 0,
+        stopped: 0,
         taken: 0,
+        cut_short: 0,
     };
+
+    /// Whether the other side took in all that it put out, and nothing was cut short.
+    fn is_smooth(self) -> bool
+        ensures { result ≡ is_smooth self }
+    {
+        self.refused == 0 && (self.stopped == 0 && self.cut_short == 0)
+    }
 
     /// The sums of both.
     fn plus(self, more: Share) -> Share
@@ -53,7 +76,9 @@ impl Share {
         Share {
             sent: self.sent.saturating_add(more.sent),
             refused: self.refused.saturating_add(more.refused),
+            stopped: self.stopped.saturating_add(more.stopped),
             taken: self.taken.saturating_add(more.taken),
+            cut_short: self.cut_short.saturating_add(more.cut_short),
         }
     }
 }
@@ -89,6 +114,26 @@ fn refusals_in(answer: &Result<Answer, Refusal>) -> u64
     }
 }
 
+/// How many datagrams an answer tells of that stopped at a command.
+fn stops_in(answer: &Result<Answer, Refusal>) -> u64
+    ensures counted { result ≡ stops_in answer.now }
+    ensures few { result ≤ 1 }
+{
+    match answer {
+        Ok(Answer::Received(received)) => { if received.stop.is_some() { 1 } else { 0 } }
+        _ => 0,
+    }
+}
+
+impl Calm {
+    /// Whether each side took in all that the other put out, and nothing was cut short: in these rounds nothing stood in the way.
+    pub fn is_smooth(&self) -> bool
+        ensures { result ≡ (is_smooth self.now.a && is_smooth self.now.b) }
+    {
+        self.a.is_smooth() && self.b.is_smooth()
+    }
+}
+
 impl World {
     /// Makes rounds happen in which the network loses nothing. In each both clocks go on by so many milliseconds, at most 60,000; then
     /// A puts out all that it may, and then B, and each datagram comes at once to the other side; and then both users take all that
@@ -98,15 +143,23 @@ impl World {
     /// which so few rounds can't reach. A turn or a take that is refused for want of memory counts as one that brought nothing; a
     /// datagram that the other side refuses, also for want of memory, is counted, and doesn't come again.
     ///
+    /// `progress`: once the network loses nothing, all comes. Of each connection that is connected at both sides before the rounds and
+    /// after them (`World::state`): where nothing stood in the way (`Calm::is_smooth`), and the rounds were enough, each user has taken
+    /// each packet flagged RELIABLE that the other has submitted on a channel below 255, in order. Rounds are enough where in one of them
+    /// all timeouts of what waited for its acknowledgement at first are over, at both, and twice as many come after it as data commands
+    /// were queued or waited at first, at both, on all channels. It isn't said that peers stay connected.
+    ///
     /// `delivered`: what a side has nothing left of has arrived. Where the peer of an end stands, still sends, and has no reliable command
     /// of a channel queued or unacknowledged after the rounds, each reliable packet that its user submitted there, and that went in order,
-    /// was dispatched at the other end, in order, if that stands and still dispatches. It isn't said that rounds lead there.
+    /// was dispatched at the other end, in order, if that stands and still dispatches.
     pub fn calm(&mut self, rounds: u16, ms: u32) -> Calm
         ensures rounds { Rounds ms rounds result self.old.world self.new.world }
         ensures joined { self.new.joined ≡ self.old.joined }
         ensures headline { HasHeadline self.new.joined self.new.world }
         ensures delivered { HasDelivered self.new.world }
+        ensures progress { GetsThrough ms rounds result self.old.world self.new.world }
     {
+        self.is_reached();
         let mut told = Calm {
             a: Share::NOTHING,
             b: Share::NOTHING,
@@ -138,51 +191,71 @@ impl World {
             a: Share {
                 sent: out_a.sent,
                 refused: out_a.refused,
-                taken: taken_a,
+                stopped: out_a.stopped,
+                taken: taken_a.taken,
+                cut_short: out_a.cut + taken_a.cut,
             },
             b: Share {
                 sent: out_b.sent,
                 refused: out_b.refused,
-                taken: taken_b,
+                stopped: out_b.stopped,
+                taken: taken_b.taken,
+                cut_short: out_b.cut + taken_b.cut,
             },
         }
     }
 
     /// A side puts out all that it may, and each datagram comes at once to the other side.
     fn put_all_out(&mut self, side: Side) -> Output
-        ensures all { PutsAllOut side result.sent result.refused self.old.world self.new.world }
+        ensures all { PutsAllOut side result.sent result.refused result.stopped result.cut self.old.world self.new.world }
+        ensures few { result.cut ≤ 1 }
         ensures joined { self.new.joined ≡ self.old.joined }
     {
         let mut sent = 0;
         let mut refused = 0;
+        let mut stopped = 0;
         'turns: while sent < MOST {
             let told = self.happen(&WorldEvent::Turn { side });
+            let cut = refusals_in(&told);
             let Some(k) = datagram_in(&told) else {
-                return Output { sent, refused };
+                return Output {
+                    sent,
+                    refused,
+                    stopped,
+                    cut,
+                };
             };
             let answer = self.happen(&WorldEvent::Deliver {
                 side: other(side),
                 k,
             });
             refused += refusals_in(&answer);
+            stopped += stops_in(&answer);
             sent += 1;
         }
-        Output { sent, refused }
+        Output {
+            sent,
+            refused,
+            stopped,
+            cut: 1,
+        }
     }
 
     /// A user takes all events that there are. How many there were.
-    fn take_all(&mut self, side: Side) -> u64
-        ensures all { TakesAll side result self.old.world self.new.world }
+    fn take_all(&mut self, side: Side) -> Takings
+        ensures all { TakesAll side result.taken result.cut self.old.world self.new.world }
+        ensures few { result.cut ≤ 1 }
         ensures joined { self.new.joined ≡ self.old.joined }
     {
         let mut taken = 0;
         'takes: while taken < MOST {
             let told = self.happen(&WorldEvent::Take { side });
             if !has_event(&told) {
-                return taken;
+                let cut = refusals_in(&told);
+                return Takings { taken, cut };
             }
             taken += 1;
         }
-        taken
+        Takings { taken, cut: 1 }
     }
 }

@@ -35,7 +35,7 @@ pub(crate) struct Hosts {
 
 impl Model for Hosts {
     ghost use Rattle.law_network.specs.World.{World};
-    ghost use Rattle.enet_world.specs.Worlds.{IsPlaced};
+    ghost use Rattle.enet_world.specs.Private.Worlds.{IsPlaced};
     ghost use Rattle.std.specs.Coded.{codes};
     ghost use Rattle.enet_inbox.specs.Codes.{inbox_code};
 

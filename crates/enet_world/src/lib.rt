@@ -6,10 +6,11 @@
 //! host call on its side, with what that adds to what is kept. `run` is its steps in order (`Runs`). After each the headline holds
 //! of every connection, end and channel, whatever was connected before, at the same time or after, slots used again included
 //! (`HasHeadline`), and what a host has nothing left to send of was delivered at the other (`HasDelivered`). `calm` is the stated rounds of
-//! such events in which the network loses nothing (`Rounds`), counted.
+//! such events in which the network loses nothing (`Rounds`), counted; enough of them bring all that was submitted reliably, of a
+//! connection that stands before and after them, where nothing stood in the way (`GetsThrough`).
 //! Only tested, by scripts/rows, `check_lists` and `check_memory`: that calls succeed with ample memory, worked runs with their
 //! answers and bytes, and that a call which was refused for want of memory is answered as wanted when it is made again.
-//! Neither: that a datagram arrives, or that memory is there; nor that rounds without losses bring everything through.
+//! Neither: that a datagram arrives, or that memory is there; nor that a connection stands through rounds without losses.
 #![tactic(auto)]
 
 mod calm;
@@ -18,6 +19,7 @@ mod hosts;
 mod world;
 
 pub use calm::{Calm, Share};
+pub use enet_host::PeerState;
 pub use happening::side_of;
 pub use law_network::{Answer, Side, WorldEvent};
 pub use world::World;

@@ -5,12 +5,15 @@ ghost use Rattle.std.specs.Option.{option_copied, option_map};
 ghost use Rattle.enet_codec.specs.Config.{is_in_range};
 ghost use Rattle.law_network.specs.Headline.{HasHeadline, end_at, submitted_at, taken_at, events_at};
 ghost use Rattle.law_network.specs.World.{World as TwoHosts, Steps, Runs, open_world, site_of, other};
+ghost use Rattle.enet_site.specs.Standing.{state_at};
 ghost use Rattle.enet_world.specs.Delivered.{HasDelivered};
 ghost use Rattle.enet_world.specs.Transcript.{IsOnEachFront};
 ghost use Rattle.enet_world.specs.Worlds.{begun};
+ghost use Rattle.enet_world.specs.Private.Worlds.{IsReached};
 
 use crate::hosts::Hosts;
 use enet_codec::{Config, Event, Packet, Refusal};
+use enet_host::PeerState;
 use law_network::{Answer, Side, WorldEvent, each_connection_in_order};
 use std::alloc::Global;
 use std::marker::Model;
@@ -29,7 +32,8 @@ pub struct World {
 }
 
 impl Model for World {
-    ghost use Rattle.enet_world.specs.Worlds.{Begun, IsReached};
+    ghost use Rattle.enet_world.specs.Worlds.{Begun};
+    ghost use Rattle.enet_world.specs.Private.Worlds.{IsReached};
     ghost use Rattle.std.specs.Coded.{codes};
     ghost use Rattle.enet_inbox.specs.Codes.{inbox_code};
 
@@ -142,6 +146,14 @@ impl World {
         let _ = &self.hosts;
     }
 
+    /// Every world is one that steps made of two hosts to which nothing had happened.
+    pub(crate) fn is_reached(&self)
+        ensures { IsReached self.now.joined self.now.world }
+    {
+        // The field is looked at, so that what holds of every world is known here.
+        let _ = &self.hosts;
+    }
+
     /// Makes one event happen. An event that is refused changes nothing; `WorldEvent` names the refusals that each can meet, in the
     /// order in which they are tested.
     pub fn step(&mut self, event: WorldEvent) -> Result<Answer, Refusal>
@@ -213,6 +225,13 @@ impl World {
         ensures { result.now ≡ events_at (end_at self.now.world conn side) }
     {
         self.hosts.site(side).events(conn)
+    }
+
+    /// How far a connection has come at a side; None where there is no such connection, or its peer is gone there.
+    pub fn state(&self, conn: u64, side: Side) -> Option<PeerState>
+        ensures { result ≡ state_at (site_of self.now.world side) conn }
+    {
+        self.hosts.site(side).state(conn)
     }
 
     /// The bytes of a datagram that a side has put out, or None where it has put out fewer.

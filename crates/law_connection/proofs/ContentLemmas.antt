@@ -107,7 +107,7 @@ both_above first last k low up =
     let there : nat_lt last k ≡ true = grind (arith, nat_tests) in
     here ∙ sym there
 
-is_up : (a b : ℕ) → T (is_lt (nat_cmp a b)) → a < b
+pub is_up : (a b : ℕ) → T (is_lt (nat_cmp a b)) → a < b
 is_up a b t =
     elim (nat_cmp a b) as (λ r. r ≡ nat_cmp a b → T (is_lt r) → a < b) [
       | Less ↦ λ e _. ranked a b Less e
@@ -166,7 +166,7 @@ waiting-replaced_other w n q packets apart =
     ]
 
 -- what still waits waited before
-waiting-left : (w : FinMap nat_cmp (FinMap nat_cmp IncomingPacket)) (n k : ℕ) (o : Option (FinMap nat_cmp IncomingPacket)) (e : IncomingPacket) → ((m : FinMap nat_cmp IncomingPacket) → o ≡ Some m → get w n ≡ Some m) → get (unwrap_or o empty) k ≡ Some e → get (unwrap_or (get w n) empty) k ≡ Some e
+pub waiting-left : (w : FinMap nat_cmp (FinMap nat_cmp IncomingPacket)) (n k : ℕ) (o : Option (FinMap nat_cmp IncomingPacket)) (e : IncomingPacket) → ((m : FinMap nat_cmp IncomingPacket) → o ≡ Some m → get w n ≡ Some m) → get (unwrap_or o empty) k ≡ Some e → get (unwrap_or (get w n) empty) k ≡ Some e
 waiting-left w n k None e h t = absurd (let f : get (empty {X = IncomingPacket} {R = nat_cmp}) k ≡ None = get-empty nat_cmp k in cc)
 waiting-left w n k (Some m) e h t = ap (λ (o : Option (FinMap nat_cmp IncomingPacket)). get (unwrap_or o empty) k) (h m refl) ∙ t
 

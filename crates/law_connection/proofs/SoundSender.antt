@@ -71,10 +71,10 @@ no_fewer len mtu =
 IsCut-carried : (mtu count : ℕ) (p : Packet) → 28 < mtu → (carried_as mtu count p).pieces ≤ 16384 → IsCut mtu (carried_as mtu count p)
 IsCut-carried mtu count p big few = record { some' = some_piece (length p.body) mtu; few = few; covered = piece_count-enough (length p.body) mtu big; tight = no_fewer (length p.body) mtu }
 
-IsPlain-carried : (mtu count : ℕ) (p : Packet) → IsPlain mtu (carried_as mtu count p)
+pub IsPlain-carried : (mtu count : ℕ) (p : Packet) → IsPlain mtu (carried_as mtu count p)
 IsPlain-carried mtu count p short = one_piece (length p.body) mtu short
 
-carried-push : (mtu count : ℕ) (ps : List Packet) (p : Packet) → carried_from mtu count (ps ++ p ∷ []) ≡ carried_from mtu count ps ++ carried_as mtu (count_after count (carried_from mtu count ps)) p ∷ []
+pub carried-push : (mtu count : ℕ) (ps : List Packet) (p : Packet) → carried_from mtu count (ps ++ p ∷ []) ≡ carried_from mtu count ps ++ carried_as mtu (count_after count (carried_from mtu count ps)) p ∷ []
 carried-push mtu count [] p = refl
 carried-push mtu count (x ∷ ps) p = ap (λ (l : List ChosenPacket). carried_as mtu count x ∷ l) (carried-push mtu (cond (goes_reliable mtu count x) 0 (count + 1)) ps p)
 

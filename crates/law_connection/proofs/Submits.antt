@@ -79,7 +79,7 @@ agrees : (from to : End) (channel : ℕ) → 28 < mtu_of from → IsLinked from 
 agrees from to channel big k = elim k.agreed [ inl none ↦ with-mtu from to channel (mtu_of from) k big none | inr e ↦ (k, sym e) ]
 
 -- what was submitted on a channel
-of_channel-push : (mtu channel : ℕ) (qs : List Packet) (q : Packet) → of_channel mtu channel (qs ++ q ∷ []) ≡ of_channel mtu channel qs ++ of_channel mtu channel (q ∷ [])
+pub of_channel-push : (mtu channel : ℕ) (qs : List Packet) (q : Packet) → of_channel mtu channel (qs ++ q ∷ []) ≡ of_channel mtu channel qs ++ of_channel mtu channel (q ∷ [])
 of_channel-push mtu channel [] q = refl
 of_channel-push mtu channel (x ∷ qs) q =
     let h = of_channel-push mtu channel qs q in

@@ -36,7 +36,7 @@ abbrev AreIdle : List SendingEnd → Type 0
 AreIdle ss = (i : ℕ) → sender_in (slice_get ss i) ≡ nothing_sent
 
 -- what stands in a list after a change at one place
-set-cases : {X : Type 0} (xs : List X) (k : ℕ) (y : X) (i : ℕ) (x : X) → slice_get (slice_set xs k y) i ≡ Some x → (y ≡ x) ⊎ (slice_get xs i ≡ Some x)
+pub set-cases : {X : Type 0} (xs : List X) (k : ℕ) (y : X) (i : ℕ) (x : X) → slice_get (slice_set xs k y) i ≡ Some x → (y ≡ x) ⊎ (slice_get xs i ≡ Some x)
 set-cases [] k y i x e = inr e
 set-cases (z ∷ xs) zero y zero x e = inl (let f : Some y ≡ Some x = e in cc)
 set-cases (z ∷ xs) zero y (suc i) x e = inr e
@@ -88,7 +88,7 @@ tidy-core qs p q e h = record {
   big = λ t. subst (λ (c : Core). 28 < c.mtu) (sym e) (h.big (ap (λ (c : Core). is_agreed c.state) (sym e) ∙ t));
 }
 
-connected-old : (s : PeerState) → is_connected s ≡ true → is_young s ≡ false
+pub connected-old : (s : PeerState) → is_connected s ≡ true → is_young s ≡ false
 connected-old state.Connected e = refl
 connected-old state.DisconnectLater e = refl
 connected-old state.Connecting e = absurd (cc)

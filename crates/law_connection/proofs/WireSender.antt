@@ -321,7 +321,7 @@ row-skipped before (c ∷ cs) last r =
     not_reliable true b k = absurd (cc)
     not_reliable false b k = refl
 
-Has-skipped : (cs : List DataCommand) (c : DataCommand) → Has (skipped cs) c → Has cs c
+pub Has-skipped : (cs : List DataCommand) (c : DataCommand) → Has (skipped cs) c → Has cs c
 Has-skipped [] c h = h
 Has-skipped (d ∷ cs) c h =
     elim (is_more d) as (λ b. Has (cond b (skipped cs) (d ∷ cs)) c → Has (d ∷ cs) c) [

@@ -1,5 +1,5 @@
 -- Each channel of a peer is a receiver that hears what came, whatever happens at the end.
-use Rattle.std.proofs.Common.{◌≡◌, ◌≢◌, ℕ, zero, suc, ◌+◌, ◌-◌, ◌%◌, ◌<◌, Bool, true, false, cond, not, List, [], ◌∷◌, ◌++◌, length, refl, sym, ap, subst, ◌∙◌, inl, inr, ◌⊎◌, arith, Option, Some, None, ltb, leb, slice_set}
+use Rattle.std.proofs.Common.{◌≡◌, ◌≢◌, ℕ, ◌+◌, ◌-◌, ◌%◌, ◌<◌, Bool, true, false, cond, not, List, [], ◌∷◌, ◌++◌, length, refl, sym, ap, subst, ◌∙◌, inl, inr, arith, Option, Some, None, ltb, leb}
 use Rattle.std.proofs.lemmas.List.{append-nil, map-append}
 use Rattle.std.specs.List.{slice_get}
 use Rattle.enet_codec.specs.declared.command.Head.{Head}
@@ -38,6 +38,7 @@ use Rattle.law_connection.proofs.GivingWay.{AreFlat, met-flat}
 use Rattle.law_connection.proofs.InboxMoves.{grown, shown_in, arrival-own, arrival-other}
 use Rattle.law_connection.proofs.Lists.{Has-push}
 use Rattle.law_connection.proofs.Runs.{get-map, get-set-other}
+use Rattle.law_connection.proofs.TidyPeers.{set-cases}
 use Rattle.law_connection.proofs.WireReceiver.{Shows-received, Shows-given_up}
 use Rattle.law_one_end.specs.OneEnd.{Heard, heard_as, gone_to}
 use Rattle.law_one_end.specs.Carried.{AreCarried}
@@ -266,13 +267,6 @@ other-by b k channel r c Held n = get-set-other b.receivers k channel (emptied (
 other-receiver : (b : Inbox) (k channel : ℕ) (c : DataCommand) (o : Option ReceivingEnd) → k ≢ channel → slice_get (sequenced_on b k c o).after.receivers channel ≡ slice_get b.receivers channel
 other-receiver b k channel c None n = refl
 other-receiver b k channel c (Some r) n = other-by b k channel r c (outcome_for r (Some c) (is_full_for b r c)) n
-
-set-cases : {X : Type 0} (xs : List X) (k : ℕ) (y : X) (i : ℕ) (x : X) → slice_get (slice_set xs k y) i ≡ Some x → (y ≡ x) ⊎ (slice_get xs i ≡ Some x)
-set-cases [] k y i x e = inr e
-set-cases (z ∷ xs) zero y zero x e = inl (let f : Some y ≡ Some x = e in cc)
-set-cases (z ∷ xs) zero y (suc i) x e = inr e
-set-cases (z ∷ xs) (suc k) y zero x e = inr e
-set-cases (z ∷ xs) (suc k) y (suc i) x e = set-cases xs k y i x e
 
 -- what a receiver dispatched is handed over
 flat-by : (b : Inbox) (k : ℕ) (r : ReceivingEnd) (c : DataCommand) (t : Took) → slice_get b.receivers k ≡ Some r → AreFlat b.receivers → AreFlat (by_took t b k r c).after.receivers

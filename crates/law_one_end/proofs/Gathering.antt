@@ -1,9 +1,8 @@
 -- What a receiver has of packets was brought by the commands that came, and so was what it dispatched.
-use Rattle.std.proofs.Common.{◌≡◌, ℕ, zero, suc, ◌+◌, ◌%◌, ◌<◌, ◌≤◌, T, Bool, true, false, cond, not, ◌==◌, ◌&&◌, ◌||◌, List, [], ◌∷◌, ◌++◌, map, get_or, refl, sym, ap, subst, ◌∙◌, inl, inr, arith, Option, Some, None, Less, Equal, Greater}
+use Rattle.std.proofs.Common.{◌≡◌, ℕ, zero, suc, ◌+◌, ◌%◌, ◌<◌, ◌≤◌, T, Bool, true, false, cond, not, ◌==◌, ◌&&◌, ◌||◌, List, [], ◌∷◌, ◌++◌, map, get_or, refl, sym, ap, subst, ◌∙◌, inl, inr, arith, Option, Some, None}
 use Rattle.std.specs.List.{concat}
 use Rattle.std.specs.Prelude.{unwrap_or, nat_le, nat_lt, slice_get, is_some}
-use Rattle.std.specs.Ordering.{nat_cmp, is_lt}
-use Rattle.std.specs.Cmp.{ranked}
+use Rattle.std.specs.Ordering.{nat_cmp}
 use Rattle.std.specs.FinMap.{FinMap, get, insert, empty, entries, entries_sorted, is_sorted, get-empty, retain_keys}
 use Rattle.std.specs.FinMap.Entries.{below_all}
 use Rattle.std.proofs.lemmas.Bool.{and_parts}
@@ -27,7 +26,7 @@ use Rattle.enet_receiver.proofs.Entries.{get_entry, get_retained, above_all, T_l
 use Rattle.enet_receiver.proofs.Without.{get_without}
 use Rattle.enet_receiver.proofs.Admission.{earlier_facts, piece_sound}
 use Rattle.law_connection.proofs.Makings.{count_of-nothing, count_of-with, piece_at-nothing, piece_cases, has_piece-some, whole-has}
-use Rattle.law_connection.proofs.ContentLemmas.{waiting-replaced_same, waiting-replaced_other, none-wait}
+use Rattle.law_connection.proofs.ContentLemmas.{is_up, waiting-left, waiting-replaced_same, waiting-replaced_other, none-wait}
 use Rattle.law_connection.proofs.Runs.{get-map, inside}
 use Rattle.law_one_end.specs.OneEnd.{Heard}
 use Rattle.law_one_end.specs.Carried.{Place, Brings, IsCarried, reliable_at, unreliable_at}
@@ -170,14 +169,6 @@ hears-given_up came channel r h = record { next = h.next; low = h.low; row = h.r
 
 -- unreliable packets are dispatched
 
-is_up : (a b : ℕ) → T (is_lt (nat_cmp a b)) → a < b
-is_up a b t =
-    elim (nat_cmp a b) as (λ r. r ≡ nat_cmp a b → T (is_lt r) → a < b) [
-      | Less ↦ λ e _. ranked a b Less e
-      | Equal ↦ λ _ f. absurd f
-      | Greater ↦ λ _ f. absurd f
-    ] refl t
-
 and-parts : (a b : Bool) → (a && b) ≡ true → (a ≡ true) × (b ≡ true)
 and-parts true b k = (refl, k)
 and-parts false b k = absurd (cc)
@@ -263,10 +254,6 @@ hears-flushed came channel first r h low =
     }
 
 -- what still waits waited before
-waiting-left : (w : FinMap nat_cmp (FinMap nat_cmp IncomingPacket)) (n k : ℕ) (o : Option (FinMap nat_cmp IncomingPacket)) (e : IncomingPacket) → ((m : FinMap nat_cmp IncomingPacket) → o ≡ Some m → get w n ≡ Some m) → get (unwrap_or o empty) k ≡ Some e → get (unwrap_or (get w n) empty) k ≡ Some e
-waiting-left w n k None e h t = absurd (let f : get (empty {X = IncomingPacket} {R = nat_cmp}) k ≡ None = get-empty nat_cmp k in cc)
-waiting-left w n k (Some m) e h t = ap (λ (o : Option (FinMap nat_cmp IncomingPacket)). get (unwrap_or o empty) k) (h m refl) ∙ t
-
 hears-dispatched : (came : List Heard) (channel : ℕ) (r : Receiver) (c : IncomingPacket) → get r.held (r.front + 1) ≡ Some c → is_whole c.making ≡ true → Hears came channel r → Hears came channel (with_dispatched unbounded r c)
 hears-dispatched came channel r c e w h =
     let it = h.held (r.front + 1) c e in

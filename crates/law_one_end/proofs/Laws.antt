@@ -43,7 +43,7 @@ use Rattle.law_one_end.proofs.Gathering.{hears-nothing}
 use Rattle.law_one_end.proofs.Following.{all-cut, ready-nothing}
 use Rattle.law_one_end.proofs.Turns.{core, StaysAt, stays, ticked-stays, left-stays, set-stays, gone_on-stays, obeyed-becomes}
 use Rattle.law_one_end.proofs.Loose.{arrival-loose}
-use Rattle.law_one_end.proofs.Ears.{Told, IsEar, AllHear, dispatched, told-stays, told-taken, told-arrival, told-passed, after}
+use Rattle.law_one_end.proofs.Ears.{Told, IsEar, AllHear, told-stays, told-taken, told-arrival, told-passed, after}
 
 abbrev told_of : OneEnd → Told
 told_of e = record { came = e.came; fronts = e.fronts; taken = e.taken; opens = dispatches_in e.peer.state; inbox = e.peer.inbox }

@@ -7,10 +7,13 @@ pub mod Turns
 pub mod Ears
 pub mod Loose
 pub mod Laws
-pub mod Wired
 pub mod Sending
 pub mod PuttingOut
 pub mod SentRuns
 pub mod Datagrams
 pub mod Refuting
 pub mod ExampleRuns
+pub mod Deeds
+pub mod Calls
+pub mod Hosts
+pub mod Foreign

@@ -36,10 +36,13 @@ use Rattle.law_connection.proofs.Lists.{Has-push_cases, Has-append_cases}
 use Rattle.law_connection.proofs.Moves.{senders-after}
 use Rattle.law_connection.proofs.Packing.{control-none}
 use Rattle.law_connection.proofs.PeerChanges.{Core, Changes, kept-emitted}
+use Rattle.law_connection.proofs.Reading.{reads-piece}
 use Rattle.law_connection.proofs.Runs.{either, get-map, get-set, get-set-other}
+use Rattle.law_connection.proofs.SoundSender.{carried-push}
+use Rattle.law_connection.proofs.Submits.{of_channel-push}
+use Rattle.law_connection.proofs.TidyPeers.{connected-old}
 use Rattle.law_one_end.specs.Sent.{IsMeant}
-use Rattle.law_one_end.proofs.Wired.{reads-piece}
-use Rattle.law_one_end.proofs.Sending.{Fewer, IsSender, next-fewer, skipped-fewer, acknowledged-fewer, marked-fewer, cleared-fewer, fewer-then, sender-fewer, sender-nothing, sender-submitted, carried-push, meant-more}
+use Rattle.law_one_end.proofs.Sending.{Fewer, IsSender, next-fewer, skipped-fewer, acknowledged-fewer, marked-fewer, cleared-fewer, fewer-then, sender-fewer, sender-nothing, sender-submitted, meant-more}
 
 -- the senders of what was submitted
 abbrev pub AreSenders : ℕ → List Packet → List SendingEnd → Type 0
@@ -98,17 +101,6 @@ none-meant mtu c h = (let p = h.piece in let s = p.stands in nothing s.before s.
     nothing : {A : Type 0} (before behind : List ChosenPacket) (x : ChosenPacket) → [] ≡ before ++ x ∷ behind → A
     nothing [] behind x e = absurd (cc)
     nothing (y ∷ before) behind x e = absurd (cc)
-
-connected-old : (s : PeerState) → is_connected s ≡ true → is_young s ≡ false
-connected-old state.Connected e = refl
-connected-old state.DisconnectLater e = refl
-connected-old state.Connecting e = absurd (cc)
-connected-old state.Answering e = absurd (cc)
-connected-old state.Disconnecting e = absurd (cc)
-connected-old state.AckDisconnect e = absurd (cc)
-connected-old state.Ended e = absurd (cc)
-connected-old state.Parting e = absurd (cc)
-connected-old state.Free e = absurd (cc)
 
 -- a peer that stops
 stops : (qs : List Packet) (put : List Message) (p q : Peering) → is_young q.state ≡ false → q.terms ≡ p.terms → q.outbox.senders ≡ map cleared_sender p.outbox.senders → Sends qs put p → Sends qs put q
@@ -251,16 +243,6 @@ sends-emitted qs put p now h =
     }
 
 -- a submission
-
-of_channel-push : (mtu channel : ℕ) (qs : List Packet) (q : Packet) → of_channel mtu channel (qs ++ q ∷ []) ≡ of_channel mtu channel qs ++ of_channel mtu channel (q ∷ [])
-of_channel-push mtu channel [] q = refl
-of_channel-push mtu channel (x ∷ qs) q = by (x.channel == channel && not (is_unsequenced mtu (record { flags = x.flags; body = x.body }))) (of_channel-push mtu channel qs q)
-  where
-    by : (b : Bool) → of_channel mtu channel (qs ++ q ∷ []) ≡ of_channel mtu channel qs ++ of_channel mtu channel (q ∷ [])
-        → cond b ((record { flags = x.flags; body = x.body }) ∷ of_channel mtu channel (qs ++ q ∷ [])) (of_channel mtu channel (qs ++ q ∷ []))
-        ≡ cond b ((record { flags = x.flags; body = x.body }) ∷ of_channel mtu channel qs) (of_channel mtu channel qs) ++ of_channel mtu channel (q ∷ [])
-    by true e = ap (λ (l : List command_choice.Packet). (record { flags = x.flags; body = x.body }) ∷ l) e
-    by false e = e
 
 -- what was meant still is
 meant-submitted : (mtu channel : ℕ) (qs : List Packet) (q : Packet) (c : DataCommand) → IsMeant mtu (carried mtu (of_channel mtu channel qs)) c → IsMeant mtu (carried mtu (of_channel mtu channel (qs ++ q ∷ []))) c

@@ -1,19 +1,14 @@
 -- What an end has queued, has sent or has put out on its channels are commands of what its user submitted.
-use Rattle.std.proofs.Common.{◌≡◌, ℕ, zero, suc, ◌+◌, ◌-◌, ◌/◌, ◌%◌, ◌<◌, ◌≤◌, Bool, true, false, cond, ◌==◌, List, [], ◌∷◌, ◌++◌, map, take, drop, length, slice_set, refl, sym, ap, subst, ◌∙◌, inl, inr, ◌⊎◌, arith, Option, Some, None}
-use Rattle.std.specs.Prelude.{nat_lt}
+use Rattle.std.proofs.Common.{◌≡◌, ℕ, zero, suc, ◌+◌, ◌%◌, ◌<◌, Bool, true, false, cond, List, [], ◌∷◌, ◌++◌, map, take, drop, slice_set, refl, sym, ap, subst, ◌∙◌, inl, inr, ◌⊎◌, arith, Option, Some, None}
 use Rattle.std.specs.List.{range_with_len, remove}
-use Rattle.std.proofs.lemmas.Bool.Decides.{nat_tests}
-use Rattle.std.proofs.lemmas.Nat.{div_below}
-use Rattle.enet_codec.specs.declared.packet.Packet.{Packet}
 use Rattle.enet_seq.specs.Numbering.{wire, unbounded}
-use Rattle.enet_fragment.specs.Cutting.{piece_length, piece_count}
 use Rattle.enet_fragment.specs.declared.data.DataCommand.{DataCommand}
 use Rattle.enet_receiver.specs.Members.{Has}
-use Rattle.enet_sender.specs.CommandChoice.{ChosenPacket, carried, carried_from, carried_as, goes_reliable}
+use Rattle.enet_sender.specs.CommandChoice.{ChosenPacket, carried, carried_as}
 use Rattle.enet_sender.specs.CommandChoice as command_choice
 use Rattle.enet_sender.specs.declared.outgoing.Occasion.{Occasion}
 use Rattle.enet_sender.specs.declared.sent.Sent.{Sent}
-use Rattle.enet_sender.specs.Sender.{Sender, Next, next, nothing_sent, command_at, commands_of, begun, again, skipped, is_more, with_skipped, without_place, position_of, after_acknowledgement, with_marked}
+use Rattle.enet_sender.specs.Sender.{Sender, Next, next, nothing_sent, command_at, commands_of, begun, again, with_skipped, without_place, position_of, after_acknowledgement, with_marked}
 use Rattle.enet_sender.specs.Sender as sender
 use Rattle.law_connection.specs.Follows.{command_count, count_after}
 use Rattle.law_connection.specs.Link.{wired}
@@ -22,9 +17,10 @@ use Rattle.law_connection.proofs.CarriageLemmas.{command_count-append, count_aft
 use Rattle.law_connection.proofs.Emits.{Has-from_map}
 use Rattle.law_connection.proofs.Lists.{Has-push_cases, Has-append_cases, Has-slice_get}
 use Rattle.law_connection.proofs.PieceLemmas.{IsPieceOf-more}
-use Rattle.law_connection.proofs.SoundSender.{Resends, Begins, next_cases}
+use Rattle.law_connection.proofs.QueueLemmas.{wired-commands}
+use Rattle.law_connection.proofs.SoundSender.{Resends, Begins, next_cases, IsPlain-carried, carried-push}
+use Rattle.law_connection.proofs.WireSender.{Has-skipped}
 use Rattle.law_one_end.specs.Sent.{IsMeant}
-use Rattle.law_one_end.proofs.Wired.{wired-commands}
 
 -- the commands that a sender has, queued or sent
 abbrev pub Commands : Sender → DataCommand → Type 0
@@ -109,14 +105,6 @@ next-fewer o s n e = elim (next_cases o s n e) [ inl r ↦ resent r | inr b ↦ 
           },
         )
 
-Has-skipped : (cs : List DataCommand) (c : DataCommand) → Has (skipped cs) c → Has cs c
-Has-skipped [] c h = h
-Has-skipped (d ∷ cs) c h = by (λ k. Has-skipped cs c k) (is_more d) h
-  where
-    by : (Has (skipped cs) c → Has cs c) → (b : Bool) → Has (cond b (skipped cs) (d ∷ cs)) c → Has (d ∷ cs) c
-    by rest true k = inr (rest k)
-    by rest false k = k
-
 pub skipped-fewer : (s : Sender) → Fewer s (with_skipped s)
 skipped-fewer s = record { number = refl; unreliable = refl; commands = λ c h. elim h [ inl q ↦ inl (Has-skipped s.queued c q) | inr w ↦ inr w ] }
 
@@ -142,33 +130,6 @@ pub cleared-fewer : (s : Sender) → Fewer s (sender.cleared s)
 cleared-fewer s = record { number = refl; unreliable = refl; commands = λ c h. elim h [ inl f ↦ absurd f | inr w ↦ absurd w.1 ] }
 
 -- what was submitted
-
-one_piece : (len mtu : ℕ) → nat_lt (piece_length mtu) len ≡ false → piece_count len mtu ≡ 1
-unfolding piece_count
-one_piece len mtu short =
-    elim (len == 0) as (λ b. (len == 0) ≡ b → cond b 1 ((len - 1) / piece_length mtu + 1) ≡ 1) [
-      | true ↦ λ e. refl
-      | false ↦ λ e. fits (piece_length mtu) short (some_byte len e)
-    ] refl
-  where
-    some_byte : (n : ℕ) → (n == 0) ≡ false → 0 < n
-    some_byte n e = grind (arith, nat_tests)
-
-    fits : (size : ℕ) → nat_lt size len ≡ false → 0 < len → (len - 1) / size + 1 ≡ 1
-    fits size e some' =
-        let low : len ≤ size = below size len e in
-        let none : (len - 1) / size < 1 = div_below (len - 1) size 1 (omega arith) (omega arith) in
-        omega arith
-      where
-        below : (m n : ℕ) → nat_lt m n ≡ false → n ≤ m
-        below m n t = grind (arith, nat_tests)
-
-plain-carried : (mtu count : ℕ) (p : command_choice.Packet) → IsPlain mtu (carried_as mtu count p)
-plain-carried mtu count p short = one_piece (length p.body) mtu short
-
-pub carried-push : (mtu count : ℕ) (ps : List command_choice.Packet) (p : command_choice.Packet) → carried_from mtu count (ps ++ p ∷ []) ≡ carried_from mtu count ps ++ carried_as mtu (count_after count (carried_from mtu count ps)) p ∷ []
-carried-push mtu count [] p = refl
-carried-push mtu count (x ∷ ps) p = ap (λ (l : List ChosenPacket). carried_as mtu count x ∷ l) (carried-push mtu (cond (goes_reliable mtu count x) 0 (count + 1)) ps p)
 
 pub meant-more : (mtu : ℕ) (cs : List ChosenPacket) (x : ChosenPacket) (c : DataCommand) → IsMeant mtu cs c → IsMeant mtu (cs ++ x ∷ []) c
 meant-more mtu cs x c h = record { meant = h.meant; piece = IsPieceOf-more mtu cs x h.meant h.piece; on_the_wire = h.on_the_wire }
@@ -214,7 +175,7 @@ sender-submitted mtu ps s p h = record {
     | inr w ↦ meant-more mtu cs c d (h.commands d (inr w))
     | inl q ↦ elim (Has-append_cases s.queued (commands_of wire mtu s.number s.unreliable c) d q) [
       | inl old ↦ meant-more mtu cs c d (h.commands d (inl old))
-      | inr new ↦ (let r = Has-from_map wired made d (subst (λ l. Has l d) on new) in record { meant = r.0; piece = new-meant mtu cs c r.0 (plain-carried mtu s.unreliable p) r.1; on_the_wire = sym r.2 })
+      | inr new ↦ (let r = Has-from_map wired made d (subst (λ l. Has l d) on new) in record { meant = r.0; piece = new-meant mtu cs c r.0 (IsPlain-carried mtu s.unreliable p) r.1; on_the_wire = sym r.2 })
     ]
   ]);
 }

@@ -30,6 +30,7 @@ use Rattle.enet_peer.specs.Calls.{left, after_timeouts, after_timeouts_by, is_pi
 use Rattle.law_connection.specs.Linked.{dispatches_in}
 use Rattle.law_connection.specs.Steps.{Way, Asking, Now, Later, leave_by, Setting, Bandwidth, Throttle, ThrottleLimit, PingInterval, Timeout, with_setting}
 use Rattle.law_connection.proofs.Arrivals.{get-take}
+use Rattle.law_connection.proofs.Runs.{either}
 
 -- what a peer has for its user, and whether it still dispatches
 pub record Core : Type 0 where
@@ -59,10 +60,6 @@ shut a b e same = record { opens = λ t. not-both b.opens e t; receivers = λ t.
 -- and forgets what wasn't taken
 forgets : (a b : Core) → b.opens ≡ false → b.untaken ≡ [] → Stays a b
 forgets a b e none = record { opens = λ t. not-both b.opens e t; receivers = λ t. not-both b.opens e t; untaken = inr (none, e) }
-
-either : (b : Bool) → (b ≡ true) ⊎ (b ≡ false)
-either true = inl refl
-either false = inr refl
 
 pub stays-then : (a b c : Core) → Stays a b → Stays b c → Stays a c
 stays-then a b c f g = record {

@@ -4,5 +4,6 @@ pub mod Rules
 pub mod Sent
 pub mod Law
 pub mod Datagrams
+pub mod Hosts
 pub mod Refuted
 pub mod Examples

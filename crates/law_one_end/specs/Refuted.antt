@@ -1,9 +1,18 @@
 -- What the law rules out of what a user takes.
-use Rattle.std.specs.Prelude.{◌≢◌, ℕ, true, None, List, [], ◌∷◌}
+use Rattle.std.specs.Prelude.{◌≡◌, ◌≢◌, ℕ, true, false, Some, None, List, [], ◌∷◌}
+use Rattle.enet_codec.specs.declared.address.Addr.{Addr}
+use Rattle.enet_codec.specs.declared.event.Event.TheVariants as event
+use Rattle.enet_codec.specs.declared.event.PeerRef.{PeerRef}
+use Rattle.enet_codec.specs.declared.event.Received.{Received}
+use Rattle.enet_host.specs.Receiving.{handled_one}
 use Rattle.enet_packets.specs.declared.incoming_packet.Dispatched.{Dispatched}
 use Rattle.enet_receiver.specs.Members.{Has}
+use Rattle.enet_slot.specs.Receiving.{is_same_address}
+use Rattle.law_network.specs.Calls.{Call, Series}
+use Rattle.law_network.specs.Calls as call
 use Rattle.law_one_end.specs.OneEnd.{Heard}
 use Rattle.law_one_end.specs.Carried.{AreCarried}
+use Rattle.law_one_end.specs.Hosts.{IsEnd, IsNobody}
 
 -- nothing came on a channel
 abbrev pub CameElsewhere : ℕ → List Heard → Type 0
@@ -19,3 +28,12 @@ command_of number byte = record { channel = 0; command = record { reliable = tru
 
 abbrev pub packet_of : ℕ → Dispatched
 packet_of byte = record { flags = 1; body = byte ∷ [] }
+
+-- of a host: a CONNECT came from an address, another datagram from another address, and of the peer its user took a packet
+abbrev pub foreign : PeerRef → Addr → List ℕ → Addr → List ℕ → Received → List Call
+foreign name a connect b other answer =
+    call.Receive a connect handled_one ∷ call.Receive b other answer ∷ call.NextEvent (Some (event.Receive name (record { channel = 0; flags = 1; body = 7 ∷ [] }))) ∷ []
+
+abbrev pub ForeignIsRefused : Type 0
+ForeignIsRefused = (name : PeerRef) (a b : Addr) (connect other : List ℕ) (answer : Received) → is_same_address a b ≡ false
+    → (IsNobody name (foreign name a connect b other answer) → ⊥) × ((series : Series (foreign name a connect b other answer)) → IsEnd name (foreign name a connect b other answer) series → ⊥)

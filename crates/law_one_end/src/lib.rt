@@ -9,8 +9,9 @@
 //! Proved: what the user takes was carried by what came, in order, each packet whole and each reliable number once; where the other end keeps
 //! the rules of the wire it follows what that end sent (`what_is_taken`). That rules something out (`false_takes_are_refuted`). Each data
 //! command that goes is of what the user submitted, under its number (`what_is_put_out`). A run in which a packet is taken does happen
-//! (`runs_happen`). A datagram that comes is such events (`a_datagram_comes_as_commands`). Not promised: that an unsequenced packet is taken
-//! once, that anything arrives, and of hosts: there a peer's commands are those of datagrams that come from its address.
+//! (`runs_happen`). A datagram that comes is such events (`a_datagram_comes_as_commands`). Each peer of a host is such an end, by the calls of
+//! the host and what came from where the peer is (`each_peer_of_a_host`). Not promised: that an unsequenced packet is taken once, or that
+//! anything arrives.
 #![tactic(auto)]
 
 ghost use Rattle.std.specs.Prelude.{ℕ, List, [], ◌∷◌};
@@ -22,8 +23,11 @@ ghost use Rattle.law_one_end.specs.OneEnd.{Heard, OneEnd};
 ghost use Rattle.law_one_end.specs.Datagrams.{HasCome};
 ghost use Rattle.law_one_end.specs.Law.{IsHeard, OfEachAnswering, OfEachAsking, OfEachJoined};
 ghost use Rattle.law_one_end.specs.Sent.{IsSent};
-ghost use Rattle.law_one_end.specs.Refuted.{CameElsewhere, IsRefused, command_of, packet_of};
+ghost use Rattle.law_one_end.specs.Refuted.{CameElsewhere, ForeignIsRefused, IsRefused, command_of, packet_of};
 ghost use Rattle.law_one_end.specs.Examples.{OfSomeRun, HasTaken};
+ghost use Rattle.law_one_end.specs.Hosts.{EachIsOneEnd};
+
+use enet_host::HostCore;
 
 /// What an end's user takes, over every list of events, whoever sends. An unsequenced packet is one that came so, on its channel and with its
 /// bytes (`loose` of `IsHeard`). Of each channel, these apart:
@@ -61,15 +65,31 @@ pub fn a_datagram_comes_as_commands()
         → Handles a (record { handled = handled; peer = e.peer }) bytes answer q → HasCome a bytes e q }
 {}
 
+/// Each peer of a host that there is, by the calls of the host alone, whatever is called on it and whoever sends to it: datagrams from any
+/// address, submissions, disconnects, settings, ticks, turns and takes, each with what was answered (`Steps`). Of each name that nobody has at
+/// first, nothing is told, submitted or put out (`IsNobody`); or its peer began by one of these calls, a `connect` of the user's or a CONNECT
+/// that came, at an address where it stayed, and is one end since (`IsEnd`). What the user was told of it, and what it accepted, is that end's,
+/// so the two laws above hold of it. Each command that came to it stands in a datagram that came since, from that address. Each datagram that
+/// it put out went there, and has the commands that the end put out, in order.
+pub fn each_peer_of_a_host(host: &HostCore)
+    ensures { EachIsOneEnd host.now }
+{
+    host.keeps();
+}
+
 /// What `carried` of `IsHeard` rules out of channel 0: that anything is taken of it where nothing came on it, but on others perhaps
 /// (`elsewhere`). And, each where reliable commands of one byte came: a packet twice (`twice`), the second packet without the first (`gap`),
 /// two packets the other way round (`swapped`), and a packet with another byte (`altered`).
+///
+/// And what `IsEnd` rules out of a host: that its user takes a packet of a peer where since the CONNECT a datagram came from another address
+/// alone, whatever it holds (`foreign`).
 pub fn false_takes_are_refuted()
     ensures elsewhere { (came : List Heard) (d : Dispatched) (ds : List Dispatched) → CameElsewhere 0 came → IsRefused came (d ∷ ds) }
     ensures twice { IsRefused (command_of 1 7 ∷ []) (packet_of 7 ∷ packet_of 7 ∷ []) }
     ensures gap { IsRefused (command_of 2 7 ∷ []) (packet_of 7 ∷ []) }
     ensures swapped { IsRefused (command_of 1 7 ∷ command_of 2 8 ∷ []) (packet_of 8 ∷ packet_of 7 ∷ []) }
     ensures altered { IsRefused (command_of 1 7 ∷ []) (packet_of 8 ∷ []) }
+    ensures foreign { ForeignIsRefused }
 {}
 
 /// A run that does happen, so that the laws above speak of something: a reliable packet of a client that keeps the rules comes, and is taken.

@@ -93,7 +93,7 @@ small-set most o u k new a is same queued sent = record {
   ];
 }
 
-small-filled : (most : ℕ) (pace : Pace) (o : Outbox) → Small most o → Small most (filled pace o).outbox
+pub small-filled : (most : ℕ) (pace : Pace) (o : Outbox) → Small most o → Small most (filled pace o).outbox
 small-filled most pace o a = by-filling pace o (λ f. Small most f.outbox) (record {
   closes = λ f g. g;
   acknowledges = λ f x rest e g. record { unsequenced = g.unsequenced; queued = g.queued; sent = g.sent };
@@ -211,7 +211,7 @@ fits-dropped p q f terms none senders = record {
 }
 
 -- or all that is sent stays
-fits-same : (p q : Peering) → Fits p → q.terms.mtu ≡ p.terms.mtu → q.outbox.unsequenced ≡ p.outbox.unsequenced → q.outbox.senders ≡ p.outbox.senders → Fits q
+pub fits-same : (p q : Peering) → Fits p → q.terms.mtu ≡ p.terms.mtu → q.outbox.unsequenced ≡ p.outbox.unsequenced → q.outbox.senders ≡ p.outbox.senders → Fits q
 fits-same p q f mtu unsequenced senders = record {
   mtu = subst (λ m. m ≤ 4096) (sym mtu) f.mtu;
   small = subst (λ m. Small (room_of m) q.outbox) (sym mtu) (record {
@@ -308,7 +308,7 @@ fits-data p m sent f = by (is_later p.state)
     by true = fits-result p m sent (passed_over p.inbox m) f
     by false = fits-result (record p { inbox = a.after }) m sent a.answer (fits-same p (record p { inbox = a.after }) f refl refl refl)
 
-fits-obeyed : (p : Peering) (now : ℕ) (sent : Option ℕ) (m : Message) → Fits p → Fits (obeyed p now sent m).after
+pub fits-obeyed : (p : Peering) (now : ℕ) (sent : Option ℕ) (m : Message) → Fits p → Fits (obeyed p now sent m).after
 fits-obeyed p now sent m f = by (is_connect m.body) (is_allowed p.state m.body)
   where
     body : (b : Body) → Fits (by_body p now sent m b).after
@@ -331,7 +331,7 @@ fits-obeyed p now sent m f = by (is_connect m.body) (is_allowed p.state m.body)
     by false false = f
 
 -- what else happens at a peer
-fits-takes : (p : Peering) → Fits p → Fits (after_take p (next_event p))
+pub fits-takes : (p : Peering) → Fits p → Fits (after_take p (next_event p))
 fits-takes p f = by p.greeting
   where
     last : (s : PeerState) → Fits (after_take p (last_event s p))
@@ -346,7 +346,7 @@ fits-takes p f = by p.greeting
     by (Some info) = fits-same p (record p { greeting = None }) f refl refl refl
     by None = packets p.inbox.untaken
 
-fits-went : (p : Peering) (s : PeerState) → Fits p → Fits (gone_on_in s p)
+pub fits-went : (p : Peering) (s : PeerState) → Fits p → Fits (gone_on_in s p)
 fits-went p state.AckDisconnect f = fits-dropped p (ended p p.info) f refl refl refl
 fits-went p state.Parting f = by (nat_lt 0 (length p.outbox.control.queued))
   where
@@ -355,10 +355,10 @@ fits-went p state.Parting f = by (nat_lt 0 (length p.outbox.control.queued))
     by false = fits-dropped p (freed p) f refl refl refl
 fits-went p s f = fits-settled p f
 
-fits-submitted : (p : Peering) (channel : ℕ) (q : Packet) → Fits p → Fits (submitted p channel q)
+pub fits-submitted : (p : Peering) (channel : ℕ) (q : Packet) → Fits p → Fits (submitted p channel q)
 fits-submitted p channel q f = record { mtu = f.mtu; small = small-submitted p.terms.mtu p.outbox channel q f.mtu f.small }
 
-fits-left : (p : Peering) (leave : Leave) (info : ℕ) → Fits p → Fits (after_leave p (left leave p info))
+pub fits-left : (p : Peering) (leave : Leave) (info : ℕ) → Fits p → Fits (after_leave p (left leave p info))
 fits-left p AtOnce info f = fits-dropped p (freed p) f refl refl refl
 fits-left p TellsOnce info f = fits-dropped p (parting p info) f refl refl refl
 fits-left p Asks info f = fits-dropped p (disconnecting p info) f refl refl refl
@@ -378,7 +378,7 @@ fits-deeds : (now : ℕ) (p : Peering) (deeds : List Deed) → Fits p → Fits (
 fits-deeds now p [] f = f
 fits-deeds now p (deed ∷ deeds) f = fits-deeds now (after_deed now p deed) deeds (fits-deed now p deed f)
 
-fits-ticked : (p : Peering) (n : ℕ) → Fits p → Fits (ticked p n)
+pub fits-ticked : (p : Peering) (n : ℕ) → Fits p → Fits (ticked p n)
 fits-ticked p n f = by (lateness p.outbox n p.patience p.heard)
   where
     cut : (s : PeerState) → Fits (cut_off_in s p)

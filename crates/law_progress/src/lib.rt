@@ -13,8 +13,8 @@
 //! asks for (`what_waits_is_answered`, `each_trip_takes_one_away`); what was acknowledged was delivered (`acknowledged_was_delivered`); an
 //! attempt ends within a stated time (`every_attempt_ends`), and so does each wait for an acknowledgement (`no_wait_is_endless`); all that a
 //! peer has to send fits its datagrams (`all_that_waits_fits`); a peer that is to disconnect later comes to do so (`no_leave_is_put_off`).
-//! Not proved: that two hosts make such rounds, whose datagrams may be stopped at one command and bring none of those behind it, nor that
-//! the patience of both outlasts them.
+//! That two hosts make such rounds `enet_world` says (`World::calm`). Not proved: that no datagram is stopped at one command, which brings
+//! none of those behind it, nor that the patience of both outlasts the rounds.
 #![tactic(auto)]
 
 ghost use Rattle.std.specs.Prelude.{◌≡◌, ℕ, ◌+◌, ◌*◌, ◌<◌, ◌≤◌, Bool, Option, Some, None, map, slice_get, true, false, List, [], ◌∷◌, ◌++◌, length, ◌⊎◌};

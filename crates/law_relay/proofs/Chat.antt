@@ -15,18 +15,18 @@ use Rattle.enet_host.specs.Host.{Host}
 use Rattle.enet_bridge.specs.Ends.{orders}
 use Rattle.enet_chat.specs.Relaying.{noted_all, relayed_all, SameForEach}
 use Rattle.enet_chat.proofs.Relays.{noted_more, on_for_each, joined}
-use Rattle.enet_service.specs.declared.report.Report.{Report}
+use Rattle.enet_turn.specs.declared.report.Report.{Report}
 use Rattle.enet_service.specs.declared.run_length.RunLength.{RunLength}
-use Rattle.enet_service.specs.declared.service.Service.{Service}
+use Rattle.enet_turn.specs.declared.service.Service.{Service}
 use Rattle.enet_codec.specs.declared.event.DisconnectMode.TheVariants.{Now}
-use Rattle.enet_service.specs.Hosting.{host_calls}
+use Rattle.enet_turn.specs.Hosting.{host_calls}
 use Rattle.enet_service.specs.Queues.{given, accepted}
-use Rattle.enet_service.specs.Turn.{Round}
-use Rattle.enet_service.specs.Run.{IsSound, all_gave, all_puts}
-use Rattle.enet_service.specs.LoneTurn.{Kind, AreAmong, RoundsOf, beside}
+use Rattle.enet_turn.specs.Turn.{Round}
+use Rattle.enet_turn.specs.Run.{IsSound, all_gave, all_puts}
+use Rattle.enet_turn.specs.LoneTurn.{Kind, AreAmong, RoundsOf, beside}
 use Rattle.enet_service.specs.ServiceRuns.{beginning}
-use Rattle.enet_service.proofs.Among.{rounds_among}
-use Rattle.enet_service.proofs.PhaseSteps.{chain_more}
+use Rattle.enet_turn.proofs.Among.{rounds_among}
+use Rattle.enet_turn.proofs.PhaseSteps.{chain_more}
 use Rattle.enet_service.proofs.Spells.{given_both, accepted_both}
 use Rattle.enet_serve.specs.declared.server.ChatServer.{ChatServer}
 use Rattle.enet_serve.specs.declared.server.Settings.{Settings}
@@ -36,7 +36,7 @@ use Rattle.law_network.specs.Calls.{Call}
 use Rattle.law_headline.specs.Nets.{Net, open_net}
 use Rattle.law_headline.specs.Page.{User, IsHeadline, IsBehind}
 use Rattle.law_headline.proofs.Page.{holds-behind}
-use Rattle.enet_service.specs.Spans.{Span, Spans, rounds_in}
+use Rattle.enet_turn.specs.Spans.{Span, Spans, rounds_in}
 use Rattle.law_service.specs.EndToEnd.{Running, user_of, configs, AllMake, asked}
 use Rattle.law_service.proofs.Lifting.{each-life}
 use Rattle.law_service.proofs.EndToEnd.{end-to-end, behind-at}

@@ -16,7 +16,7 @@ use Rattle.enet_chat.proofs.PeersLemmas.{same_is}
 use Rattle.law_network.specs.Network.{is_same_name}
 use Rattle.enet_bridge.specs.Ends.{orders}
 use Rattle.enet_service.specs.Queues.{given, accepted}
-use Rattle.enet_service.specs.Run.{all_gave, all_puts}
+use Rattle.enet_turn.specs.Run.{all_gave, all_puts}
 use Rattle.law_service.specs.Told.{packet_in, told}
 use Rattle.law_headline.specs.Page.{User, IsHeadline, Follows, came, AreLast, IsOneLife, submitted_if, taken_if, is_of}
 use Rattle.law_headline.proofs.Page.{longer, shorter, came-append, life-first}

@@ -12,7 +12,7 @@ use Rattle.enet_codec.specs.declared.refusal.Refusal.{Refusal}
 use Rattle.law_network.specs.Calls.{Call}
 use Rattle.enet_bridge.specs.Ends.{orders}
 use Rattle.enet_service.specs.Queues.{given}
-use Rattle.enet_service.specs.Run.{all_gave, all_puts}
+use Rattle.enet_turn.specs.Run.{all_gave, all_puts}
 use Rattle.enet_service.specs.ServiceRuns.{beginning}
 use Rattle.law_service.specs.Told.{told, packet_in, submitted_in, Answered, refusal, is_refused, unless_refused, settled}
 use Rattle.law_service.specs.Law.{noted}

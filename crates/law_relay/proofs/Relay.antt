@@ -16,7 +16,7 @@ use Rattle.enet_chat.proofs.PeersLemmas.{and_both, not_true, others_once, added_
 use Rattle.law_network.specs.Network.{is_same_name}
 use Rattle.enet_bridge.specs.Ends.{orders}
 use Rattle.enet_service.specs.Queues.{given}
-use Rattle.enet_service.specs.Run.{all_gave}
+use Rattle.enet_turn.specs.Run.{all_gave}
 use Rattle.law_service.specs.Told.{packet_in}
 use Rattle.law_headline.specs.Page.{User, IsHeadline, Follows, came, submitted_if}
 use Rattle.law_headline.proofs.Page.{longer}

@@ -7,7 +7,7 @@ use Rattle.enet_codec.specs.declared.event.PeerRef.{PeerRef}
 use Rattle.enet_codec.specs.declared.packet.Packet.{Packet}
 use Rattle.enet_bridge.specs.Ends.{orders}
 use Rattle.enet_service.specs.Queues.{given}
-use Rattle.enet_service.specs.Run.{all_gave}
+use Rattle.enet_turn.specs.Run.{all_gave}
 use Rattle.law_service.specs.Told.{packet_in}
 use Rattle.law_headline.specs.Page.{User, IsHeadline, Follows, came, is_of}
 use Rattle.law_service.specs.EndToEnd.{rounds_of, Running, user_of}

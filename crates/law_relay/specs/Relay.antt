@@ -8,7 +8,7 @@ use Rattle.enet_codec.specs.declared.packet.Packet.{Packet}
 use Rattle.enet_submit.specs.declared.order.Order.{Order}
 use Rattle.enet_bridge.specs.Ends.{orders}
 use Rattle.enet_service.specs.Queues.{given, accepted}
-use Rattle.enet_service.specs.Run.{all_gave, all_puts}
+use Rattle.enet_turn.specs.Run.{all_gave, all_puts}
 use Rattle.enet_chat.specs.Peers.{is_same, has}
 use Rattle.enet_chat.specs.Chat.{noted}
 use Rattle.enet_chat.specs.Relaying.{relayed_all, SameForEach}

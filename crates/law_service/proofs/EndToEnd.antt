@@ -38,7 +38,7 @@ use Rattle.law_headline.proofs.Kept.{stays-recorded}
 use Rattle.law_headline.proofs.Covered.{stays-covered}
 use Rattle.law_headline.proofs.Page.{IsUsers, IsBegun, page, holds-behind}
 use Rattle.enet_service.specs.ServiceRuns.{beginning}
-use Rattle.enet_service.specs.Spans.{Span, rounds_in}
+use Rattle.enet_turn.specs.Spans.{Span, rounds_in}
 use Rattle.law_service.specs.Told.{told, submitted_in, taken_in}
 use Rattle.law_service.specs.Law.{noted}
 use Rattle.law_service.specs.EndToEnd.{rounds_of, Running, brings_guest, user_of, user_in, user_of_calls, user_if, AtEachMoment, configs, IsCall, Makes, AllMake, is_node, call_at, calls_at, asks, asked, EndToEnd, Part, Threads, ThreadsAt, user_by, user_at, BetweenThreads}

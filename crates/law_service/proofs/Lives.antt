@@ -13,15 +13,15 @@ use Rattle.enet_host.specs.Host.{Host}
 use Rattle.law_network.specs.Calls.{Call}
 use Rattle.law_network.specs.Steps.{Calls}
 use Rattle.law_headline.specs.Kept.{submitted_by}
-use Rattle.enet_service.specs.declared.service.Service.{Service}
-use Rattle.enet_service.specs.Hosting.{host_calls}
-use Rattle.enet_service.specs.Phases.{Chain}
+use Rattle.enet_turn.specs.declared.service.Service.{Service}
+use Rattle.enet_turn.specs.Hosting.{host_calls}
+use Rattle.enet_turn.specs.Phases.{Chain}
 use Rattle.enet_service.specs.Queues.{given, accepted}
-use Rattle.enet_service.specs.Run.{all_gave, all_puts}
+use Rattle.enet_turn.specs.Run.{all_gave, all_puts}
 use Rattle.enet_service.specs.ServiceRuns.{beginning}
-use Rattle.enet_service.specs.Spans.{Span, IsSpan, Spans, rounds_in}
-use Rattle.enet_service.proofs.PhaseSteps.{chain_more}
-use Rattle.enet_service.specs.Turn.{Round}
+use Rattle.enet_turn.specs.Spans.{Span, IsSpan, Spans, rounds_in}
+use Rattle.enet_turn.proofs.PhaseSteps.{chain_more}
+use Rattle.enet_turn.specs.Turn.{Round}
 use Rattle.law_service.specs.EndToEnd.{Running, Part, AreRuns, AreOver, Threads, events_of, packets_in}
 use Rattle.law_service.specs.Law.{noted}
 use Rattle.law_service.specs.Noting.{Noted, noting}

@@ -10,15 +10,15 @@ use Rattle.enet_submit.specs.Words.{all_sent, taken}
 use Rattle.enet_events.specs.declared.numbered.Numbered.{Numbered}
 use Rattle.enet_events.specs.Words.{PosterState}
 use Rattle.enet_host.specs.Host.{Host}
-use Rattle.enet_service.specs.declared.service.Service.{Service}
+use Rattle.enet_turn.specs.declared.service.Service.{Service}
 use Rattle.enet_service.specs.declared.settling.Returned.{Returned}
-use Rattle.enet_service.specs.Hosting.{host_calls}
-use Rattle.enet_service.specs.Phases.{Chain}
+use Rattle.enet_turn.specs.Hosting.{host_calls}
+use Rattle.enet_turn.specs.Phases.{Chain}
 use Rattle.enet_service.specs.Queues.{given, accepted}
-use Rattle.enet_service.specs.Run.{all_gave, all_puts}
+use Rattle.enet_turn.specs.Run.{all_gave, all_puts}
 use Rattle.enet_service.specs.ServiceRuns.{Spell, Standing, TakesTurns, beginning}
-use Rattle.enet_service.specs.Spans.{Span, Parts, Spans, rounds_in}
-use Rattle.enet_service.specs.Turn.{Round}
+use Rattle.enet_turn.specs.Spans.{Span, Parts, Spans, rounds_in}
+use Rattle.enet_turn.specs.Turn.{Round}
 use Rattle.enet_bridge.specs.Ends.{orders}
 use Rattle.law_service.specs.EndToEnd.{Running, Part, AreRuns, AreOver, Threads}
 use Rattle.law_service.specs.Queues.{AtQueues, TakesRounds, RunsBetween, Shows, EachRunShows, IsPart, Run, span_of, HasRun, IsThreadOf, AreThreadsOf, EachLifeShows}

@@ -29,18 +29,18 @@ use Rattle.law_network.specs.Calls as call
 use Rattle.law_network.specs.Network.{is_same_name}
 use Rattle.law_network.specs.Steps.{Calls}
 use Rattle.law_network.proofs.Lists.{same-or}
-use Rattle.enet_service.specs.declared.service.Service.{Service}
-use Rattle.enet_service.specs.Phases.{Ordered, Wired, Offers, AppliesSubmission, refusal_event, left_over, Orders, ReceivesAll, EndsEmitting, at_limit, has_none, fails, EmitsAll, TellsAll}
+use Rattle.enet_turn.specs.declared.service.Service.{Service}
+use Rattle.enet_turn.specs.Phases.{Ordered, Wired, Offers, AppliesSubmission, refusal_event, left_over, Orders, ReceivesAll, EndsEmitting, at_limit, has_none, fails, EmitsAll, TellsAll}
 use Rattle.enet_service.specs.Queues.{given, accepted}
-use Rattle.enet_service.specs.LoneTurn.{Kind, beside, lone, either, Applied, AppliesAll, Begins, LoneTurn, TurnOf, RoundsOf, gave_in, puts_in}
-use Rattle.enet_service.specs.Run.{all_gave, all_puts}
-use Rattle.enet_service.specs.Turn.{Round, AfterReceiving, AfterEmitting, Turn}
+use Rattle.enet_turn.specs.LoneTurn.{Kind, beside, lone, either, Applied, AppliesAll, Begins, LoneTurn, TurnOf, RoundsOf, gave_in, puts_in}
+use Rattle.enet_turn.specs.Run.{all_gave, all_puts}
+use Rattle.enet_turn.specs.Turn.{Round, AfterReceiving, AfterEmitting, Turn}
 use Rattle.law_headline.specs.Kept.{submitted_by, taken_by}
 use Rattle.law_headline.specs.Page.{is_of}
 use Rattle.law_service.specs.Noting.{Noted, Notes, IsOrder, noting, why_submitted}
 use Rattle.law_service.specs.Told.{told as told_by, is_refusal_of, packet_in, packet_unless, packets_of, submitted, taken, submitted_in, taken_in, Answered, refusal, is_refused, unless_refused, settled}
 use Rattle.law_service.specs.Law.{noted, AreNumbered, EachRunTells}
-use Rattle.enet_service.specs.Spans.{Span, Parts, Spans, rounds_in}
+use Rattle.enet_turn.specs.Spans.{Span, Parts, Spans, rounds_in}
 use Rattle.law_service.proofs.Simulation.{over}
 use Rattle.enet_codec.specs.declared.event.DisconnectMode.{DisconnectMode}
 

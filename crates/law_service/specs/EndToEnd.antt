@@ -19,15 +19,15 @@ use Rattle.law_network.specs.Steps.{Happening, Calls, Delivers}
 use Rattle.enet_site.specs.Places.{Place}
 use Rattle.law_headline.specs.Nets.{Net, place_of, AreApart, is_host, HappensAt, IsAllowed, open_net}
 use Rattle.law_headline.specs.Page.{User, IsHeadline, is_of}
-use Rattle.enet_service.specs.declared.service.Service.{Service}
-use Rattle.enet_service.specs.Calls.{Calls as HostCalls}
-use Rattle.enet_service.specs.Phases.{Chain}
+use Rattle.enet_turn.specs.declared.service.Service.{Service}
+use Rattle.enet_turn.specs.Calls.{Calls as HostCalls}
+use Rattle.enet_turn.specs.Phases.{Chain}
 use Rattle.enet_service.specs.Queues.{given}
-use Rattle.enet_service.specs.Run.{all_gave}
+use Rattle.enet_turn.specs.Run.{all_gave}
 use Rattle.enet_service.specs.ServiceRuns.{beginning}
-use Rattle.enet_service.specs.Turn.{Round}
+use Rattle.enet_turn.specs.Turn.{Round}
 use Rattle.law_service.specs.Noting.{Noted, noting}
-use Rattle.enet_service.specs.Spans.{Span, Spans, rounds_in}
+use Rattle.enet_turn.specs.Spans.{Span, Spans, rounds_in}
 use Rattle.law_service.specs.Told.{told, packets_of, submitted_in, taken, taken_in}
 use Rattle.law_service.specs.Law.{noted, AreNumbered}
 

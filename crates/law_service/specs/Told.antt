@@ -12,10 +12,10 @@ use Rattle.enet_submit.specs.declared.order.Submission.{Submission}
 use Rattle.law_network.specs.Calls.{Call}
 use Rattle.law_network.specs.Network.{is_same_name}
 use Rattle.law_network.specs.Steps.{Calls}
-use Rattle.enet_service.specs.Phases.{refusal_event}
+use Rattle.enet_turn.specs.Phases.{refusal_event}
 use Rattle.enet_service.specs.Queues.{given, accepted}
-use Rattle.enet_service.specs.Run.{all_gave, all_puts}
-use Rattle.enet_service.specs.Turn.{Round}
+use Rattle.enet_turn.specs.Run.{all_gave, all_puts}
+use Rattle.enet_turn.specs.Turn.{Round}
 use Rattle.law_headline.specs.Kept.{submitted_by, taken_by}
 use Rattle.law_headline.specs.Page.{is_of}
 

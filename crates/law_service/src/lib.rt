@@ -8,7 +8,8 @@
 //! was given, and of the events that this told, and so of what game threads submitted and took at their queues, in one run after another
 //! (`services_in_order`).
 //! Premise, and no more: what comes from a host's address was put out by that host for this one, is at most 32,768 reliable commands late on
-//! its channel, and of no earlier connection; clients ask the server alone for connections.
+//! its channel, and of no earlier connection; clients ask the server alone for connections. A host is one from its opening on: what one
+//! before it at its address put out comes no more.
 //! Neither: that a datagram, an order or an event arrives, that a thread runs, or how long a turn takes.
 #![tactic(auto)]
 
@@ -25,7 +26,8 @@ pub fn each_turn_is_calls()
     ensures tells { EachRunTells }
 {}
 
-/// Each call of a host is one thing that happens among hosts and strangers: nothing is asked of it but that the network is honest.
+/// Each call of a host is one thing that happens among hosts and strangers: nothing is asked of it but that the network is honest, and that
+/// it asks no stranger for a connection.
 pub fn each_call_happens()
     ensures { EachCallHappens }
 {}
@@ -43,7 +45,8 @@ pub fn each_call_happens()
 /// `settle` promise (`shown`). So any number of such runs have game threads (`all_shown`). And there is one at each
 /// moment of a run, whether or not it ends, by what the rules of its queues say of each moment (`moments`).
 ///
-/// `never_stuck`: any interleaving whose datagrams are honest goes on so; nothing else is asked of a service.
+/// `never_stuck`: any interleaving whose datagrams are honest, and in which clients ask the server alone, goes on so; nothing else is asked of
+/// a service.
 pub fn services_in_order()
     ensures at_each_moment { AtEachMoment }
     ensures services { EndToEnd }

@@ -6,11 +6,11 @@ use Rattle.enet_wire.specs.declared.told.Told.{Told}
 use Rattle.enet_wire.specs.Wires.{unless_spent}
 use Rattle.enet_chat.specs.declared.lone.LoneRelay.{LoneRelay}
 use Rattle.enet_chat.specs.Relaying.{AreBehind, AreFarBehind}
-use Rattle.enet_service.specs.declared.service.Service.{Service}
-use Rattle.enet_service.specs.Hosting.{host_calls}
-use Rattle.enet_service.specs.LoneTurn.{RoundsOf, lone}
-use Rattle.enet_service.specs.Turn.{Round}
-use Rattle.enet_service.specs.Run.{IsSound, all_gave, all_told, all_puts}
+use Rattle.enet_turn.specs.declared.service.Service.{Service}
+use Rattle.enet_turn.specs.Hosting.{host_calls}
+use Rattle.enet_turn.specs.LoneTurn.{RoundsOf, lone}
+use Rattle.enet_turn.specs.Turn.{Round}
+use Rattle.enet_turn.specs.Run.{IsSound, all_gave, all_told, all_puts}
 use Rattle.enet_serve.specs.declared.threads.Carryover.{Carryover}
 use Rattle.enet_serve.specs.Private.Passing.{Passes}
 

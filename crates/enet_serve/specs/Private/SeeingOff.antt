@@ -2,13 +2,13 @@
 use Rattle.std.specs.Prelude.{◌≡◌, ◌≤◌, List, [], ◌∷◌, length}
 use Rattle.enet_codec.specs.declared.event.DisconnectMode.TheVariants.{Later}
 use Rattle.enet_host.specs.Host.{Host}
-use Rattle.enet_service.specs.declared.service.Service.{Service}
-use Rattle.enet_service.specs.Phases.{Chain}
+use Rattle.enet_turn.specs.declared.service.Service.{Service}
+use Rattle.enet_turn.specs.Phases.{Chain}
 use Rattle.enet_service.specs.Queues.{given}
-use Rattle.enet_service.specs.Run.{all_gave}
+use Rattle.enet_turn.specs.Run.{all_gave}
 use Rattle.enet_service.specs.ServiceRuns.{TakesTurns}
-use Rattle.enet_service.specs.Spans.{Span, rounds_in}
-use Rattle.enet_service.specs.Turn.{Round}
+use Rattle.enet_turn.specs.Spans.{Span, rounds_in}
+use Rattle.enet_turn.specs.Turn.{Round}
 use Rattle.enet_serve.specs.Leaving.{PartsFromAll}
 
 -- turns that are given no order

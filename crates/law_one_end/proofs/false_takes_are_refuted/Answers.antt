@@ -1,4 +1,5 @@
 use Rattle.law_one_end.proofs.Refuting.{elsewhere, twice, gap, swapped, altered}
+use Rattle.law_one_end.proofs.Foreign.{foreign-refused}
 use Rattle.law_one_end.proofs.false_takes_are_refuted.Goals as goal
 
 pub returns-clause-elsewhere : goal.returns-clause-elsewhere
@@ -15,3 +16,6 @@ returns-clause-swapped c = swapped
 
 pub returns-clause-altered : goal.returns-clause-altered
 returns-clause-altered c = altered
+
+pub returns-clause-foreign : goal.returns-clause-foreign
+returns-clause-foreign c = foreign-refused

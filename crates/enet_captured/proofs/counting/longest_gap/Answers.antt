@@ -1,5 +1,6 @@
 use Rattle.std.proofs.Common.{◌≡◌, ◌+◌, ◌∙◌, ap, sym, subst, Some}
-use Rattle.enet_captured.specs.Gaps.{IsLongestOf, longer, gap_behind}
+use Rattle.enet_captured.specs.Gaps.{IsLongestOf, gap_behind}
+use Rattle.enet_captured.specs.Private.Gaps.{longer}
 use Rattle.enet_captured.proofs.GapLemmas.{longest_more}
 use Rattle.enet_captured.proofs.counting.longest_gap.Goals as goal
 

@@ -1,5 +1,7 @@
-use Rattle.std.proofs.Common.{◌+◌, refl, sym, ◌∙◌, arith}
+use Rattle.std.proofs.Common.{◌+◌, List, refl, sym, subst, ◌∙◌, arith}
+use Rattle.enet_slot.specs.declared.slot.Slot.{Slot}
 use Rattle.enet_slot.specs.Slotted.{all_shown}
+use Rattle.enet_sleepers.specs.Sleeping.{KeepsSleepers}
 use Rattle.enet_host.specs.Serving.{served_of}
 use Rattle.enet_slot.proofs.Shown.{length-shown}
 use Rattle.enet_host.proofs.Asking.{none-asked, all-asked-more, all-passed, all-pass, gives-in-turn, still-there, name-slot}
@@ -17,6 +19,19 @@ loop-turn-init c =
       count = refl;
     }
 
+pub rest-requires-clause-kept : goal.rest-requires-clause-kept
+rest-requires-clause-kept c =
+    subst (λ (xs : List Slot). KeepsSleepers c.args.now c.loop-turn.sleepers (all_shown xs)) (sym c.deref.ensures.value)
+    (keeps-gives c.args.now c.args.now c.slot_of_turn-number.result (served_of c.in-Some.sent c.emit_from.new.buf) c.loop-turn.sleepers
+    (all_shown c.loop-turn.slots.items) (all_shown c.emit_from.new.slots.items) c.loop-turn.invariant.sleepers
+    (c.loop-turn.invariant.awake c.slot_of_turn-number.result c.slot_of_turn-number.ensures.within c.slot_of_turn-number.ensures.place) c.in-Some.ensures.gives)
+
+pub rest-requires-in-loop-turn-clause-kept : goal.rest-requires-in-loop-turn-clause-kept
+rest-requires-in-loop-turn-clause-kept c =
+    subst (λ (xs : List Slot). KeepsSleepers c.args.now c.loop-turn.sleepers (all_shown xs)) (sym c.deref-in-loop-turn.ensures.value)
+    (keeps-passes c.args.now c.args.now c.slot_of_turn-number.result c.loop-turn.sleepers (all_shown c.loop-turn.slots.items) (all_shown c.emit_from.new.slots.items)
+    c.loop-turn.invariant.sleepers (c.loop-turn.invariant.awake c.slot_of_turn-number.result c.slot_of_turn-number.ensures.within c.slot_of_turn-number.ensures.place) c.in_default.ensures.passes)
+
 pub loop-turn-preserved : goal.loop-turn-preserved
 loop-turn-preserved c =
     let first = all_shown c.args.slots.now.items in
@@ -28,12 +43,12 @@ loop-turn-preserved c =
     let turn = c.loop-turn.turn in
     let asked = all-asked-more c.args.now c.args.peers c.args.from turn c.slot_of_turn-number.result first slots after c.requires.within count inside place
     c.loop-turn.invariant.asked c.in_default.ensures.passes in
+    let kept = subst (λ (xs : List Slot). KeepsSleepers c.args.now c.rest-in-loop-turn.new.self (all_shown xs)) c.deref-in-loop-turn.ensures.value c.rest-in-loop-turn.ensures in
     record {
-      asked = all-passed c.args.now c.args.peers c.args.from (turn + 1) c.next_turn-turn-in-loop-turn.result c.args.sleepers.now first after count
-          c.requires.sleepers c.next_turn-turn-in-loop-turn.ensures.passed c.next_turn-turn-in-loop-turn.ensures.later asked;
+      asked = all-passed c.args.now c.args.peers c.args.from (turn + 1) c.next_turn-turn-in-loop-turn.result c.rest-in-loop-turn.new.self first after count
+          kept c.next_turn-turn-in-loop-turn.ensures.passed c.next_turn-turn-in-loop-turn.ensures.later asked;
       awake = c.next_turn-turn-in-loop-turn.ensures.awake;
-      sleepers = keeps-passes c.args.now c.args.now c.slot_of_turn-number.result c.args.sleepers.now slots after c.loop-turn.invariant.sleepers
-          (c.loop-turn.invariant.awake c.slot_of_turn-number.result inside place) c.in_default.ensures.passes;
+      sleepers = kept;
       count = c.emit_from.ensures.count ∙ c.loop-turn.invariant.count;
     }
 
@@ -50,10 +65,7 @@ returns-in-Some-clause-gives c =
     c.loop-turn.invariant.asked gives.there) (name-slot c.in-Some.sent.0 c.slot_of_turn-number.result gives.slot gives.named)
 
 pub returns-in-Some-clause-sleepers : goal.returns-in-Some-clause-sleepers
-returns-in-Some-clause-sleepers c =
-    keeps-gives c.args.now c.args.now c.slot_of_turn-number.result (served_of c.in-Some.sent c.emit_from.new.buf) c.args.sleepers.now
-    (all_shown c.loop-turn.slots.items) (all_shown c.emit_from.new.slots.items) c.loop-turn.invariant.sleepers
-    (c.loop-turn.invariant.awake c.slot_of_turn-number.result c.slot_of_turn-number.ensures.within c.slot_of_turn-number.ensures.place) c.in-Some.ensures.gives
+returns-in-Some-clause-sleepers c = subst (λ (xs : List Slot). KeepsSleepers c.args.now c.rest.new.self (all_shown xs)) c.deref.ensures.value c.rest.ensures
 
 pub returns-clause-passes : goal.returns-clause-passes
 returns-clause-passes c =

@@ -1,8 +1,6 @@
-use Rattle.std.proofs.Common.{refl}
-use Rattle.enet_metrics.proofs.Joins.{join4}
+use Rattle.std.proofs.Common.{append_assoc, refl}
 use Rattle.enet_metrics.proofs.reading.push_standing.Goals as goal
 
 pub returns : goal.returns
 returns c =
-    join4 _ _ _ _ _ _ _ _ _ _
-    c.in_ok-push_peers.ensures c.in_ok-push_slots.ensures c.in_ok-push_waiting.ensures c.in_ok-push_traffic.ensures refl
+    simp (append_assoc, c.in_ok-push_traffic.ensures, c.in_ok-push_waiting.ensures, c.in_ok-push_slots.ensures, c.in_ok-push_peers.ensures) refl

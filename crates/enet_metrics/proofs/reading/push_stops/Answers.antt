@@ -1,10 +1,8 @@
-use Rattle.std.proofs.Common.{refl}
+use Rattle.std.proofs.Common.{append_assoc, refl}
 use Rattle.enet_metrics.specs.Readings.{stops_text}
-use Rattle.enet_metrics.proofs.Joins.{join2}
 use Rattle.enet_metrics.proofs.reading.push_stops.Goals as goal
 
 pub returns : goal.returns
 unfolding stops_text
 returns c =
-    join2 _ _ _ _ _ _
-    c.in_ok-push_head.ensures c.in_ok-push_reasons.ensures refl
+    simp (append_assoc, c.in_ok-push_reasons.ensures, c.in_ok-push_head.ensures) refl

@@ -55,5 +55,5 @@ returns-in-11 c = rw c.in-11.is refl
 pub returns-in_default : goal.returns-in_default
 unfolding bound_text
 returns-in_default c =
-    let past : 12 ≤ c.args.bucket = first_of (omega (arith, c.in_default.in_default-own), grind (arith, common_steps), search rules) in
+    let past : 12 ≤ c.args.bucket = first_of (grind (arith, common_steps), search rules) in
     sym (get_or_past bound_texts c.args.bucket (codes "+Inf") past)

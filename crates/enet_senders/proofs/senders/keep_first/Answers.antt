@@ -22,7 +22,7 @@ loop-dropped-preserved c =
 
 pub returns-clause-ends : goal.returns-clause-ends
 returns-clause-ends c =
-    ap (ends_of c.loop-dropped.pending.slab) c.truncate.ensures.items ∙ ends-take c.loop-dropped.pending.slab c.args.count c.loop-dropped.channels.items ∙ c.loop-dropped.invariant.ends
+    ap (ends_of c.loop-dropped.pending.slab) (c.shrink_to_fit.ensures.items ∙ c.truncate.ensures.items) ∙ ends-take c.loop-dropped.pending.slab c.args.count c.loop-dropped.channels.items ∙ c.loop-dropped.invariant.ends
 
 pub returns-clause-kept : goal.returns-clause-kept
 returns-clause-kept c =
@@ -30,4 +30,4 @@ returns-clause-kept c =
     let channels = c.loop-dropped.channels.items in
     let over : length channels ≤ c.loop-dropped.dropped = omega (arith, c.loop-dropped-test.false, c.loop-dropped.invariant.end, c.loop-dropped.invariant.len) in
     let bare : AreBare c.args.count (length channels) (ends_of slab channels) = λ j from until. c.loop-dropped.invariant.bare j from (omega arith) in
-    rw c.truncate.ensures.items (keeps-take slab c.args.count channels c.loop-dropped.invariant.kept bare)
+    rw (c.shrink_to_fit.ensures.items ∙ c.truncate.ensures.items) (keeps-take slab c.args.count channels c.loop-dropped.invariant.kept bare)

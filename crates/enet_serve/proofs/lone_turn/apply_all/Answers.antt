@@ -2,8 +2,8 @@ use Rattle.std.proofs.Common.{◌≡◌, List, [], ◌∷◌, ◌++◌, Bool, Op
 use Rattle.enet_codec.specs.declared.event.Event.{Event}
 use Rattle.enet_submit.specs.declared.order.Submission.{Submission}
 use Rattle.enet_chat.specs.declared.lone.LoneRelay.{LoneRelay}
-use Rattle.enet_service.specs.LoneTurn.{Applied, gave_in, puts_in}
-use Rattle.enet_service.proofs.PhaseSteps.{chain_step}
+use Rattle.enet_turn.specs.LoneTurn.{Applied, gave_in, puts_in}
+use Rattle.enet_turn.proofs.PhaseSteps.{chain_step}
 use Rattle.enet_serve.specs.Private.Passing.{Passes}
 use Rattle.enet_serve.proofs.Passing.{of_orders, passes_expanded, passes_then, obeyed_more, orders_report}
 use Rattle.enet_serve.proofs.lone_turn.apply_all.Goals as goal

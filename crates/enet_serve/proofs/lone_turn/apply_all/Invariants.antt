@@ -1,6 +1,6 @@
 use Rattle.std.proofs.Common.{◌≡◌, List}
 use Rattle.enet_chat.specs.Relaying.{AreBehind, AreFarBehind}
-use Rattle.enet_service.specs.LoneTurn.{Applied, AppliesAll, gave_in, puts_in}
+use Rattle.enet_turn.specs.LoneTurn.{Applied, AppliesAll, gave_in, puts_in}
 use Rattle.enet_serve.specs.Private.Passing.{Passes}
 use Rattle.enet_serve.proofs.Passing.{of_orders}
 use Rattle.enet_serve.proofs.lone_turn.apply_all.Given as goal

@@ -3,8 +3,8 @@ use Rattle.enet_codec.specs.declared.event.Event.{Event}
 use Rattle.enet_wire.specs.declared.told.Told.{Told}
 use Rattle.enet_wire.specs.declared.told.Told.TheVariants.{Waited}
 use Rattle.enet_chat.specs.declared.lone.LoneRelay.{LoneRelay}
-use Rattle.enet_service.specs.LoneTurn.{Applied, gave_in, puts_in}
-use Rattle.enet_service.proofs.Tellings.{told_on}
+use Rattle.enet_turn.specs.LoneTurn.{Applied, gave_in, puts_in}
+use Rattle.enet_turn.proofs.Tellings.{told_on}
 use Rattle.enet_serve.proofs.Passing.{passes_by, passes_on, turn_report}
 use Rattle.enet_serve.proofs.lone_turn.lone_turn.Goals as goal
 

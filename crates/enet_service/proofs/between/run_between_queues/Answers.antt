@@ -1,6 +1,6 @@
 use Rattle.std.proofs.Common.{List}
-use Rattle.enet_service.specs.Turn.{Round}
-use Rattle.enet_service.specs.Run.{all_gave, all_puts}
+use Rattle.enet_turn.specs.Turn.{Round}
+use Rattle.enet_turn.specs.Run.{all_gave, all_puts}
 use Rattle.enet_service.proofs.ManyCalls.{drains_on, posts_on}
 use Rattle.enet_service.proofs.between.run_between_queues.Goals as goal
 

@@ -1,6 +1,6 @@
 use Rattle.std.proofs.Common.{◌+◌, List, [], ◌++◌, refl, sym, subst, ◌∙◌, arith, rules}
 use Rattle.std.proofs.lemmas.List.{length-append}
-use Rattle.enet_service.specs.Turn.{Round}
+use Rattle.enet_turn.specs.Turn.{Round}
 use Rattle.enet_service.specs.ServiceRuns.{AreFew}
 use Rattle.enet_service.proofs.Spells.{no_turn, further}
 use Rattle.enet_service.proofs.run_length.turns_for.Goals as goal

@@ -1,7 +1,7 @@
 use Rattle.std.proofs.Common.{◌≡◌, ℕ, ◌*◌, List}
 use Rattle.std.specs.Prelude.{length}
 use Rattle.enet_bridge.specs.Serving.{queue_of}
-use Rattle.enet_service.specs.Turn.{Round}
+use Rattle.enet_turn.specs.Turn.{Round}
 use Rattle.enet_service.specs.ServiceRuns.{AreFew, Spell, standing}
 use Rattle.enet_service.proofs.run_length.turns_for.Given as goal
 

@@ -1,6 +1,6 @@
 use Rattle.std.proofs.Common.{List, sym, subst, arith}
 use Rattle.enet_host.specs.Host.{Host}
-use Rattle.enet_service.specs.Turn.{Round}
+use Rattle.enet_turn.specs.Turn.{Round}
 use Rattle.enet_service.specs.ServiceRuns.{TakesTurns}
 use Rattle.enet_service.proofs.Spells.{fault_of_wire}
 use Rattle.enet_service.proofs.run_length.turns_of.Goals as goal

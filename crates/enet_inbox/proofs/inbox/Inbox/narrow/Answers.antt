@@ -33,16 +33,16 @@ invariant_of-self c =
     let i = c.self.inside in
     let b = inbox_of i.max_packet i.max_waiting i.receivers.items i.groups i.untaken.items in
     let freed : c.held_in.result ≡ held_in (drop c.args.channels i.receivers.items) = c.held_in.ensures ∙ rest_of c.args.channels i.receivers.items c.deref.result.now c.deref.ensures.value in
-    let now : inbox_of i.max_packet i.max_waiting c.truncate.new.self.items i.groups i.untaken.items ≡ narrowed b c.args.channels =
-    ap (λ (rs : List ReceivingEnd). inbox_of i.max_packet i.max_waiting rs i.groups i.untaken.items) c.truncate.ensures.items in
+    let now : inbox_of i.max_packet i.max_waiting c.keep_first.new.receivers.items i.groups i.untaken.items ≡ narrowed b c.args.channels =
+    ap (λ (rs : List ReceivingEnd). inbox_of i.max_packet i.max_waiting rs i.groups i.untaken.items) c.keep_first.ensures in
     let fewer : c.packets_in.result ≡ packets_in (drop c.args.channels i.receivers.items) = c.packets_in.ensures ∙ packets_of_rest c.args.channels i.receivers.items c.deref-then-channels-len.result.now c.deref-then-channels-len.ensures.value in
     record {
       inbox =
-          subst (λ n. KeepsInbox (inbox_of i.max_packet i.max_waiting c.truncate.new.self.items i.groups i.untaken.items) (i.waiting - n)) (sym freed)
+          subst (λ n. KeepsInbox (inbox_of i.max_packet i.max_waiting c.keep_first.new.receivers.items i.groups i.untaken.items) (i.waiting - n)) (sym freed)
           (subst (λ (x : Inbox). KeepsInbox x (i.waiting - held_in (drop c.args.channels i.receivers.items))) (sym now) (keeps_narrowed b i.waiting c.args.channels c.self.invariant.inbox));
       places =
-          subst (λ n. KeepsPackets c.truncate.new.self.items (i.packets - n)) (sym fewer)
-          (subst (λ (rs : List ReceivingEnd). KeepsPackets rs (i.packets - packets_in (drop c.args.channels i.receivers.items))) (sym c.truncate.ensures.items) (counts_narrowed i.receivers.items i.packets c.args.channels c.self.invariant.places));
+          subst (λ n. KeepsPackets c.keep_first.new.receivers.items (i.packets - n)) (sym fewer)
+          (subst (λ (rs : List ReceivingEnd). KeepsPackets rs (i.packets - packets_in (drop c.args.channels i.receivers.items))) (sym c.keep_first.ensures) (counts_narrowed i.receivers.items i.packets c.args.channels c.self.invariant.places));
       bounded = subst (λ (x : Inbox). IsBounded x) (sym now) (bounded_narrowed b c.args.channels c.self.invariant.bounded);
     }
 

@@ -1,7 +1,7 @@
 use Rattle.std.proofs.Common.{[], ◌∷◌, refl, sym, ◌∙◌}
 use Rattle.enet_wire.specs.Socket.{failures_of}
 use Rattle.enet_guard.specs.Journals.{told_of}
-use Rattle.enet_service.specs.Turn.{Round}
+use Rattle.enet_turn.specs.Turn.{Round}
 use Rattle.enet_serve.specs.Private.Alone.{pair}
 use Rattle.enet_serve.proofs.TurnByTurn.{goes_turn, one_total}
 use Rattle.enet_serve.proofs.alone.Alone.take_turn.Goals as goal

@@ -3,7 +3,7 @@ use Rattle.std.proofs.lemmas.List.{length-append}
 use Rattle.enet_chat.proofs.Expansions.{expands_none}
 use Rattle.enet_wire.specs.Socket.{failures_of}
 use Rattle.enet_guard.specs.Journals.{told_of}
-use Rattle.enet_service.specs.Turn.{Round}
+use Rattle.enet_turn.specs.Turn.{Round}
 use Rattle.enet_service.proofs.Spells.{total_of_both}
 use Rattle.enet_serve.specs.Private.Alone.{pair}
 use Rattle.enet_serve.proofs.TurnByTurn.{goes_nowhere, goes_on}

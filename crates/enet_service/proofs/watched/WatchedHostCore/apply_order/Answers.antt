@@ -2,7 +2,7 @@ use Rattle.std.proofs.Common.{None, Ok, refl, sym, subst}
 use Rattle.enet_host.specs.Host.{Host}
 use Rattle.enet_submit.specs.declared.order.Order.{Order}
 use Rattle.enet_submit.specs.declared.order.Order.TheVariants.{Submit}
-use Rattle.enet_service.specs.Hosting.{AppliesOrder}
+use Rattle.enet_turn.specs.Hosting.{AppliesOrder}
 use Rattle.enet_service.proofs.watched.WatchedHostCore.apply_order.Goals as goal
 
 pub returns-in-Ok : goal.returns-in-Ok

@@ -15,7 +15,7 @@ returns-then-place-len c = λ now k.
     let inside = c.self.inside in
     let place = c.place_of-place.result in
     let m = c.sifted-mark.result in
-    let w : Noted = the_view (record { awake = inside.awake; free = inside.free; due = inside.due; marks = with_item inside.marks place m; clock = inside.clock }) in
+    let w : Noted = the_view (record { awake = inside.awake; free = inside.free; due = inside.due; marks = with_item inside.marks place m; clock = inside.clock; naps = 0 }) in
     keeps-marked now v w (all_shown c.args.slots.now) (ap (λ (x : Noted). record x { marks = w.marks }) c.self.view_is)
     (λ i s there out unlisted names.
     subst (λ (ms : List Mark). Names (mark_of ms s.address) i) (ap (λ (x : Noted). slice_set x.marks place m) (sym c.self.view_is))

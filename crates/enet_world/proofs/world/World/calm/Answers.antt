@@ -1,6 +1,7 @@
 use Rattle.std.proofs.Common.{◌≡◌, ◌∙◌, arith, subst}
 use Rattle.enet_world.specs.Calm.{Rounds}
 use Rattle.enet_world.proofs.Calming.{rounds-more}
+use Rattle.enet_world.proofs.Through.{gets-through}
 use Rattle.enet_world.proofs.world.World.calm.Goals as goal
 
 pub rounds-preserved : goal.rounds-preserved
@@ -15,3 +16,9 @@ pub returns-clause-rounds : goal.returns-clause-rounds
 returns-clause-rounds c =
     let all : c.rounds.played ≡ c.args.rounds = omega (arith, c.rounds-test.false, c.rounds.invariant.end) in
     subst (λ n. Rounds c.args.ms n c.rounds.told c.args.self.now.world c.rounds.self.world) all c.rounds.invariant.rounds
+
+pub returns-clause-progress : goal.returns-clause-progress
+returns-clause-progress c =
+    let all : c.rounds.played ≡ c.args.rounds = omega (arith, c.rounds-test.false, c.rounds.invariant.end) in
+    gets-through c.args.self.now.joined c.args.ms c.args.rounds c.rounds.told c.args.self.now.world c.rounds.self.world c.is_reached.ensures
+    (subst (λ n. Rounds c.args.ms n c.rounds.told c.args.self.now.world c.rounds.self.world) all c.rounds.invariant.rounds)

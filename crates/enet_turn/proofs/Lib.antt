@@ -1,0 +1,7 @@
+pub mod Options
+pub mod PhaseSteps
+pub mod Among
+pub mod Reporting
+pub mod Runs
+pub mod Tellings
+pub mod Untold

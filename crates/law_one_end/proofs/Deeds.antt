@@ -1,0 +1,265 @@
+-- What a peer alone does is a number of events of its end.
+use Rattle.std.proofs.Common.{◌≡◌, ℕ, Bool, List, [], ◌∷◌, ◌++◌, refl, sym, ap, subst, ◌∙◌, inl, inr, ◌⊎◌, Option, Some, None, Result, Ok, Err}
+use Rattle.std.specs.Prelude.{flat_map}
+use Rattle.std.proofs.lemmas.List.{append-nil, append_assoc}
+use Rattle.enet_codec.specs.declared.address.Addr.{Addr}
+use Rattle.enet_codec.specs.declared.packet.Packet.{Packet}
+use Rattle.enet_codec.specs.declared.stop.Stop.{Stop}
+use Rattle.enet_codec.specs.declared.stop.Stop.TheVariants as stop
+use Rattle.enet_codec.specs.Message.{Message, IsMessage}
+use Rattle.enet_fragment.specs.declared.data.DataCommand.{DataCommand}
+use Rattle.enet_fragment.specs.DataCommand.{data_of}
+use Rattle.enet_outbox.specs.Emission.{filled, datagram}
+use Rattle.enet_peer.specs.declared.parts.PeerEvent.{PeerEvent}
+use Rattle.enet_peer.specs.Peering.{Peering}
+use Rattle.enet_peer.specs.CommandEffect.{Outcome, Obeys, obeyed, wants_memory}
+use Rattle.enet_peer.specs.Calls.{pace_of, destination_of}
+use Rattle.enet_receiver.specs.Members.{Has}
+use Rattle.law_connection.proofs.CarriageLemmas.{Has-append_left, Has-append_right}
+use Rattle.law_connection.proofs.Lists.{Has-append_cases}
+use Rattle.law_network.specs.Deeds.{Deed, Alone, AllAlone, bytes_of}
+use Rattle.law_network.specs.Deeds as deed
+use Rattle.law_network.proofs.Matching.{was-set, matches}
+use Rattle.law_one_end.specs.OneEnd.{Heard, OneEnd, Event, Submit, Emit, Come, Tick, Take, Disconnect, Set, with_peer, with_submission, with_emission, with_come, heard_as, loose_of, Runs}
+use Rattle.law_one_end.specs.Hosts.{AreOf}
+
+-- what a deed adds to the lists of an end
+abbrev pub told_in : Deed → List PeerEvent
+told_in (deed.Take (Some e)) = e ∷ []
+told_in d = []
+
+abbrev pub accepted_in : Deed → List Packet
+accepted_in (deed.Submit q (Ok done)) = q ∷ []
+accepted_in d = []
+
+abbrev pub given_in : Addr → Deed → List (Addr × List ℕ)
+given_in a (deed.Emit now (Some bytes)) = (a, bytes) ∷ []
+given_in a d = []
+
+-- and the command that came
+abbrev pub message_in : Deed → List Message
+message_in (deed.Come now sent m answer) = m ∷ []
+message_in d = []
+
+-- events lead an end to one with this peer, to which these were told and submitted, which put these out and to which commands came of which
+-- this holds
+pub record Led (a : Addr) (e : OneEnd) (told : List PeerEvent) (accepted : List Packet) (given : List (Addr × List ℕ)) (P : Message → Type 0) (q : Peering) : Type 0 where
+  pub events : List Event
+  pub end : OneEnd
+  pub runs : Runs events e end
+  pub peer : end.peer ≡ q
+  pub taken : end.taken ≡ e.taken ++ told
+  pub submitted : end.submitted ≡ e.submitted ++ accepted
+  pub messages : List Message
+  pub puts : AreOf a given messages
+  pub put : end.put ≡ e.put ++ messages
+  pub came : (h : Heard) → Has end.came h → Has e.came h ⊎ ((m : Message) × P m × (h.channel ≡ m.head.channel) × (data_of m ≡ Some h.command))
+  pub loose : (x : Packet) → Has end.loose x → Has e.loose x ⊎ ((m : Message) × P m × Has (loose_of m.head.channel m.body) x)
+
+-- nothing happens
+pub led-nothing : (a : Addr) (e : OneEnd) (P : Message → Type 0) (q : Peering) → q ≡ e.peer → Led a e [] [] [] P q
+led-nothing a e P q same = record {
+  events = [];
+  end = e;
+  runs = refl;
+  peer = sym same;
+  taken = sym (append-nil e.taken);
+  submitted = sym (append-nil e.submitted);
+  messages = [];
+  puts = refl;
+  put = sym (append-nil e.put);
+  came = λ h there. inl there;
+  loose = λ x there. inl there;
+}
+
+-- one event that only changes the peer
+one-event : (a : Addr) (e : OneEnd) (P : Message → Type 0) (event : Event) (q : Peering) → Runs (event ∷ []) e (with_peer e q) → Led a e [] [] [] P q
+one-event a e P event q runs = record {
+  events = event ∷ [];
+  end = with_peer e q;
+  runs = runs;
+  peer = refl;
+  taken = sym (append-nil e.taken);
+  submitted = sym (append-nil e.submitted);
+  messages = [];
+  puts = refl;
+  put = sym (append-nil e.put);
+  came = λ h there. inl there;
+  loose = λ x there. inl there;
+}
+
+runs-append : (es fs : List Event) (a b c : OneEnd) → Runs es a b → Runs fs b c → Runs (es ++ fs) a c
+runs-append [] fs a b c r s = subst (λ (x : OneEnd). Runs fs x c) (sym r) s
+runs-append (e ∷ es) fs a b c r s = (r.0, r.1, runs-append es fs r.0 b c r.2 s)
+
+are-append : (a : Addr) (ds es : List (Addr × List ℕ)) (ms ns : List Message) → AreOf a ds ms → AreOf a es ns → AreOf a (ds ++ es) (ms ++ ns)
+are-append a [] es ms ns h k = subst (λ (l : List Message). AreOf a es (l ++ ns)) (sym h) k
+are-append a (d ∷ ds) es ms ns h k =
+    (h.0, h.1, h.2, h.3 ++ ns, h.4, ap (λ (l : List Message). l ++ ns) h.5 ∙ append_assoc h.2 h.3 ns, are-append a ds es h.3 ns h.6 k)
+
+more-of : {X : Type 0} (a b c d e : List X) → d ≡ a ++ b → e ≡ d ++ c → e ≡ a ++ (b ++ c)
+more-of a b c d e f g = g ∙ ap (λ (l : List _). l ++ c) f ∙ append_assoc a b c
+
+-- and then more happens
+pub led-both : (a : Addr) (e : OneEnd) (t u : List PeerEvent) (s r : List Packet) (g k : List (Addr × List ℕ)) (P Q R : Message → Type 0) (q z : Peering) → ((m : Message) → P m → R m) → ((m : Message) → Q m → R m)
+    → (one : Led a e t s g P q) → Led a one.end u r k Q z → Led a e (t ++ u) (s ++ r) (g ++ k) R z
+led-both a e t u s r g k P Q R q z first second one two = record {
+  events = one.events ++ two.events;
+  end = two.end;
+  runs = runs-append one.events two.events e one.end two.end one.runs two.runs;
+  peer = two.peer;
+  taken = more-of e.taken t u one.end.taken two.end.taken one.taken two.taken;
+  submitted = more-of e.submitted s r one.end.submitted two.end.submitted one.submitted two.submitted;
+  messages = one.messages ++ two.messages;
+  puts = are-append a g k one.messages two.messages one.puts two.puts;
+  put = more-of e.put one.messages two.messages one.end.put two.end.put one.put two.put;
+  came = λ h there. elim (two.came h there) [
+    | inr new ↦ inr (new.0, second new.0 new.1, new.2, new.3)
+    | inl old ↦ elim (one.came h old) [ inl was ↦ inl was | inr new ↦ inr (new.0, first new.0 new.1, new.2, new.3) ]
+  ];
+  loose = λ x there. elim (two.loose x there) [
+    | inr new ↦ inr (new.0, second new.0 new.1, new.2)
+    | inl old ↦ elim (one.loose x old) [ inl was ↦ inl was | inr new ↦ inr (new.0, first new.0 new.1, new.2) ]
+  ];
+}
+
+-- what a datagram that was put out says
+none-put : (p : Peering) (now : ℕ) (ms : List Message) → None ≡ bytes_of p now ms → ms ≡ []
+none-put p now [] e = refl
+none-put p now (m ∷ ms) e = absurd (cc)
+
+some-put : (p : Peering) (now : ℕ) (ms : List Message) (bytes : List ℕ) → Some bytes ≡ bytes_of p now ms → bytes ≡ datagram now (destination_of p) ms
+some-put p now [] bytes e = absurd (cc)
+some-put p now (m ∷ ms) bytes e = cc
+
+heard-is : (channel front : ℕ) (o : Option DataCommand) (h : Heard) → Has (heard_as channel front o) h → (h.channel ≡ channel) × (o ≡ Some h.command)
+heard-is channel front None h there = absurd there
+heard-is channel front (Some c) h (inl e) = (ap (λ (x : Heard). x.channel) (sym e), ap (λ (x : Heard). Some x.command) e)
+heard-is channel front (Some c) h (inr f) = absurd f
+
+-- a command comes
+led-come : (a : Addr) (e : OneEnd) (now : ℕ) (sent : Option ℕ) (m : Message) (P : Message → Type 0) (q : Peering) → IsMessage m → P m → q ≡ (obeyed e.peer now sent m).after → Led a e [] [] [] P q
+led-come a e now sent m P q is holds after =
+    let p : Peering = (obeyed e.peer now sent m).after in
+    record {
+      events = Come m now sent ∷ [];
+      end = with_come e m p;
+      runs = (with_come e m p, (is, refl), refl);
+      peer = sym after;
+      taken = sym (append-nil e.taken);
+      submitted = sym (append-nil e.submitted);
+      messages = [];
+      puts = refl;
+      put = sym (append-nil e.put);
+      came = λ h there. elim (Has-append_cases e.came (heard_as m.head.channel (e.fronts m.head.channel) (data_of m)) h there) [
+        | inl old ↦ inl old
+        | inr new ↦ (let k = heard-is m.head.channel (e.fronts m.head.channel) (data_of m) h new in inr (m, holds, k.0, k.1))
+      ];
+      loose = λ x there. elim (Has-append_cases e.loose (loose_of m.head.channel m.body) x there) [ inl old ↦ inl old | inr new ↦ inr (m, holds, new) ];
+    }
+
+-- or it is refused for want of memory alone
+led-answered : (a : Addr) (e : OneEnd) (now : ℕ) (sent : Option ℕ) (m : Message) (P : Message → Type 0) (q : Peering) → IsMessage m → P m → (answer : Result (Unit {0}) Stop)
+    → Obeys answer (wants_memory e.peer now sent m) (obeyed e.peer now sent m) e.peer q → Led a e [] [] [] P q
+led-answered a e now sent m P q is holds answer h = by answer h
+  where
+    wants : Bool
+    wants = wants_memory e.peer now sent m
+
+    o : Outcome
+    o = obeyed e.peer now sent m
+
+    came : q ≡ o.after → Led a e [] [] [] P q
+    came after = led-come a e now sent m P q is holds after
+
+    by : (answer : Result (Unit {0}) Stop) → Obeys answer wants o e.peer q → Led a e [] [] [] P q
+    by (Ok done) h = came h.1
+    by (Err stop.Memory) h = led-nothing a e P q h.2
+    by (Err stop.Short) h = came h.1
+    by (Err stop.Compressed) h = came h.1
+    by (Err stop.UnknownPeer) h = came h.1
+    by (Err stop.WrongAddress) h = came h.1
+    by (Err stop.WrongSession) h = came h.1
+    by (Err stop.BadCommand) h = came h.1
+    by (Err stop.NotConnected) h = came h.1
+    by (Err stop.BadChannel) h = came h.1
+    by (Err stop.BadFragment) h = came h.1
+    by (Err stop.Waiting) h = came h.1
+    by (Err stop.NoSentTime) h = came h.1
+    by (Err stop.NoSlot) h = came h.1
+
+-- one deed
+pub led-deed : (a : Addr) (e : OneEnd) (d : Deed) (P : Message → Type 0) (q : Peering) → Alone d e.peer q → ((m : Message) → Has (message_in d) m → IsMessage m × P m) → Led a e (told_in d) (accepted_in d) (given_in a d) P q
+led-deed a e (deed.Submit x (Ok done)) P q alone is = record {
+  events = Submit x ∷ [];
+  end = with_submission e x;
+  runs = (with_submission e x, (alone.0, refl), refl);
+  peer = sym alone.1;
+  taken = sym (append-nil e.taken);
+  submitted = refl;
+  messages = [];
+  puts = refl;
+  put = sym (append-nil e.put);
+  came = λ h there. inl there;
+  loose = λ y there. inl there;
+}
+led-deed a e (deed.Submit x (Err why)) P q alone is = led-nothing a e P q alone.1
+led-deed a e (deed.Emit now None) P q alone is = record {
+  events = Emit now ∷ [];
+  end = with_emission e now;
+  runs = (with_emission e now, refl, refl);
+  peer = sym alone.1;
+  taken = sym (append-nil e.taken);
+  submitted = sym (append-nil e.submitted);
+  messages = (filled (pace_of e.peer now) e.peer.outbox).messages;
+  puts = none-put e.peer now (filled (pace_of e.peer now) e.peer.outbox).messages alone.0;
+  put = refl;
+  came = λ h there. inl there;
+  loose = λ x there. inl there;
+}
+led-deed a e (deed.Emit now (Some bytes)) P q alone is =
+    let ms : List Message = (filled (pace_of e.peer now) e.peer.outbox).messages in
+    record {
+      events = Emit now ∷ [];
+      end = with_emission e now;
+      runs = (with_emission e now, refl, refl);
+      peer = sym alone.1;
+      taken = sym (append-nil e.taken);
+      submitted = sym (append-nil e.submitted);
+      messages = ms;
+      puts = (now, destination_of e.peer, ms, [], ap (λ (l : List ℕ). (a, l)) (some-put e.peer now ms bytes alone.0), sym (append-nil ms), refl);
+      put = refl;
+      came = λ h there. inl there;
+      loose = λ x there. inl there;
+    }
+led-deed a e (deed.Come now sent m answer) P q alone is = (let k = is m (inl refl) in led-answered a e now sent m P q k.0 k.1 answer alone)
+led-deed a e (deed.Tick now) P q alone is = one-event a e P (Tick now) q (with_peer e q, ap (λ (x : Peering). with_peer e x) alone, refl)
+led-deed a e (deed.Take None) P q alone is = led-nothing a e P q alone.1
+led-deed a e (deed.Take (Some t)) P q alone is = record {
+  events = Take ∷ [];
+  end = record e { peer = q; taken = e.taken ++ t ∷ [] };
+  runs = (record e { peer = q; taken = e.taken ++ t ∷ [] }, (t, q, alone, refl), refl);
+  peer = refl;
+  taken = refl;
+  submitted = sym (append-nil e.submitted);
+  messages = [];
+  puts = refl;
+  put = sym (append-nil e.put);
+  came = λ h there. inl there;
+  loose = λ x there. inl there;
+}
+led-deed a e (deed.Disconnect way info (Ok done)) P q alone is = one-event a e P (Disconnect way info) q (with_peer e q, (q, alone, refl), refl)
+led-deed a e (deed.Disconnect way info (Err why)) P q alone is = led-nothing a e P q alone.2
+led-deed a e (deed.Set s (Ok done)) P q alone is =
+    let set = was-set s done e.peer q alone in
+    one-event a e P (Set s) q (with_peer e q, (set.0, ap (λ (x : Peering). with_peer e x) set.1), refl)
+led-deed a e (deed.Set s (Err why)) P q alone is = led-nothing a e P q (matches.refused (deed.Set s (Err why)) e.peer q alone refl)
+
+-- and all deeds, in order
+pub led-deeds : (a : Addr) (ds : List Deed) (e : OneEnd) (P : Message → Type 0) (q : Peering) → AllAlone ds e.peer q → ((m : Message) → Has (flat_map message_in ds) m → IsMessage m × P m)
+    → Led a e (flat_map told_in ds) (flat_map accepted_in ds) (flat_map (given_in a) ds) P q
+led-deeds a [] e P q alone is = led-nothing a e P q (sym alone)
+led-deeds a (d ∷ ds) e P q alone is =
+    let one : Led a e (told_in d) (accepted_in d) (given_in a d) P alone.0 = led-deed a e d P alone.0 alone.1 (λ m there. is m (Has-append_left (message_in d) (flat_map message_in ds) m there)) in
+    led-both a e (told_in d) (flat_map told_in ds) (accepted_in d) (flat_map accepted_in ds) (given_in a d) (flat_map (given_in a) ds) P P P alone.0 q (λ m k. k) (λ m k. k) one
+    (led-deeds a ds one.end P q (subst (λ (x : Peering). AllAlone ds x q) (sym one.peer) alone.2) (λ m there. is m (Has-append_right (message_in d) (flat_map message_in ds) m there)))
