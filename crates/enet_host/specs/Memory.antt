@@ -23,17 +23,17 @@ abbrev pub host_takes : ℕ
 host_takes = 4096
 
 -- a slot, free or not: its peer's numbers, the marks of 1,024 unsequenced groups, the lists of channel 0xFF, its part in the host's lists,
--- and the room for 16 commands that it keeps where there are none
+-- and the room for 64 commands that it keeps where there are none
 abbrev pub slot_takes : ℕ
-slot_takes = 3584
+slot_takes = 9216
 
 -- a channel on which packets come: its receiver, the marks of eight blocks of numbers that are held, and room to dispatch 64 packets
 abbrev pub channel_takes : ℕ
 channel_takes = 9216
 
--- a channel on which others are sent to, with its lists of numbers, which keep room for 16 each
+-- a channel on which others are sent to, with its lists of numbers, which keep room for 64 each
 abbrev pub sender_takes : ℕ
-sender_takes = 288
+sender_takes = 672
 
 -- a packet that came: its place among those that the user can take, and the frame of its body
 abbrev pub packet_takes : ℕ

@@ -13,13 +13,13 @@ use enet_peer::Held;
 const HOST: u64 = 4_096;
 
 /// What a slot takes, free or not.
-const SLOT: u64 = 3_584;
+const SLOT: u64 = 9_216;
 
 /// What a channel takes on which packets come.
 const CHANNEL: u64 = 9_216;
 
 /// What a channel takes on which others are sent to.
-const SENDER: u64 = 288;
+const SENDER: u64 = 672;
 
 /// What a packet takes that came, beside its bytes.
 const PACKET: u64 = 192;

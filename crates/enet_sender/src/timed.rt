@@ -24,7 +24,7 @@ use std::marker::Model;
 const FEWEST: usize = 4;
 
 /// For no more than so many commands room is kept where there are none.
-pub(crate) const MOST_UNUSED: usize = 16;
+pub(crate) const MOST_UNUSED: usize = 64;
 
 /// The commands of a peer, each under a key, and of each that is sent and not due to go again the moment at which it is late. Contracts
 /// see the commands alone, with room for as many as have a place for their moment.

@@ -2,7 +2,7 @@
 //!
 //! A slot sleeps where it is free, or its peer only waits and time brings it something later; a host passes it over where slots are asked
 //! for datagrams and events, and at a tick. It is woken (`wake`) before anything comes to it, and by time at the moment at which it is due
-//! (`advance`); it falls asleep where it is looked at and has nothing to do (`look_at`, `settle`). Times are in milliseconds.
+//! (`advance`); it falls asleep where it is looked at and has nothing to do (`rest`, `settle`). Times are in milliseconds.
 //!
 //! Proved: what is noted of the slots stays true of them at each call, whatever the slots are (`KeepsSleepers`): one that sleeps is free,
 //! or has nothing to put out or to tell, and is due first at the moment that is noted. Which slot is awake next is exact (`IsNextFrom`), as

@@ -13,5 +13,5 @@ returns c =
     let config : Config = c.self.inside.start.config in
     let one : c.memory_of_held.result ≡ memory_of_held (most_of config.max_packet config.max_waiting) =
     c.memory_of_held.ensures.value ∙ ap (λ (h : Held). memory_of_held h) c.most_of-most.ensures.value in
-    subst (λ (h : Host). 4096 + c.from.result * (3584 + c.memory_of_held.result) ≡ memory_with h.config.peers (most_held h.config)) c.self.view_is
-    (ap₂ (λ (n m : ℕ). 4096 + n * (3584 + m)) c.from.ensures one ∙ sym (slots-weigh config.peers (most_of config.max_packet config.max_waiting)))
+    subst (λ (h : Host). 4096 + c.from.result * (9216 + c.memory_of_held.result) ≡ memory_with h.config.peers (most_held h.config)) c.self.view_is
+    (ap₂ (λ (n m : ℕ). 4096 + n * (9216 + m)) c.from.ensures one ∙ sym (slots-weigh config.peers (most_of config.max_packet config.max_waiting)))
