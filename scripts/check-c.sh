@@ -292,7 +292,7 @@ install_tools() {
     command -v pkg-config || missing+=(pkg-config)
     command -v valgrind || missing+=(valgrind)
     /usr/bin/python3 -c 'import enet' || missing+=(python3-enet)
-    [ ${#missing[@]} -eq 0 ] || apt-get install -y "${missing[@]}" || { apt-get update && apt-get install -y "${missing[@]}"; }
+    [ ${#missing[@]} -eq 0 ] || install_packages "${missing[@]}"
 }
 
 layer_tests=(refusals packets calls waiting alike coder)

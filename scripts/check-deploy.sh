@@ -29,7 +29,7 @@ install_tools() {
     command -v unshare > "$room/found" || missing+=(util-linux)
     command -v curl > "$room/found" || missing+=(curl)
     command -v python3 > "$room/found" || missing+=(python3)
-    [ ${#missing[@]} -eq 0 ] || { apt-get install -y "${missing[@]}" || { apt-get update && apt-get install -y "${missing[@]}"; }; } > "$room/install" 2>&1
+    [ ${#missing[@]} -eq 0 ] || install_packages "${missing[@]}" > "$room/install" 2>&1
 }
 
 # The units, with the program at the place that they name.

@@ -9,6 +9,7 @@
 #     check-speed.sh --print CHECKOUT  prints for each line what the programs of another built checkout take
 cd "$(dirname "$0")/.." || exit 1
 . bench/input.sh
+. scripts/packages.sh
 . scripts/tally.sh
 counts=bench/instructions.txt
 task=${1:-compare}
@@ -17,8 +18,7 @@ top=$PWD
 # Valgrind, installed as root where it is missing.
 have_valgrind() {
     command -v valgrind > /dev/null && return
-    { apt-get install -y valgrind || { apt-get update && apt-get install -y valgrind; }; } > "$room/install" 2>&1 ||
-        { cat "$room/install" >&2; return 1; }
+    install_packages valgrind > "$room/install" 2>&1 || { cat "$room/install" >&2; return 1; }
 }
 
 # Counts the instructions of the program $1 with the words behind it, into `counted`.

@@ -1,4 +1,5 @@
 # What the scripts that run the programs of clients/ share; they source it at the top of the repository.
+. scripts/packages.sh
 
 # Builds the programs into the directory $1, after installing a C compiler and the reference library where they are missing (as root,
 # from Debian's packages). What went wrong is on standard error.
@@ -7,8 +8,7 @@ build_clients() {
     [ -r /usr/include/enet/enet.h ] || missing+=(libenet-dev)
     command -v cc > /dev/null || missing+=(gcc libc6-dev)
     if [ ${#missing[@]} -gt 0 ]; then
-        { apt-get install -y "${missing[@]}" || { apt-get update && apt-get install -y "${missing[@]}"; }; } > "$1/install" 2>&1 ||
-            { cat "$1/install" >&2; return 1; }
+        install_packages "${missing[@]}" > "$1/install" 2>&1 || { cat "$1/install" >&2; return 1; }
     fi
     local source
     for source in client crowd echo guess guests server steady proxy load tell hostile hoard swarm flood knock forge tally hold told passers; do

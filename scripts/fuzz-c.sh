@@ -7,12 +7,13 @@
 set -eu
 cd "$(dirname "$0")/.."
 . scripts/in-memory.sh
+. scripts/packages.sh
 [ $# -ge 1 ] || { echo "usage: fuzz-c.sh SECONDS [ARCHIVE]" >&2; exit 1; }
 corpus=c/tests/fuzz.corpus
 most=400
 room=$(mktemp -d)
 trap 'rm -rf "$room"' EXIT
-command -v clang > /dev/null || apt-get install -y clang libclang-rt-14-dev
+command -v clang > /dev/null || install_packages clang libclang-rt-14-dev
 bash scripts/build-c.sh "$room/made" ${2:+"$2"} > "$room/said" || { cat "$room/said"; exit 1; }
 checked=(-fsanitize=address,undefined -fno-sanitize-recover=all)
 build_in_memory "$room/play" fuzz cc "$room/made" "${checked[@]}"

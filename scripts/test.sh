@@ -1,31 +1,66 @@
 #!/usr/bin/env bash
-# All tests: the gate (every proof from nothing, the must-fail edits, the programs), then whether the edits that the gate leaves alone still
-# fit the text, the definitions that documents quote, the names, files and commits that they cite, the trials of the crates, the worked
+# All tests: the gate (every proof from nothing, the must-fail edits, the programs), whether the edits that the gate leaves alone still fit
+# the text, the definitions that documents quote, the names, files and commits that they cite, the trials of the crates, the worked
 # scripts and captured datagrams through the built program, each growth of memory of worked rows refused in turn, the instructions of the
 # benchmark's jobs, clients of the reference library that talk through the program, what its operator's lines do, whom it lets in and what it tells of
-# itself, what deploy/ has, and the library for C. Each of the fourteen last ends with a line 'N passed, M failed'; the status is other than 0 where anything failed.
+# itself, what deploy/ has, and the library for C. Each but the gate ends with a line 'N passed, M failed'; the status is other than 0 where anything failed.
+# Some run side by side, in rows, so that two processors have something to do to the end: what reads texts and needs no program runs beside
+# the gate, with what that leaves of the processors; then what counts beside what talks through sockets. A row's output is shown once all of it ended.
 set -u
 cd "$(dirname "$0")/.." || exit 1
 begun=$SECONDS
+room=$(mktemp -d) || exit 1
+trap 'kill $(jobs -p) 2> /dev/null; wait; rm -rf "$room"' EXIT
+
+# Runs the commands of the standard input, a line each, one after another in the background. `show` waits for them and shows what they said.
+row() {
+    local command
+    while IFS= read -r command; do
+        echo "== $command"
+        $command < /dev/null || echo "$command" >> "$room/failed"
+        echo "   after $((SECONDS - begun)) seconds"
+    done > "$room/$1" 2>&1 &
+    eval "$1=$!"
+}
+show() {
+    wait "${!1}"
+    cat "$room/$1"
+}
+
+library() {
+    if bash scripts/archive-c.sh > /dev/null; then bash scripts/check-c.sh; else echo '0 passed, 1 failed'; false; fi
+}
+
 # What the crates' folders have of built libraries goes first, so that those that stand there afterwards are the gate's.
 rm -rf crates/*/out/rlib crates/enet_c/out/libenet_c.a
+row texts << 'END'
+bash scripts/check-edits.sh --read
+python3 scripts/quotes.py
+python3 scripts/check-documents.py
+bash scripts/check-trials.sh
+END
+renice -n 19 "$texts" > "$room/nice"
 # One check a processor: several processors on one check take twice the processor time for the same proof.
 RT_JOBS=${RT_JOBS:-$(nproc)} rt ci
 gate=$?
 echo "rt ci ended with status $gate after $((SECONDS - begun)) seconds"
+show texts
 [ "$gate" = 0 ] || exit 1
-failed=()
-try() {
-    "$@" || failed+=("$*")
-}
-library() {
-    if bash scripts/archive-c.sh > /dev/null; then bash scripts/check-c.sh; else echo '0 passed, 1 failed'; false; fi
-}
-try bash scripts/check-edits.sh --read
-try python3 scripts/quotes.py
-try python3 scripts/check-documents.py
-for name in trials rows inspect memory speed clients operator admission metrics deploy; do
-    try bash "scripts/check-$name.sh"
-done
-try library
-[ ${#failed[@]} -eq 0 ] || { echo "failed: ${failed[*]}" >&2; exit 1; }
+row counts << 'END'
+bash scripts/check-rows.sh
+bash scripts/check-inspect.sh
+bash scripts/check-memory.sh
+bash scripts/check-speed.sh
+library
+END
+row talks << 'END'
+bash scripts/check-clients.sh
+bash scripts/check-operator.sh
+bash scripts/check-admission.sh
+bash scripts/check-metrics.sh
+bash scripts/check-deploy.sh
+END
+show counts
+show talks
+echo "all tests ended after $((SECONDS - begun)) seconds"
+[ ! -s "$room/failed" ] || { echo 'failed:' >&2; cat "$room/failed" >&2; exit 1; }

@@ -12,7 +12,7 @@ picture=${2:-out/panels.svg}
 mkdir -p "$(dirname "$picture")" || exit 1
 room=$(mktemp -d) || exit 1
 trap 'kill $(jobs -p) 2> /dev/null; wait; rm -rf "$room"' EXIT
-command -v prometheus > "$room/found" || { apt-get update && apt-get install -y prometheus; } > "$room/install" 2>&1 || { cat "$room/install" >&2; exit 1; }
+command -v prometheus > "$room/found" || install_packages prometheus > "$room/install" 2>&1 || { cat "$room/install" >&2; exit 1; }
 build_clients "$room" || exit 1
 free_port
 server=$port
