@@ -1,5 +1,5 @@
 # Writes a script of the lab: a server with eight clients, of which one after another is connected, sends and gets some packets and leaves,
-# `connections` times, as `seed` draws it. No datagram is lost; some packets come twice.
+# `size` times, as `seed` draws it. No datagram is lost; some packets come twice.
 
 # A drawn number below a bound. The products stay below 2 ^ 53, so that each awk draws the same.
 function draw(bound) {
@@ -49,7 +49,7 @@ BEGIN {
     drawn = seed % 2147483646 + 1
     for (warm = 0; warm < 10; warm++) draw(2)
     print "fleet 8 4 2"
-    for (number = 0; number < connections; number++) {
+    for (number = 0; number < size; number++) {
         client = "C" draw(8)
         visit(client, "0." (count[client]++), "0." number)
     }

@@ -1,8 +1,8 @@
 # What bench/run and scripts/check-speed.sh share.
 bench=$(cd "$(dirname "${BASH_SOURCE[0]}")" && pwd)
 
-# The words behind $2, for a program: `SEED` is the seed $1, and `<NAME.awk,COUNT` is no word but the standard input that bench/NAME.awk
-# writes, of so many connections as that seed draws; it becomes a file in the folder $2. The words are left in `words`, the standard input's
+# The words behind $2, for a program: `SEED` is the seed $1, and `<NAME.awk,SIZE` is no word but the standard input that bench/NAME.awk
+# writes, of this size and as that seed draws; it becomes a file in the folder $2. The words are left in `words`, the standard input's
 # file in `input`.
 take_words() {
     local seed=$1 room=$2 word
@@ -15,7 +15,7 @@ take_words() {
         '<'*)
             word=${word#<}
             input=$room/input
-            awk -v seed="$seed" -v connections="${word#*,}" -f "$bench/${word%,*}" > "$input" || return 1
+            awk -v seed="$seed" -v size="${word#*,}" -f "$bench/${word%,*}" > "$input" || return 1
             ;;
         *) words+=("$word") ;;
         esac
