@@ -16,7 +16,7 @@ begin() {
     "$program" serve --port "$port" --forever --log --control --threads "$threads" --queue-capacity 1024 "$@" <&8 > "$room/out" 2> "$room/log" &
     relay=$!
     for _ in {1..100}; do
-        grep -q listening "$room/log" && return
+        grep -qs listening "$room/log" && return
         sleep 0.1
     done
 }

@@ -13,9 +13,10 @@
 #     pings            pings, which are to be acknowledged
 #
 # And what A's own user fills it with: `reliable`, `unreliable` and `unsequenced` packets, `many-pieces`, a `body` of 200,000 bytes, a
-# `burst` that is acknowledged, and one of which all but the first packet is (`front`). `granted`: A asks for 255 channels and gets one. `open`:
-# nothing comes. The first line is a remark: how many commands of A's user, and how many bytes, were queued or unacknowledged at once since
-# none was last. No figure of memory is here: what a thing takes stands in specs/Memory of enet_host.
+# `burst` that is acknowledged, one that is no longer than the room that is `kept`, and one of which all but the first packet is (`front`).
+# `granted`: A asks for 255 channels and gets one. `open`: nothing comes. The first line is a remark: how many commands of A's user, and how
+# many bytes, were queued or unacknowledged at once since none was last. No figure of memory is here: what a thing takes stands in
+# specs/Memory of enet_host.
 function hex(number, digits) { return sprintf("%0" digits "x", number) }
 function line(text, answer) { print text " = " answer }
 function datagram(text, handled) { line("receive A B 80000000" text, handled ? "handled 1" : "handled 0 stop S10") }
@@ -86,6 +87,7 @@ BEGIN {
     else if (kind == "many-pieces") submit(120, 1, 100000, 74)
     else if (kind == "body") submit(1, 1, 200000, 147)
     else if (kind == "burst") { submit(1030, 1, 1, 0); acknowledge(1, 1030) }
+    else if (kind == "kept") { submit(64, 1, 1, 0); acknowledge(1, 64) }
     else if (kind == "front") { submit(8192, 1, 1, 1); acknowledge(2, 8192) }
     else if (kind == "granted") {
         own(0, 0)
