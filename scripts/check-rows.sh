@@ -211,6 +211,7 @@ services() {
     obeys control
     obeys control-in-two-threads --threads 2
     goes_on_unread unread
+    counts_unread unread-any-more
 }
 
 # The receive buffer is as small as it is asked for; Linux tells twice that.
@@ -266,6 +267,24 @@ goes_on_unread() {
     rm "$room/unread"
 }
 
+# Answers for which its standard output has no reader left are counted, and the next reader is told how many there were.
+counts_unread() {
+    local name=$1 status
+    free_port
+    mkfifo "$room/left"
+    : < "$room/left" &
+    { sleep 1; printf 'peers\npeers\n'; sleep 2; printf 'stop\n'; } |
+        timeout 20 "$program" serve --port "$port" --forever --control > "$room/left" 2> "$room/err" &
+    first=$!
+    sleep 2
+    timeout 10 cat "$room/left" > "$room/out"
+    wait "$first"
+    status=$?
+    first=
+    rm "$room/left"
+    [ "$status" -eq 0 ] && [ "$(<"$room/out")" = $'2 more\nstopping' ] && passed=$((passed + 1)) || fail "$name" "status $status, it answered: $(head -c 200 "$room/out")"
+}
+
 # What `demo` prints with $1 clients of which each got $2 packets, and the last word $3.
 demo_prints() {
     local client
@@ -289,6 +308,9 @@ demonstrations() {
     port=47101
     start_service --turns 1000000
     service_line demo-beside-a-server 0 '' "$(demo_prints 2 3 done)" demo
+    for clients in 1 2 8; do
+        service_line "demo-$clients-at-a-server" 0 '' "$(demo_prints "$clients" $((3 * (clients - 1))) done)" demo --clients "$clients" --port "$port"
+    done
     end_service
 }
 

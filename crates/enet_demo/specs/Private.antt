@@ -1,3 +1,4 @@
 -- What only private functions and proofs speak of: no caller is promised anything by it.
 pub mod Playing
+pub mod Resting
 pub mod Visits

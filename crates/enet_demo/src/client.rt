@@ -106,7 +106,11 @@ fn run_client<R: Threads + Wait + Clock + Sync>(
         bell,
         signals,
     } = shared;
-    let Company { present, all } = company;
+    let Company {
+        present,
+        all,
+        counts_itself,
+    } = company;
     let sender = OrderSender::new(part.alloc, queue, ends.seat, bell);
     let receiver = EventReceiver::new(events, ends.taker);
     let mut player = Player::new(part.alloc, part.plan, sender, receiver);
@@ -125,7 +129,18 @@ fn run_client<R: Threads + Wait + Clock + Sync>(
             ensures played { OnOk result (HasPlayed player.exit) }
             ensures same { IsSame player.entry player.exit }
             ensures memory { IfErr result (λ why. why ≡ Refusal.Memory) }
-        { player.run(rt, &signals.bell, &signals.ended, Company { present, all }) },
+        {
+            player.run(
+                rt,
+                &signals.bell,
+                &signals.ended,
+                Company {
+                    present,
+                    all,
+                    counts_itself,
+                },
+            )
+        },
     );
     report?;
     played?;

@@ -53,10 +53,12 @@ pub struct Demonstration {
 /// Runs a server, unless one is named, and clients at 127.0.0.1, whose ports the system chooses, in threads of this process, and tells
 /// what came of each client, from client 0 on.
 ///
-/// Each client connects; it sends three packets `c<i> 0` to `c<i> 2` on channel 0, reliably, a server that was started here once that has
-/// all clients for peers; and it counts what comes until its service has taken its turns and no event is left. So where the turns
-/// suffice, each client gets of a server that was started here the three packets of each other one, whichever connected first; where
-/// they end early, it gets fewer.
+/// Each client connects; it sends three packets `c<i> 0` to `c<i> 2` on channel 0, reliably, once all clients are there; and it counts what
+/// comes until its service has taken its turns and no event is left. All are there once a server that was started here has them for peers.
+/// A server that was there before doesn't tell that: there, they are once each has had its connection for a hundred rests of its game
+/// thread, a tenth of a second. So where the turns suffice, each client gets of a server that was started here the three packets of each
+/// other one, whichever connected first; so it does of a relay that was there, unless that takes over a tenth of a second to note a peer.
+/// Where the turns end early, it gets fewer; where one client has no connection, none chats.
 ///
 /// E8 where `clients` is out of its range; E14 where the server's port or one for a client can't be had, before anything is sent; then
 /// E14 where a wire fails, E1 for want of memory, E10 where the server's run is so long that its relay has submitted as many orders as it
@@ -106,7 +108,7 @@ where
     ensures refused { IfErr result EndsRun }
 {
     let guests = open_guests(rt, shown)?;
-    let present = AtomicUsize::new(usize::from(shown.clients));
+    let present = AtomicUsize::new(0);
     let outcomes = visit_all(rt, guests, shown, &present)?;
     first_fault_or_all(rt.alloc(), outcomes.as_slice())
 }
@@ -190,13 +192,24 @@ fn visit_all<R: Threads + Wait + Clock + Sync>(
     ensures memory { IfErr result (λ why. why ≡ Refusal.Memory) }
 {
     let all = usize::from(shown.clients);
+    let counts_itself = shown.server.is_some();
     let outcomes = thread::map_vec(
         rt,
         guests,
         &|guest: Guest| -> Result<Visit, Refusal>
             requires { IsSync R.row × (guest.part.plan.number < 10) }
             ensures { IfOk result (Visits beginning guest.part.plan guest.part.turns) × IfErr result EndsRun }
-        { visit(rt, guest, Company { present, all }) },
+        {
+            visit(
+                rt,
+                guest,
+                Company {
+                    present,
+                    all,
+                    counts_itself,
+                },
+            )
+        },
     );
     match outcomes {
         Ok(outcomes) => Ok(outcomes),

@@ -4,6 +4,7 @@ ghost use Rattle.enet_turn.specs.Counts.{stopped};
 ghost use Rattle.enet_demo.specs.Visits.{packets};
 
 use crate::orders::{Plan, chat_orders, connect_order};
+use crate::patience::Patience;
 use crate::stage::Stage;
 use enet_codec::{Event, Refusal};
 use enet_events::Taker;
@@ -26,10 +27,12 @@ pub struct Visit {
 /// The company that a client waits for before it chats.
 #[derive(Clone, Copy)]
 pub(crate) struct Company<'a> {
-    /// How many peers the server has at the moment.
+    /// How many clients are there at the moment.
     pub(crate) present: &'a AtomicUsize,
     /// How many there are to be.
     pub(crate) all: usize,
+    /// Each client counts itself; where it doesn't, the server counts its peers.
+    pub(crate) counts_itself: bool,
 }
 
 /// The game thread of a client: it connects, chats once, and counts what comes.
@@ -40,6 +43,7 @@ pub(crate) struct Player<'a> {
     sender: OrderSender<'a>,
     receiver: EventReceiver<'a>,
     stage: Stage,
+    patience: Patience,
     received: u32,
 }
 
@@ -75,6 +79,7 @@ impl<'a> Player<'a> {
             sender,
             receiver,
             stage: Stage::Alone,
+            patience: Patience::new(),
             received: 0,
         }
     }
@@ -125,8 +130,20 @@ impl<'a> Player<'a> {
         }
         if !over {
             bell.wait_a_moment(rt);
+            self.note_rest(company);
         }
         Ok(over)
+    }
+
+    // Counts a rest, where it has its connection, and itself in time, where the clients do that.
+    fn note_rest(&mut self, company: Company<'_>)
+        requires { HasPlayed self.old }
+        ensures played { HasPlayed self.new }
+        ensures same { IsSame self.old self.new }
+    {
+        if company.counts_itself && self.stage.is_connected() && self.patience.rest() {
+            company.present.fetch_add(1, SeqCst);
+        }
     }
 
     // Hands what waits to the service, and wakes it where something did.
