@@ -14,7 +14,7 @@ page_text status body =
 unfoldable pub answer_text : Question → Reading → List ℕ
 answer_text Figures r = page_text (codes "200 OK") (reading_text r)
 answer_text Health r =
-    if is_alive r then page_text (codes "200 OK") (codes "ok\n") else page_text (codes "503 Service Unavailable") (codes "the service hangs\n")
+    if is_alive r then page_text (codes "200 OK") (codes "ok\n") else page_text (codes "503 Service Unavailable") (codes "the service hangs, or its clock cannot be read\n")
 answer_text Other r = page_text (codes "404 Not Found") (codes "here are /metrics and /healthz\n")
 answer_text OtherMethod r = page_text (codes "405 Method Not Allowed") (codes "GET alone\n")
 answer_text Unreadable r = page_text (codes "400 Bad Request") (codes "no request\n")

@@ -1,12 +1,17 @@
 -- What is told of a service, in the text format of Prometheus.
-use Rattle.std.specs.Prelude.{ℕ, Bool, nat_lt, List, ◌++◌, codes}
+use Rattle.std.specs.Prelude.{ℕ, Bool, false, nat_lt, List, [], ◌++◌, codes, Option, Some, None}
 use Rattle.enet_metrics.specs.declared.reading.Standing.{Standing}
 use Rattle.enet_metrics.specs.declared.reading.Reading.{Reading}
 use Rattle.enet_metrics.specs.Texts.{head_text, line_text, figure_text, reasons_from, seconds_text}
 use Rattle.enet_metrics.specs.Trips.{trips_text}
 
+-- the last look is known to be less than a second old
+abbrev pub is_young : Option ℕ → Bool
+is_young None = false
+is_young (Some age) = nat_lt age 1000
+
 abbrev pub is_alive : Reading → Bool
-is_alive r = nat_lt r.age 1000
+is_alive r = is_young r.age
 
 unfoldable pub peers_text : Standing → List ℕ
 peers_text s =
@@ -63,10 +68,15 @@ refusals_text r =
     head_text (codes "enet_orders_refused_total") (codes "counter") (codes "Orders that the host refused, by the reason.")
     ++ reasons_from (codes "enet_orders_refused_total") (codes "E") 1 r.refusals
 
-unfoldable pub age_text : ℕ → List ℕ
-age_text age =
+unfoldable pub known_age_text : ℕ → List ℕ
+known_age_text age =
     head_text (codes "enet_look_age_seconds") (codes "gauge") (codes "How long ago the service last looked.")
     ++ seconds_text (codes "enet_look_age_seconds") age
+
+-- what isn't known isn't told
+abbrev pub age_text : Option ℕ → List ℕ
+age_text None = []
+age_text (Some age) = known_age_text age
 
 -- all that is told
 unfoldable pub reading_text : Reading → List ℕ

@@ -89,13 +89,14 @@ impl Client {
         false
     }
 
+    // Nobody is where the clock can't be read: he is told that, and may stay until the seventeenth comes.
     fn is_late<R: Clock>(&self, rt: &R) -> bool {
         let Some(begun) = &self.begun else {
-            return true;
+            return false;
         };
         match begun.elapsed(rt) {
             Ok(elapsed) => elapsed >= Duration::from_secs(PATIENCE),
-            Err(_) => true,
+            Err(_) => false,
         }
     }
 

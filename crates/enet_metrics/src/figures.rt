@@ -1,10 +1,11 @@
 //! What is known of a service, for two threads.
 
 ghost use Rattle.std.specs.Prelude.{◌≡◌};
-ghost use Rattle.enet_metrics.specs.Private.Figures.{standing_in};
+ghost use Rattle.enet_metrics.specs.Noting.{age_of};
+ghost use Rattle.enet_metrics.specs.Standings.{standing_in};
 
 use crate::reading::{Reading, Standing};
-use crate::trips::{BUCKETS, Trips, bucket_of};
+use crate::trips::{BUCKETS, Trips};
 use std::alloc::{AllocError, Global};
 use std::rt::Clock;
 use std::sync::atomic::Ordering::SeqCst;
@@ -43,35 +44,16 @@ impl Figures {
         })
     }
 
-    /// Whoever watches looks now: so the service stands.
-    pub fn look<R: Clock>(&self, rt: &R, standing: &Standing) {
-        let numbers = numbers_of(standing);
-        for place in 0..numbers.len() {
-            store(&self.standing, place, numbers[place]);
+    /// Whoever watches looks now, and has noted this; its age isn't asked for. A look at which the clock can't be read counts as none.
+    pub fn look<R: Clock>(&self, rt: &R, noted: &Reading) {
+        store_all(&self.standing, &numbers_of(&noted.standing));
+        store_all(&self.stops, &noted.stops);
+        store_all(&self.refusals, &noted.refusals);
+        store_all(&self.trips, &noted.trips.counts);
+        self.trips_sum.store(noted.trips.sum, SeqCst);
+        if let Some(now) = self.now(rt) {
+            self.looked_at.store(now, SeqCst);
         }
-        self.looked_at.store(self.now(rt), SeqCst);
-    }
-
-    /// So many datagrams were stopped for the reason of this number (1 to 13) since the start. Another number is passed over.
-    pub fn stopped(&self, reason: u8, count: u64) {
-        if reason > 0 {
-            store(&self.stops, usize::from(reason) - 1, count);
-        }
-    }
-
-    /// So many orders were refused for the reason of this number (1 to 8) since the start. Another number is passed over.
-    pub fn refused(&self, reason: u8, count: u64) {
-        if reason > 0 {
-            store(&self.refusals, usize::from(reason) - 1, count);
-        }
-    }
-
-    /// A peer's round trips take so many milliseconds now.
-    pub fn trip(&self, ms: u32) {
-        if let Some(count) = self.trips.get(bucket_of(ms)) {
-            count.fetch_add(1, SeqCst);
-        }
-        self.trips_sum.fetch_add(u64::from(ms), SeqCst);
     }
 
     /// The server ends: the pages are to end, too.
@@ -83,18 +65,14 @@ impl Figures {
         self.is_over.load(SeqCst)
     }
 
-    // Milliseconds since the start; 0 where the clock can't be read.
-    fn now<R: Clock>(&self, rt: &R) -> u64 {
-        let Some(begun) = &self.begun else {
-            return 0;
-        };
-        match begun.elapsed(rt) {
-            Ok(elapsed) => u64::try_from(elapsed.as_millis()).unwrap_or(u64::MAX),
-            Err(_) => 0,
-        }
+    // Milliseconds since the start. None where the clock can't be read, or couldn't then.
+    fn now<R: Clock>(&self, rt: &R) -> Option<u64> {
+        let begun = self.begun.as_ref()?;
+        let elapsed = begun.elapsed(rt).ok()?;
+        Some(u64::try_from(elapsed.as_millis()).unwrap_or(u64::MAX))
     }
 
-    /// What is told now. The start counts as a look.
+    /// What is told now: what was noted at the last look, and how long ago that was. The start counts as a look.
     pub fn read<R: Clock>(&self, rt: &R) -> Reading {
         let mut numbers = [0; 18];
         let mut stops = [0; 13];
@@ -112,8 +90,18 @@ impl Figures {
                 counts,
                 sum: self.trips_sum.load(SeqCst),
             },
-            age: self.now(rt).saturating_sub(self.looked_at.load(SeqCst)),
+            age: age_of(self.now(rt), self.looked_at.load(SeqCst)),
         }
+    }
+}
+
+// How long ago a look was.
+fn age_of(now: Option<u64>, looked_at: u64) -> Option<u64>
+    ensures { result ≡ age_of now looked_at }
+{
+    match now {
+        Some(now) => Some(now.saturating_sub(looked_at)),
+        None => None,
     }
 }
 
@@ -143,8 +131,8 @@ fn numbers_of(standing: &Standing) -> [u64; 18]
     ]
 }
 
-// The standing of these numbers.
-fn standing_of(numbers: &[u64; 18]) -> Standing
+/// The standing of these numbers.
+pub(crate) fn standing_of(numbers: &[u64; 18]) -> Standing
     ensures { result ≡ standing_in numbers.now }
 {
     Standing {
@@ -178,9 +166,11 @@ fn zeros(alloc: Global, count: usize) -> Result<Vec<AtomicU64>, AllocError> {
     Ok(zeros)
 }
 
-fn store(counts: &[AtomicU64], place: usize, count: u64) {
-    if let Some(cell) = counts.get(place) {
-        cell.store(count, SeqCst);
+fn store_all(counts: &[AtomicU64], numbers: &[u64]) {
+    for place in 0..numbers.len() {
+        if let Some(cell) = counts.get(place) {
+            cell.store(numbers[place], SeqCst);
+        }
     }
 }
 

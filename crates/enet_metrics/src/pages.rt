@@ -19,7 +19,7 @@ const MOST: usize = 16;
 const PAUSE: u64 = 100;
 
 /// Answers whoever asks for `/metrics` and `/healthz`, each connection one request, in one thread. Nobody is waited for: a client has five
-/// seconds for its exchange, and the seventeenth takes the place of the first.
+/// seconds for its exchange (no bound where the clock can't be read), and the seventeenth takes the place of the first.
 #[derive(Drop)]
 pub struct Pages {
     alloc: Global,

@@ -2,7 +2,7 @@
 
 ghost use Rattle.std.specs.Prelude.{◌≡◌, ◌++◌, IfOk, OnOk};
 ghost use Rattle.std.specs.String.{string_bytes};
-ghost use Rattle.enet_metrics.specs.Readings.{peers_text, slots_text, states_text, waiting_text, datagrams_text, bytes_text, traffic_text, stops_text, refusals_text, age_text, reading_text, is_alive};
+ghost use Rattle.enet_metrics.specs.Readings.{peers_text, slots_text, states_text, waiting_text, datagrams_text, bytes_text, traffic_text, stops_text, refusals_text, age_text, known_age_text, reading_text, is_alive};
 
 use crate::text::{push_figure, push_head, push_line, push_reasons, push_seconds};
 use crate::trips::{Trips, push_trips};
@@ -52,16 +52,19 @@ pub struct Reading {
     /// How many orders were refused, for the reasons E1 to E8.
     pub refusals: [u64; 8],
     pub trips: Trips,
-    /// How many milliseconds ago the service last looked.
-    pub age: u64,
+    /// How many milliseconds ago the service last looked; None where the clock can't be read.
+    pub age: Option<u64>,
 }
 
 impl Reading {
-    /// Whether the last look was less than a second ago.
+    /// Whether the last look was less than a second ago. Where the clock can't be read nobody knows: then it is told as hung.
     pub fn is_alive(&self) -> bool
         ensures { result ≡ is_alive self.now }
     {
-        self.age < HUNG
+        match self.age {
+            Some(age) => age < HUNG,
+            None => false,
+        }
     }
 
     /// In the text format of Prometheus. An error for want of memory.
@@ -265,8 +268,18 @@ fn push_refusals(text: &mut String, reading: &Reading) -> Result<(), AllocError>
     Ok(())
 }
 
-fn push_age(text: &mut String, age: u64) -> Result<(), AllocError>
+// Nothing where it isn't known.
+fn push_age(text: &mut String, age: Option<u64>) -> Result<(), AllocError>
     ensures { OnOk result (string_bytes text.new ≡ string_bytes text.old ++ age_text age) }
+{
+    match age {
+        Some(age) => push_known_age(text, age),
+        None => Ok(()),
+    }
+}
+
+fn push_known_age(text: &mut String, age: u64) -> Result<(), AllocError>
+    ensures { OnOk result (string_bytes text.new ≡ string_bytes text.old ++ known_age_text age) }
 {
     push_head(
         text,

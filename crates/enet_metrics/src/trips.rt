@@ -1,6 +1,6 @@
 //! How long round trips take.
 
-ghost use Rattle.std.specs.Prelude.{◌≡◌, ◌≤◌, ◌++◌, length, IfOk, OnOk};
+ghost use Rattle.std.specs.Prelude.{◌≡◌, ◌<◌, ◌≤◌, ◌++◌, length, IfOk, OnOk};
 ghost use Rattle.std.specs.String.{string_bytes};
 ghost use Rattle.enet_metrics.specs.Trips.{bucket_of, bound_text, bucket_line, buckets_from, total_from, capped, trips_text};
 ghost use Rattle.enet_metrics.specs.Private.Trips.{one_above};
@@ -23,7 +23,8 @@ pub struct Trips {
 /// The bucket of a round trip of so many milliseconds: how many of the bounds 1, 2, 5, 10, 20, 50, 100, 200, 500, 1,000, 2,000 and 5,000 it
 /// is above.
 pub fn bucket_of(ms: u32) -> usize
-    ensures { result ≡ bucket_of ms }
+    ensures bucket { result ≡ bucket_of ms }
+    ensures within { result < 13 }
 {
     let low = above(ms, 1) + above(ms, 2) + above(ms, 5) + above(ms, 10);
     let middle = above(ms, 20) + above(ms, 50) + above(ms, 100) + above(ms, 200);

@@ -1,7 +1,7 @@
 //! What a monitor is told of the server.
 
 use enet_host::SlotCounts;
-use enet_metrics::{Figures, Standing};
+use enet_metrics::{Figures, Reading, Standing};
 use enet_serve::{Register, WatchedHost};
 use std::alloc::Global;
 use std::rt::Clock;
@@ -32,6 +32,7 @@ pub struct Counted {
 pub struct Monitor {
     figures: Arc<Figures, Global>,
     register: Arc<Register, Global>,
+    reading: Reading,
     // The last round.
     round_at: Option<Instant>,
     slots: SlotCounts,
@@ -44,6 +45,7 @@ impl Monitor {
         Monitor {
             figures,
             register,
+            reading: Reading::new(),
             round_at: None,
             slots: SlotCounts {
                 free: 0,
@@ -61,17 +63,18 @@ impl Monitor {
     /// So it stands now.
     pub fn look<R: Clock>(&mut self, rt: &R, host: &WatchedHost, counted: Counted) {
         for number in 1..=STOPS {
-            self.figures.stopped(number, host.stops(number));
+            self.reading.stopped(number, host.stops(number));
         }
         for number in 1..=REFUSALS {
-            self.figures.refused(number, host.refusals(number));
+            self.reading.refused(number, host.refusals(number));
         }
         if self.is_time(rt) {
             self.slots = host.host().slot_counts();
             self.sent_again = host.host().sent_again();
             self.take_round(host);
         }
-        self.figures.look(rt, &self.standing(host, counted));
+        self.reading.standing = self.standing(host, counted);
+        self.figures.look(rt, &self.reading);
     }
 
     fn standing(&self, host: &WatchedHost, counted: Counted) -> Standing {
@@ -118,7 +121,7 @@ impl Monitor {
         for met in host.met() {
             if let Some(met) = met {
                 if let Some(trip) = host.host().round_trip(met.peer) {
-                    self.figures.trip(trip.mean);
+                    self.reading.trip(trip.mean);
                 }
                 let in_transit = host.host().in_transit(met.peer).unwrap_or(0);
                 self.in_transit = self.in_transit.saturating_add(u64::from(in_transit));
