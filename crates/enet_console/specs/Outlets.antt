@@ -10,9 +10,10 @@ misses lines outlet = record outlet { missed = min (outlet.missed + lines) 18446
 abbrev pub is_settled : Outlet → Outlet
 is_settled outlet = record outlet { missed = 0 }
 
--- What the count is where a line was written behind what was to be told of those before it, or where it is missed, too.
+-- What the count is where a line was written behind what was to be told of those before it; where it is missed, too; or where those were
+-- told of, and it is missed.
 abbrev pub TakesLine : Outlet → Outlet → Type 0
-TakesLine before after = (after ≡ is_settled before) ⊎ (after ≡ misses 1 before)
+TakesLine before after = (after ≡ is_settled before) ⊎ (after ≡ misses 1 before) ⊎ (after ≡ misses 1 (is_settled before))
 
 abbrev pub Settles : Outlet → Outlet → Type 0
 Settles before after = (after ≡ is_settled before) ⊎ (after ≡ before)

@@ -2,7 +2,7 @@
 
 ghost use Rattle.std.specs.Prelude.{◌≡◌, List, ℕ, []};
 ghost use Rattle.enet_console.specs.Inputs.{rest};
-ghost use Rattle.enet_console.specs.Private.Inputs.{Gives, Takes, IsUntouched};
+ghost use Rattle.enet_console.specs.Private.Inputs.{Gives, Takes, IsUntouched, what_came};
 
 use libc::net::{POLLIN, poll};
 use libc::types::pollfd;
@@ -10,6 +10,17 @@ use libc::{STDIN_FILENO, read};
 
 /// So many bytes are read at once.
 const CHUNK: usize = 256;
+
+/// What a read of it gave.
+#[derive(Clone, Copy)]
+enum Came {
+    /// So many bytes.
+    Bytes(usize),
+    /// Nothing comes any more.
+    End,
+    /// Nothing now: the read failed, as where a signal or another reader came first.
+    Nothing,
+}
 
 /// Standard input, read without waiting. Its end says nothing.
 #[derive(Drop)]
@@ -65,17 +76,29 @@ impl Input {
         if self.is_over || !is_readable() {
             return None;
         }
-        match usize::try_from(read(STDIN_FILENO, &mut self.chunk)) {
-            Ok(len) if len > 0 => {
+        match what_came(read(STDIN_FILENO, &mut self.chunk)) {
+            Came::Bytes(len) => {
                 self.from = 0;
                 self.to = len;
                 Some(())
             }
-            _ => {
+            Came::End => {
                 self.is_over = true;
                 None
             }
+            Came::Nothing => None,
         }
+    }
+}
+
+// What a read gave that answered this.
+fn what_came(answer: isize) -> Came
+    ensures { result ≡ what_came answer }
+{
+    match usize::try_from(answer) {
+        Ok(0) => Came::End,
+        Ok(len) => Came::Bytes(len),
+        Err(_) => Came::Nothing,
     }
 }
 
