@@ -21,8 +21,8 @@ pub extern "C" fn gofnjerta_core_compress(coder: &mut Coder, body: &[u8], out: &
     coder.compress(body, out).unwrap_or(0)
 }
 
-/// Opens a code to the front of a buffer, and answers into how many bytes: 0 where no coder made it, or its body is empty or longer
-/// than the buffer. What was in the coder doesn't matter.
+/// Opens a code to the front of a buffer, and answers into how many bytes: 0 where no coder made it, or its body is longer than the
+/// buffer. What was in the coder doesn't matter.
 #[unsafe(no_mangle)]
 pub extern "C" fn gofnjerta_core_decompress(coder: &mut Coder, code: &[u8], out: &mut [u8]) -> usize
     ensures within { result ≤ length out.old }

@@ -10,7 +10,7 @@ use Rattle.enet_range_coder.specs.Body.{strip, behind, packed, is_end, rest_on, 
 use Rattle.enet_range_coder.specs.Memory.{contexts}
 use Rattle.enet_range_coder.specs.Learning.{nothing_learned, learned}
 use Rattle.enet_range_coder.proofs.Round.{goes_on}
-use Rattle.enet_range_coder.specs.Code.{code_of, body_of}
+use Rattle.enet_range_coder.specs.Code.{coded_whole, opened_whole}
 
 pub whole_wide : (s : Span) → s ≡ whole → IsWide s
 whole_wide s e = let h : IsWide whole = record { within = lit≤ tt; wide = lit≤ tt } in subst IsWide (sym e) h
@@ -19,12 +19,12 @@ behind_nothing : (r : Option (List ℕ)) → behind [] r ≡ r
 behind_nothing None = refl
 behind_nothing (Some r) = refl
 
-pub pack_start : (m : Coder) (s : Span) (body : List ℕ) → m ≡ nothing_learned → s ≡ whole → code_of body ≡ behind [] (packed contexts learned m s body)
-unfolding code_of
+pub pack_start : (m : Coder) (s : Span) (body : List ℕ) → m ≡ nothing_learned → s ≡ whole → coded_whole body ≡ behind [] (packed contexts learned m s body)
+unfolding coded_whole
 pack_start m s body e f = ap (λ (x : Coder). packed contexts learned x whole body) (sym e) ∙ ap (λ (x : Span). packed contexts learned m x body) (sym f) ∙ sym (behind_nothing (packed contexts learned m s body))
 
-pub unpack_start : (m : Coder) (s : Span) (room left : ℕ) (code : List ℕ) → m ≡ nothing_learned → s ≡ whole → left ≡ room → body_of room code ≡ behind [] (unpacked contexts learned left m s code)
-unfolding body_of
+pub unpack_start : (m : Coder) (s : Span) (room left : ℕ) (code : List ℕ) → m ≡ nothing_learned → s ≡ whole → left ≡ room → opened_whole room code ≡ behind [] (unpacked contexts learned left m s code)
+unfolding opened_whole
 unpack_start m s room left code e f g = ap (λ (x : Coder). unpacked contexts learned room x whole code) (sym e) ∙ ap (λ (x : Span). unpacked contexts learned room m x code) (sym f)
     ∙ ap (λ (x : ℕ). unpacked contexts learned x m s code) (sym g) ∙ sym (behind_nothing (unpacked contexts learned left m s code))
 
@@ -80,9 +80,9 @@ unpack_next contexts learned room left m s code byte out t rest r e g c n =
     rw (r, e, ← g, ← c) (ap (behind (byte ∷ [])) stripped)
 
 pub unpack_goes : (out first : List ℕ) (at byte : ℕ) (m n : Coder) (s t : Span) (code rest said : List ℕ) → at < length out
-    → body_of (length out) first ≡ behind (take at out) (unpacked contexts learned (length out - at) m s code)
+    → opened_whole (length out) first ≡ behind (take at out) (unpacked contexts learned (length out - at) m s code)
     → is_end s code ≡ false → Some byte ≡ guess (contexts m) s code → Some (said, t) ≡ coding (contexts m) byte s → Some rest ≡ strip said code → n ≡ learned m byte
-    → body_of (length (slice_set out at byte)) first ≡ behind (take (at + 1) (slice_set out at byte)) (unpacked contexts learned (length (slice_set out at byte) - (at + 1)) n t rest)
+    → opened_whole (length (slice_set out at byte)) first ≡ behind (take (at + 1) (slice_set out at byte)) (unpacked contexts learned (length (slice_set out at byte) - (at + 1)) n t rest)
 unpack_goes out first at byte m n s t code rest said l b e g c r k =
     let same : length (slice_set out at byte) ≡ length out = length-set out at byte in
     let room : length out - at ≡ suc (length out - (at + 1)) = omega arith in
@@ -90,12 +90,12 @@ unpack_goes out first at byte m n s t code rest said l b e g c r k =
     let front : take (at + 1) (slice_set out at byte) ≡ take at out ++ byte ∷ [] = rw add-one (take-suc-set out at byte l) in
     rw (same, front, k) (b ∙ ap (behind (take at out)) next ∙ behind_behind (take at out) (byte ∷ []) (unpacked contexts learned (length out - (at + 1)) (learned m byte) t rest))
 
-pub pack_goes : (body front next said rest here : List ℕ) (byte : ℕ) (m n : Coder) (s t : Span) → code_of body ≡ behind front (packed contexts learned m s here) → here ≡ byte ∷ rest
-    → Some (said, t) ≡ coding (contexts m) byte s → n ≡ learned m byte → next ≡ front ++ said → code_of body ≡ behind next (packed contexts learned n t rest)
+pub pack_goes : (body front next said rest here : List ℕ) (byte : ℕ) (m n : Coder) (s t : Span) → coded_whole body ≡ behind front (packed contexts learned m s here) → here ≡ byte ∷ rest
+    → Some (said, t) ≡ coding (contexts m) byte s → n ≡ learned m byte → next ≡ front ++ said → coded_whole body ≡ behind next (packed contexts learned n t rest)
 pack_goes body front next said rest here byte m n s t b h c k f =
     rw (k, f) (b ∙ ap (behind front) (pack_next contexts learned m s t byte rest here said c h) ∙ behind_behind front said (packed contexts learned (learned m byte) t rest))
 
-pub pack_ends : (body front next said here : List ℕ) (m : Coder) (s : Span) → code_of body ≡ behind front (packed contexts learned m s here) → here ≡ [] → said ≡ ending 4 s.low → next ≡ front ++ said → code_of body ≡ Some next
+pub pack_ends : (body front next said here : List ℕ) (m : Coder) (s : Span) → coded_whole body ≡ behind front (packed contexts learned m s here) → here ≡ [] → said ≡ ending 4 s.low → next ≡ front ++ said → coded_whole body ≡ Some next
 pack_ends body front next said here m s b h e f = b ∙ ap (λ (x : List ℕ). behind front (packed contexts learned m s x)) h ∙ ap Some (ap (λ (x : List ℕ). front ++ x) (sym e) ∙ sym f)
 
 -- there is no room for what comes behind the front
@@ -107,23 +107,23 @@ behind_longer front said code (Some r) e =
     let h = length-append said r in
     rw (← f) (omega (arith, g, h))
 
-pub pack_full : (body out said rest here code : List ℕ) (at byte : ℕ) (m : Coder) (s t : Span) → at ≤ length out → code_of body ≡ behind (take at out) (packed contexts learned m s here) → here ≡ byte ∷ rest
-    → Some (said, t) ≡ coding (contexts m) byte s → length out < at + length said → code_of body ≡ Some code → length out < length code
+pub pack_full : (body out said rest here code : List ℕ) (at byte : ℕ) (m : Coder) (s t : Span) → at ≤ length out → coded_whole body ≡ behind (take at out) (packed contexts learned m s here) → here ≡ byte ∷ rest
+    → Some (said, t) ≡ coding (contexts m) byte s → length out < at + length said → coded_whole body ≡ Some code → length out < length code
 pack_full body out said rest here code at byte m s t l b h c n e =
     let f = sym (b ∙ ap (behind (take at out)) (pack_next contexts learned m s t byte rest here said c h)) ∙ e in
     let g = behind_longer (take at out) said code (packed contexts learned (learned m byte) t rest) f in
     let k : length (take at out) ≡ min at (length out) = length-take at out in
     omega (arith, g, k)
 
-pub pack_no_end : (body out said here code : List ℕ) (at : ℕ) (m : Coder) (s : Span) → at ≤ length out → code_of body ≡ behind (take at out) (packed contexts learned m s here) → here ≡ [] → said ≡ ending 4 s.low
-    → length out < at + length said → code_of body ≡ Some code → length out < length code
+pub pack_no_end : (body out said here code : List ℕ) (at : ℕ) (m : Coder) (s : Span) → at ≤ length out → coded_whole body ≡ behind (take at out) (packed contexts learned m s here) → here ≡ [] → said ≡ ending 4 s.low
+    → length out < at + length said → coded_whole body ≡ Some code → length out < length code
 pack_no_end body out said here code at m s l b h f n e =
-    let a : code_of body ≡ Some (take at out ++ said) = pack_ends body (take at out) (take at out ++ said) said here m s b h f refl in
+    let a : coded_whole body ≡ Some (take at out ++ said) = pack_ends body (take at out) (take at out ++ said) said here m s b h f refl in
     let g : take at out ++ said ≡ code = cc in
     let k : length (take at out) ≡ min at (length out) = length-take at out in
     rw (← g) (omega (arith, k, length-append (take at out) said))
 
-pub pack_lost : (body front rest here code : List ℕ) (byte : ℕ) (m : Coder) (s : Span) → code_of body ≡ behind front (packed contexts learned m s here) → here ≡ byte ∷ rest → None ≡ coding (contexts m) byte s → code_of body ≡ Some code → ⊥
+pub pack_lost : (body front rest here code : List ℕ) (byte : ℕ) (m : Coder) (s : Span) → coded_whole body ≡ behind front (packed contexts learned m s here) → here ≡ byte ∷ rest → None ≡ coding (contexts m) byte s → coded_whole body ≡ Some code → ⊥
 pack_lost body front rest here code byte m s b h c e =
     let f = b ∙ ap (behind front) (pack_stuck contexts learned m s byte rest here c h) in
     cc

@@ -4,4 +4,5 @@ pub mod Putting
 pub mod Sharing
 pub mod Stripping
 pub mod Bodies
+pub mod Codes
 pub mod Growing

@@ -1,7 +1,7 @@
 //! Opening a body.
 
-ghost use Rattle.std.specs.Prelude.{◌≡◌, ◌≤◌, length, take, IfSome};
-ghost use Rattle.enet_range_coder.specs.Code.{answered, body_of};
+ghost use Rattle.std.specs.Prelude.{◌≡◌, ◌<◌, ◌≤◌, length, take, IfSome};
+ghost use Rattle.enet_range_coder.specs.Code.{answered, body_of, opened_whole};
 ghost use Rattle.enet_range_coder.specs.Private.Span.{IsWide};
 ghost use Rattle.enet_range_coder.specs.Body.{strip, is_end};
 ghost use Rattle.enet_range_coder.specs.Private.Meant.{span_meant, said, rest_meant};
@@ -10,12 +10,25 @@ use crate::coder::Coder;
 use crate::interval::{Coded, Interval};
 
 impl Coder {
-    /// Opens `code` to the front of `out`, and says into how many bytes. None where no encoder made it, or where there is no room.
+    /// Opens `code` to the front of `out`, and says into how many bytes, at least one. None where no encoder made it, or where there is no
+    /// room. No encoder makes a code of no bytes; libenet answers 0 there, as to all that it refuses.
     pub fn decompress(&mut self, code: &[u8], out: &mut [u8]) -> Option<usize>
-        // The answer stays within the buffer.
+        // The answer stays within the buffer, and is never that there are no bytes.
         ensures within { IfSome result (λ n. n ≤ length out.old) }
+        ensures some { IfSome result (λ n. 0 < n) }
         // What is answered is the code's body; where it has none that there is room for, it is refused.
         ensures opens { answered result out.new ≡ body_of (length out.old) code.now }
+    {
+        if code.is_empty() {
+            return None;
+        }
+        self.unpack(code, out)
+    }
+
+    // The same of any bytes, also none.
+    fn unpack(&mut self, code: &[u8], out: &mut [u8]) -> Option<usize>
+        ensures within { IfSome result (λ n. n ≤ length out.old) }
+        ensures opens { answered result out.new ≡ opened_whole (length out.old) code.now }
     {
         self.clear();
         let mut interval = Interval::whole();

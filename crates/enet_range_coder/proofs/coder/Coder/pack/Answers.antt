@@ -1,7 +1,7 @@
 use Rattle.std.proofs.Common.{arith}
 use Rattle.enet_range_coder.specs.Private.Meant.{span_meant}
 use Rattle.enet_range_coder.proofs.Bodies.{whole_wide, pack_start}
-use Rattle.enet_range_coder.proofs.coder.Coder.compress.Goals as goal
+use Rattle.enet_range_coder.proofs.coder.Coder.pack.Goals as goal
 
 pub loop-byte-init : goal.loop-byte-init
 loop-byte-init c = record {

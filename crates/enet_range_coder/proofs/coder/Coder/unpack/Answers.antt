@@ -1,7 +1,7 @@
 use Rattle.std.proofs.Common.{◌-◌, length, arith, sym, ◌∙◌}
 use Rattle.enet_range_coder.specs.Private.Meant.{span_meant, said}
 use Rattle.enet_range_coder.proofs.Bodies.{whole_wide, unpack_start, unpack_goes}
-use Rattle.enet_range_coder.proofs.coder.Coder.decompress.Goals as goal
+use Rattle.enet_range_coder.proofs.coder.Coder.unpack.Goals as goal
 
 pub loop-at-init : goal.loop-at-init
 loop-at-init c = record {
