@@ -1,7 +1,7 @@
 -- Bodies of some bytes and their codes.
-use Rattle.std.proofs.Common.{◌≡◌, ℕ, ◌<◌, ◌≤◌, List, [], ◌∷◌, length, take, min, Option, Some, None, refl, sym, ◌∙◌, ap, subst, arith, lit≤, length-take}
+use Rattle.std.proofs.Common.{◌≡◌, ℕ, ◌<◌, ◌≤◌, ◌==◌, true, false, IfSome, List, [], ◌∷◌, length, take, min, Option, Some, None, refl, sym, ◌∙◌, ap, subst, arith, lit≤, length-take}
 use Rattle.enet_range_coder.specs.Span.{whole, ending}
-use Rattle.enet_range_coder.specs.Body.{is_end, packed, unpacked}
+use Rattle.enet_range_coder.specs.Body.{is_end}
 use Rattle.enet_range_coder.specs.Memory.{contexts}
 use Rattle.enet_range_coder.specs.Learning.{learned, nothing_learned}
 use Rattle.enet_range_coder.specs.Code.{code_of, coded_whole, body_of, opened_whole, answered}
@@ -22,20 +22,20 @@ none_is_coded_by_none : coded_whole [] ≡ Some []
 unfolding coded_whole
 none_is_coded_by_none = ap Some ends_at_once
 
-pub code_some : (body : List ℕ) → 0 < length body → code_of body ≡ coded_whole body
+code_some : (body : List ℕ) → 0 < length body → code_of body ≡ coded_whole body
 code_some [] l = absurd (omega arith)
 code_some (byte ∷ bytes) l = refl
 
-pub body_some : (room : ℕ) (code : List ℕ) → 0 < length code → body_of room code ≡ opened_whole room code
+body_some : (room : ℕ) (code : List ℕ) → 0 < length code → body_of room code ≡ opened_whole room code
 body_some room [] l = absurd (omega arith)
 body_some room (byte ∷ bytes) l = refl
 
 opens_to_some : (room : ℕ) (code : List ℕ) (byte : ℕ) (bytes : List ℕ) → opened_whole room code ≡ Some (byte ∷ bytes) → body_of room code ≡ Some (byte ∷ bytes)
-opens_to_some room [] byte bytes e = let f = none_opens_to_none room in cc
+opens_to_some room [] byte bytes e = let f : opened_whole room [] ≡ Some [] = none_opens_to_none room in cc
 opens_to_some room (b ∷ bs) byte bytes e = e
 
 is_coded_by_some : (body : List ℕ) (byte : ℕ) (bytes : List ℕ) → coded_whole body ≡ Some (byte ∷ bytes) → code_of body ≡ Some (byte ∷ bytes)
-is_coded_by_some [] byte bytes e = let f = none_is_coded_by_none in cc
+is_coded_by_some [] byte bytes e = let f : coded_whole [] ≡ Some [] = none_is_coded_by_none in cc
 is_coded_by_some (b ∷ bs) byte bytes e = e
 
 opens_coded : (body code : List ℕ) (room : ℕ) → length body ≤ room → coded_whole body ≡ Some code → opened_whole room code ≡ Some body
@@ -66,16 +66,24 @@ pub some : (body code : List ℕ) → code_of body ≡ Some code → 0 < length 
 some body [] e = let f : body_of (length body) [] ≡ Some body = round_trip body [] (length body) (omega arith) e in cc
 some body (byte ∷ bytes) e = omega arith
 
--- a code, or a body, that stands at the front of a buffer
-pub some_taken : (body out : List ℕ) (n : ℕ) → code_of body ≡ Some (take n out) → 0 < n
-some_taken body out n e = let f = some body (take n out) e in let g : length (take n out) ≡ min n (length out) = length-take n out in omega (arith, f, g)
+-- what stands at the front of a buffer
+some_taken : (n : ℕ) (out : List ℕ) → 0 < length (take n out) → 0 < n
+some_taken n out l = let g : length (take n out) ≡ min n (length out) = length-take n out in omega (arith, l, g)
+
+not_empty : (xs : List ℕ) → (length xs == 0) ≡ false → 0 < length xs
+not_empty [] e = cc
+not_empty (x ∷ xs) e = omega arith
 
 some_bytes : (body code : List ℕ) → code_of body ≡ Some code → 0 < length body
 some_bytes [] code e = cc
 some_bytes (byte ∷ bytes) code e = omega arith
 
-pub some_opened : (code out : List ℕ) (room n : ℕ) → Some (take n out) ≡ body_of room code → 0 < n
-some_opened code out room n e =
-    let f = some_bytes (take n out) code (strict (take n out) code room (sym e)) in
-    let g : length (take n out) ≡ min n (length out) = length-take n out in
-    omega (arith, f, g)
+pub some_packed : (body out : List ℕ) (answer : Option ℕ) → (length body == 0) ≡ false → IfSome answer (λ n. coded_whole body ≡ Some (take n out)) → IfSome answer (λ n. 0 < n)
+some_packed body out None e codes = tt
+some_packed body out (Some n) e codes = some_taken n out (some body (take n out) (code_some body (not_empty body e) ∙ codes))
+
+pub some_unpacked : (code out : List ℕ) (room : ℕ) (answer : Option ℕ) → (length code == 0) ≡ false → answered answer out ≡ opened_whole room code → IfSome answer (λ n. 0 < n)
+some_unpacked code out room None e opens = tt
+some_unpacked code out room (Some n) e opens =
+    let opened : body_of room code ≡ Some (take n out) = body_some room code (not_empty code e) ∙ sym opens in
+    some_taken n out (some_bytes (take n out) code (strict (take n out) code room opened))

@@ -1,5 +1,5 @@
 -- What may be narrowed, and by what.
-use Rattle.std.specs.Prelude.{ℕ, ◌+◌, ◌≤◌, ◌<◌}
+use Rattle.std.specs.Prelude.{◌+◌, ◌≤◌, ◌<◌}
 use Rattle.enet_range_coder.specs.Span.{Span, Cut}
 
 -- numbers of 32 bits
