@@ -1,15 +1,15 @@
 //! How long a client waits until it counts itself, at a server that doesn't tell how many peers it has.
 
 ghost use Rattle.std.specs.Prelude.{◌≡◌};
-ghost use Rattle.enet_demo.specs.Private.Resting.{rested, is_last_rest};
+ghost use Rattle.enet_demo.specs.Private.Resting.{rested, is_last};
 
 /// A client counts itself after so many rests, each of a millisecond at most, in which it has its connection.
-const RESTS: u8 = 100;
+const RESTS: u32 = 100;
 
 /// The rests that a client has had since its connection.
 #[derive(Clone, Copy)]
 pub(crate) struct Patience {
-    rests: u8,
+    rests: u32,
 }
 
 impl Patience {
@@ -20,15 +20,12 @@ impl Patience {
         Patience { rests: 0 }
     }
 
-    /// One more. True where it is the last one that is waited for; true once.
+    /// One more. True where it is the last one that is waited for, so once. No more than 4,294,967,295 are counted.
     pub(crate) fn rest(&mut self) -> bool
         ensures rested { self.new ≡ rested self.old }
-        ensures last { result ≡ is_last_rest self.old }
+        ensures last { result ≡ is_last self.new }
     {
-        if self.rests >= RESTS {
-            return false;
-        }
-        self.rests += 1;
+        self.rests = self.rests.saturating_add(1);
         self.rests == RESTS
     }
 }

@@ -2,10 +2,9 @@
 use Rattle.std.specs.Prelude.{Bool, ◌+◌, ◌==◌, min}
 use Rattle.enet_demo.specs.declared.patience.Patience.{Patience}
 
--- no more than a hundred are counted
 abbrev pub rested : Patience → Patience
-rested patience = record { rests = min (patience.rests + 1) 100 }
+rested patience = record { rests = min (patience.rests + 1) 4294967295 }
 
--- of a hundred, the one that comes now is the last
-abbrev pub is_last_rest : Patience → Bool
-is_last_rest patience = patience.rests == 99
+-- the last rest that is waited for was the hundredth
+abbrev pub is_last : Patience → Bool
+is_last patience = patience.rests == 100
