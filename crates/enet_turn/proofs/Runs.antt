@@ -1,16 +1,18 @@
 -- A run goes on by a turn.
-use Rattle.std.proofs.Common.{◌≡◌, ℕ, ◌+◌, List, [], ◌∷◌, ◌++◌, Option, ap, sym, ◌∙◌, append_assoc, arith}
-use Rattle.std.specs.List.{flat_map, sum_by}
+use Rattle.std.proofs.Common.{◌≡◌, ◌⊎◌, inl, inr, ℕ, ◌+◌, List, [], ◌∷◌, ◌++◌, Option, ap, sym, ◌∙◌, append_assoc, arith}
+use Rattle.std.specs.List.{All, flat_map, sum_by}
 use Rattle.std.proofs.lemmas.List.{append-nil}
+use Rattle.std.proofs.lemmas.List.Elements.{All-append}
 use Rattle.std.proofs.lemmas.List.Sums.{sum_by-append}
 use Rattle.std.proofs.lemmas.Grind.{flat_map-append}
 use Rattle.enet_wire.specs.declared.told.Told.{Told}
 use Rattle.enet_wire.specs.declared.told.Told.TheVariants.{Waited}
 use Rattle.enet_wire.specs.Wires.{also, unless_spent}
+use Rattle.enet_turn.specs.declared.report.Fault.{Fault}
 use Rattle.enet_turn.specs.declared.report.Report.{Report}
 use Rattle.enet_turn.specs.Counts.{stopped}
 use Rattle.enet_turn.specs.Turn.{Round}
-use Rattle.enet_turn.specs.Run.{total, all_told}
+use Rattle.enet_turn.specs.Run.{IsSound, AreCut, EndsInTurn, EndsInWait, total, all_told}
 use Rattle.enet_turn.proofs.Reporting.{same_report}
 use Rattle.enet_turn.proofs.Tellings.{told_on}
 
@@ -41,3 +43,13 @@ told_more o o_1 o_2 o_3 f f_1 f_2 ms rounds r before same wait is same_2 turn =
     let waited = told_on o o_1 o_2 f f_1 (all_told rounds) (Waited r.ms ∷ []) before same (wait ∙ ap (λ (n : ℕ). also o_1 (unless_spent f_1 (Waited n ∷ []))) (sym is)) in
     told_on o o_2 o_3 f f_2 (all_told rounds ++ Waited r.ms ∷ []) r.told waited same_2 turn
     ∙ ap (λ (xs : List Told). also o (unless_spent f xs)) (append_assoc (all_told rounds) (Waited r.ms ∷ []) r.told ∙ sym (all_more (λ r. Waited r.ms ∷ r.told) rounds r))
+
+-- a run that ended early was cut off
+pub cut_of_ends : (turns : ℕ) (rounds : List Round) (fault : Fault) → EndsInTurn turns rounds fault ⊎ EndsInWait turns rounds fault → AreCut rounds
+cut_of_ends turns rounds fault (inl e) = inr (e.before, e.last, e.in_order, e.sound, e.failed)
+cut_of_ends turns rounds fault (inr e) = inl e.sound
+
+-- turns before those that were cut off
+pub cut_later : (xs ys : List Round) → All IsSound xs → AreCut ys → AreCut (xs ++ ys)
+cut_later xs ys sound (inl all) = inl (All-append IsSound xs ys sound all)
+cut_later xs ys sound (inr c) = inr (xs ++ c.0, c.1, ap (λ (rs : List Round). xs ++ rs) c.2 ∙ sym (append_assoc xs c.0 (c.1 ∷ [])), All-append IsSound xs c.0 sound c.3, c.4)

@@ -1,25 +1,25 @@
--- A turn of a service whose thread makes the orders itself, of the events that the turn tells. The wire doesn't fail in it.
-use Rattle.std.specs.Prelude.{◌≡◌, ◌⊎◌, ℕ, Bool, false, List, [], ◌∷◌, ◌++◌, flat_map, Option}
+-- A turn of a service whose thread makes the orders itself, of the events that the turn tells.
+use Rattle.std.specs.Prelude.{◌≡◌, ◌⊎◌, ℕ, ◌+◌, ◌&&◌, not, Bool, true, List, [], ◌∷◌, ◌++◌, flat_map, Option}
 use Rattle.enet_codec.specs.declared.event.Event.{Event}
 use Rattle.enet_submit.specs.declared.order.Submission.{Submission}
 use Rattle.enet_wire.specs.declared.told.Told.{Told}
 use Rattle.enet_turn.specs.declared.service.Service.{Service}
 use Rattle.enet_turn.specs.Calls.{Calls}
-use Rattle.enet_turn.specs.Phases.{Chain, Offers, Orders, ReceivesAll, EmitsAll, TellsAll}
-use Rattle.enet_turn.specs.Counts.{given_in, came_in, went_in, blocked_in, taken_in, stopped}
-use Rattle.enet_turn.specs.Turn.{Round, Turn}
+use Rattle.enet_turn.specs.Phases.{Chain, Offers, Orders, ReceivesAll}
+use Rattle.enet_turn.specs.Counts.{given_in, came_in, went_in, blocked_in, taken_in, count_of, stopped}
+use Rattle.enet_turn.specs.Turn.{Round, AfterReceiving, AfterEmitting, Turn}
 
--- how a turn begins, in order: the tick; the event that waits; datagrams in; events
-pub record Begins {H : Type 0} (calls : Calls H) (old : Service H) (ms : ℕ) (came : List Told) (puts : List (Event × Bool)) (new : Service H) : Type 0 where
+-- how a turn begins, in order: the tick; the event that waits; datagrams in; events, unless the wire failed
+pub record Begins {H : Type 0} (calls : Calls H) (old : Service H) (ms : ℕ) (came : List Told) (puts : List (Event × Bool)) (new : Service H) (failed : Bool) : Type 0 where
   pub ticked : H
   pub tick : calls.ticks old.host ms ticked
   pub again : List (Event × Bool)
   pub waits : Option Event
   pub offered : Offers old.waiting again waits
   pub heard : H
-  pub hearing : ReceivesAll calls 256 ticked came (record { host = heard; failed = false })
+  pub hearing : ReceivesAll calls 256 ticked came (record { host = heard; failed = failed })
   pub of_events : List (Event × Bool)
-  pub telling : TellsAll calls (record { host = heard; waiting = waits }) of_events new
+  pub telling : AfterEmitting calls (record { host = heard; failed = failed }) waits of_events new
   pub put : puts ≡ again ++ of_events
 
 -- some orders: what the source answered, and the events that were offered
@@ -38,27 +38,28 @@ gave_in applied = flat_map (λ o. o.gave) applied
 abbrev pub puts_in : List Applied → List (Event × Bool)
 puts_in applied = flat_map (λ o. o.puts) applied
 
--- in order: its beginning; orders, as often as there are more; datagrams out
+-- in order: its beginning; and unless the wire failed in that, orders, as often as there are more, and datagrams out
 pub record LoneTurn {H : Type 0} (calls : Calls H) (old : Service H) (round : Round) (new : Service H) : Type 0 where
   pub came : List Told
   pub told_first : List (Event × Bool)
   pub begun : Service H
-  pub begins : Begins calls old round.ms came told_first begun
+  pub early : Bool  -- whether the wire failed while datagrams came
+  pub begins : Begins calls old round.ms came told_first begun early
   pub applied : List Applied
   pub ordered : Service H
   pub applies : AppliesAll calls begun applied ordered
+  pub no_orders : early ≡ true → applied ≡ []
   pub went : List Told
-  pub sends : EmitsAll calls 256 ordered.host went (record { host = new.host; failed = false })
+  pub sends : AfterReceiving calls (record { host = ordered.host; failed = early }) went (record { host = new.host; failed = round.failed })
   pub waits : new.waiting ≡ ordered.waiting
   pub gave : round.gave ≡ gave_in applied
   pub told : round.told ≡ came ++ went
   pub put : round.puts ≡ told_first ++ puts_in applied
-  pub sound : round.failed ≡ false
   pub counts : round.report ≡ record {
     orders = stopped (given_in round.gave);
     received = stopped (came_in came);
     sent = stopped (went_in went);
-    lost = stopped (blocked_in went);
+    lost = stopped (blocked_in went + count_of (round.failed && not early));
     events = stopped (taken_in round.puts);
   }
 

@@ -44,6 +44,10 @@ IsSound r = r.failed ≡ false
 abbrev pub nothing_done : Report
 nothing_done = record { orders = 0; received = 0; sent = 0; lost = 0; events = 0 }
 
+-- the wire failed in the last of these turns, or in the wait that came after them, and in no turn before
+abbrev pub AreCut : List Round → Type 0
+AreCut rounds = All IsSound rounds ⊎ ((before : List Round) × (last : Round) × (rounds ≡ before ++ last ∷ []) × All IsSound before × (last.failed ≡ true))
+
 -- the wire failed in the last turn, whose report is told
 pub record EndsInTurn (turns : ℕ) (rounds : List Round) (fault : Fault) : Type 0 where
   pub before : List Round

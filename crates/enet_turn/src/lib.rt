@@ -13,7 +13,7 @@
 //!   is what these calls answered. A refused order becomes one event. While an event waits no order is taken.
 //! - E14 comes exactly where the wire failed. Then the host is where the first part of the work left it, and the report counts that part.
 //! - A turn ends where the calls of source and sink return, since each event that a host tells leaves fewer.
-//! - The parts of a turn between which orders are made are those of its phases that they name.
+//! - The parts of a turn between which orders are made are those of its phases that they name, up to where the wire fails in one.
 //! - A run ([`run`]) is its turns, each after a wait, up to the first fault, and its report their sums.
 //!
 //! # Only tested, or neither

@@ -1,5 +1,5 @@
 //! The parts of a turn between which the service's own thread makes the orders.
-ghost use Rattle.std.specs.Prelude.{◌≡◌, ◌+◌, List, Bool, Option, false, IfOk, IfErr, is_err};
+ghost use Rattle.std.specs.Prelude.{◌≡◌, ◌+◌, List, Bool, Option, true, false, IfOk, IfErr, is_err};
 ghost use Rattle.enet_codec.specs.declared.event.Event.{Event as Offered};
 ghost use Rattle.enet_submit.specs.declared.order.Submission.{Submission as Item};
 ghost use Rattle.enet_wire.specs.declared.told.Told.{Told as Call};
@@ -34,10 +34,15 @@ impl<H: Core> Service<H> {
         buf: &mut [u8; 4096],
     ) -> Result<Report, Fault>
         ensures begins { IfOk result (λ report. (came : List Call) × (puts : List (Offered × Bool))
-            × Begins H.calls self.old ms came puts self.new
+            × Begins H.calls self.old ms came puts self.new false
             × (W.told wire.new ≡ also (W.told wire.old) (unless_spent (W.faults wire.old) came))
             × Chain (λ s x t. K.puts s x.0 x.1 t) sink.old puts sink.new
             × (report ≡ record { orders = 0; received = came_in came; sent = 0; lost = 0; events = stopped (taken_in puts) })) }
+        ensures fails { IfErr result (λ fault. (came : List Call) × (puts : List (Offered × Bool))
+            × Begins H.calls self.old ms came puts self.new true
+            × (W.told wire.new ≡ also (W.told wire.old) (unless_spent (W.faults wire.old) came))
+            × Chain (λ s x t. K.puts s x.0 x.1 t) sink.old puts sink.new
+            × (fault.report ≡ record { orders = 0; received = came_in came; sent = 0; lost = 0; events = taken_in puts })) }
         ensures why { IfErr result (λ fault. fault.why ≡ Refusal.WireFault) }
         ensures faults { W.faults wire.new ≡ W.faults wire.old + count_of (is_err result) }
     {
@@ -71,12 +76,16 @@ impl<H: Core> Service<H> {
 
     /// The last part: at most 256 datagrams out, through this buffer.
     ///
-    /// E14 where the wire fails.
+    /// E14 where the wire fails: the datagrams before went.
     pub fn emit<W: Wire>(&mut self, wire: &mut W, buf: &mut [u8; 4096]) -> Result<Report, Fault>
         ensures sends { IfOk result (λ report. (went : List Call)
             × EmitsAll H.calls 256 self.old.host went (record { host = self.new.host; failed = false })
             × (W.told wire.new ≡ also (W.told wire.old) (unless_spent (W.faults wire.old) went))
             × (report ≡ record { orders = 0; received = 0; sent = went_in went; lost = blocked_in went; events = 0 })) }
+        ensures fails { IfErr result (λ fault. (went : List Call)
+            × EmitsAll H.calls 256 self.old.host went (record { host = self.new.host; failed = true })
+            × (W.told wire.new ≡ also (W.told wire.old) (unless_spent (W.faults wire.old) went))
+            × (fault.report ≡ record { orders = 0; received = 0; sent = went_in went; lost = blocked_in went + 1; events = 0 })) }
         ensures waits { self.new.waiting ≡ self.old.waiting }
         ensures why { IfErr result (λ fault. fault.why ≡ Refusal.WireFault) }
         ensures faults { W.faults wire.new ≡ W.faults wire.old + count_of (is_err result) }
