@@ -79,14 +79,14 @@ visited : (queue : SubmitQueue) (id : QueueId) (plan : Plan) (turns : ℕ) (old 
     → IsSettled played new.drain new.poster visit → Visits old.service plan turns visit
 visited queue id plan turns old new report played visit none_taken none_posted t v s =
     let all : events played.taker.taken ≡ accepted (all_puts t.rounds) =
-    ap events s.all_taken ∙ (t.spell.put.grown ∙ ap (λ (ns : List Numbered). events ns ++ accepted (all_puts t.rounds)) none_posted) in
+    ap events s.all_taken ∙ (t.spell.advances.put.grown ∙ ap (λ (ns : List Numbered). events ns ++ accepted (all_puts t.rounds)) none_posted) in
     let gave : taken new.drain ≡ given (all_gave t.rounds) =
-    t.spell.gave ∙ ap (λ (xs : List Submission). xs ++ given (all_gave t.rounds)) none_taken in
+    t.spell.advances.gave ∙ ap (λ (xs : List Submission). xs ++ given (all_gave t.rounds)) none_taken in
     record {
       rounds = t.rounds;
       new = new.service;
       lasts = t.lasts;
-      turns_are = t.spell.turns;
+      turns_are = t.spell.advances.turns;
       sound = t.spell.sound;
       stage = v.stage;
       left = s.rest ++ v.left;

@@ -23,9 +23,10 @@ use Rattle.enet_turn.specs.Turn.{Round}
 use Rattle.enet_turn.specs.Run.{IsSound, EndsInTurn, EndsInWait, all_gave, all_told, all_puts, total}
 use Rattle.enet_service.proofs.ManyCalls.{drains_none, drains_more}
 use Rattle.enet_turn.proofs.PhaseSteps.{chain_more}
+use Rattle.enet_turn.proofs.Runs.{cut_later}
 use Rattle.enet_turn.proofs.Tellings.{told_on, also_nothing}
 use Rattle.enet_turn.proofs.Reporting.{same_report}
-use Rattle.enet_service.specs.ServiceRuns.{Standing, Spell}
+use Rattle.enet_service.specs.ServiceRuns.{Standing, Advances, Spell, IsCut}
 
 -- events without their numbers
 abbrev events : List Numbered → List Event
@@ -59,26 +60,10 @@ accepted_both xs ys =
     ∙ ap (map (λ (x : Event × Bool). x.0)) (filter-append (λ (x : Event × Bool). x.1) (all_puts xs) (all_puts ys))
     ∙ map-append (λ (x : Event × Bool). x.0) _ _
 
-pub no_turn : (s : Standing) (r : Report) → r ≡ total [] → Spell s [] s r
-no_turn s r e = record {
-  turns = refl;
-  sound = All-nil IsSound;
-  totals = e;
-  gave = sym (append-nil (taken s.drain));
-  queue = refl;
-  drains = drains_none s.queue s.drain s.drain refl;
-  put = record { same = refl; grown = sym (append-nil _) };
-  told = also_nothing s.faults s.told;
-  faults = refl;
-}
-
-pub further : (a b c : Standing) (xs ys : List Round) (t u w : Report) → Spell a xs b t → Spell b ys c u
-    → w ≡ record { orders = stopped (t.orders + u.orders); received = stopped (t.received + u.received); sent = stopped (t.sent + u.sent); lost = stopped (t.lost + u.lost); events = stopped (t.events + u.events) }
-    → Spell a (xs ++ ys) c w
-further a b c xs ys t u w one two sum = record {
+-- turns after turns
+advances_on : (a b c : Standing) (xs ys : List Round) → Advances a xs b → b.faults ≡ a.faults → Advances b ys c → Advances a (xs ++ ys) c
+advances_on a b c xs ys one same two = record {
   turns = chain_more _ a.service xs b.service ys c.service one.turns two.turns;
-  sound = All-append IsSound xs ys one.sound two.sound;
-  totals = total_of_both t u w xs ys one.totals two.totals sum;
   gave = two.gave ∙ (ap (λ (zs : List Submission). zs ++ given (all_gave ys)) one.gave ∙ (append_assoc (taken a.drain) (given (all_gave xs)) (given (all_gave ys)) ∙ ap (λ (zs : List Submission). taken a.drain ++ zs) (sym (given_both xs ys))));
   queue = two.queue ∙ one.queue;
   drains = subst (λ (zs : List Submission). DrainsOn a.queue a.drain zs c.drain) (sym (given_both xs ys))
@@ -87,7 +72,40 @@ further a b c xs ys t u w one two sum = record {
     same = two.put.same ∙ one.put.same;
     grown = two.put.grown ∙ (ap (λ (zs : List Event). zs ++ accepted (all_puts ys)) one.put.grown ∙ (append_assoc (events a.poster.posted) (accepted (all_puts xs)) (accepted (all_puts ys)) ∙ ap (λ (zs : List Event). events a.poster.posted ++ zs) (sym (accepted_both xs ys))));
   };
-  told = told_on a.told b.told c.told a.faults b.faults (all_told xs) (all_told ys) one.told one.faults two.told
+  told = told_on a.told b.told c.told a.faults b.faults (all_told xs) (all_told ys) one.told same two.told
       ∙ ap (λ (zs : List Told). also a.told (unless_spent a.faults zs)) (sym (flat_map-append (λ (r : Round). Waited r.ms ∷ r.told) xs ys));
+}
+
+pub no_turn : (s : Standing) (r : Report) → r ≡ total [] → Spell s [] s r
+no_turn s r e = record {
+  advances = record {
+    turns = refl;
+    gave = sym (append-nil (taken s.drain));
+    queue = refl;
+    drains = drains_none s.queue s.drain s.drain refl;
+    put = record { same = refl; grown = sym (append-nil _) };
+    told = also_nothing s.faults s.told;
+  };
+  sound = All-nil IsSound;
+  totals = e;
+  faults = refl;
+}
+
+pub further : (a b c : Standing) (xs ys : List Round) (t u w : Report) → Spell a xs b t → Spell b ys c u
+    → w ≡ record { orders = stopped (t.orders + u.orders); received = stopped (t.received + u.received); sent = stopped (t.sent + u.sent); lost = stopped (t.lost + u.lost); events = stopped (t.events + u.events) }
+    → Spell a (xs ++ ys) c w
+further a b c xs ys t u w one two sum = record {
+  advances = advances_on a b c xs ys one.advances one.faults two.advances;
+  sound = All-append IsSound xs ys one.sound two.sound;
+  totals = total_of_both t u w xs ys one.totals two.totals sum;
   faults = two.faults ∙ one.faults;
+}
+
+-- turns, and then those that the wire cut off
+pub cut_after : (a b c : Standing) (xs : List Round) (t : Report) → Spell a xs b t → IsCut b c → IsCut a c
+cut_after a b c xs t one two = record {
+  rounds = xs ++ two.rounds;
+  advances = advances_on a b c xs two.rounds one.advances one.faults two.advances;
+  cut = cut_later xs two.rounds one.sound two.cut;
+  faults = two.faults ∙ ap (λ (n : ℕ). n + 1) one.faults;
 }

@@ -1,5 +1,5 @@
 -- What a service's thread does in a run.
-use Rattle.std.specs.Prelude.{◌≡◌, ◌⊎◌, ℕ, ◌*◌, ◌≤◌, ◌<◌, List, [], ◌∷◌, ◌++◌, Option, length, None}
+use Rattle.std.specs.Prelude.{◌≡◌, ◌⊎◌, ℕ, ◌+◌, ◌*◌, ◌≤◌, ◌<◌, List, [], ◌∷◌, ◌++◌, Option, length, None}
 use Rattle.std.specs.List.{All}
 use Rattle.enet_codec.specs.declared.config.Config.{Config}
 use Rattle.enet_codec.specs.declared.event.DisconnectMode.{DisconnectMode}
@@ -27,7 +27,7 @@ use Rattle.enet_turn.specs.Hosting.{host_calls, AppliesOrder}
 use Rattle.enet_turn.specs.Phases.{Chain}
 use Rattle.enet_service.specs.Queues.{given, accepted, DrainsOn, PostsOn}
 use Rattle.enet_turn.specs.Turn.{Round}
-use Rattle.enet_turn.specs.Run.{Rounds, IsSound, all_gave, all_told, all_puts, total}
+use Rattle.enet_turn.specs.Run.{Rounds, IsSound, AreCut, all_gave, all_told, all_puts, total}
 use Rattle.enet_service.specs.declared.queues.Ends.{Ends}
 use Rattle.enet_service.specs.declared.settling.Returned.{Returned}
 use Rattle.enet_service.specs.declared.run_length.RunLength.{RunLength}
@@ -94,17 +94,21 @@ pub record Standing : Type 0 where
 abbrev pub standing : Service Host → QueueSource → QueueSink → Option (List Told) → ℕ → Standing
 standing service source sink told faults = record { service = service; queue = queue_of source; drain = drain_of source; poster = poster_of sink; told = told; faults = faults }
 
--- turns in which the wire did not fail, on what the drain took and what the wire told, each by the milliseconds of a wait; each seat's orders
--- are its next ones, in order; what the turns put is what the poster posted
-pub record Spell (old : Standing) (rounds : List Round) (new : Standing) (report : Report) : Type 0 where
+-- turns on what the drain took and what the wire told, each by the milliseconds of a wait; each seat's orders are its next ones, in order;
+-- what the turns put is what the poster posted
+pub record Advances (old : Standing) (rounds : List Round) (new : Standing) : Type 0 where
   pub turns : TakesTurns old.service rounds new.service
-  pub sound : All IsSound rounds
-  pub totals : report ≡ total rounds
   pub gave : taken new.drain ≡ taken old.drain ++ given (all_gave rounds)
   pub queue : new.queue ≡ old.queue
   pub drains : DrainsOn old.queue old.drain (given (all_gave rounds)) new.drain
   pub put : PostsOn old.poster (accepted (all_puts rounds)) new.poster
   pub told : new.told ≡ also old.told (unless_spent old.faults (all_told rounds))
+
+-- such turns, in none of which the wire failed
+pub record Spell (old : Standing) (rounds : List Round) (new : Standing) (report : Report) : Type 0 where
+  pub advances : Advances old rounds new
+  pub sound : All IsSound rounds
+  pub totals : report ≡ total rounds
   pub faults : new.faults ≡ old.faults
 
 -- the turns of a run
@@ -112,6 +116,13 @@ pub record HasTurned (run_length : RunLength) (old new : Standing) (report : Rep
   pub rounds : List Round
   pub lasts : Lasts run_length rounds
   pub spell : Spell old rounds new report
+
+-- the turns of a run that the wire cut off: it failed once, in the last of them or in the wait after it
+pub record IsCut (old new : Standing) : Type 0 where
+  pub rounds : List Round
+  pub advances : Advances old rounds new
+  pub cut : AreCut rounds
+  pub faults : new.faults ≡ old.faults + 1
 
 -- these peers were told that their connection ends in this way, one after another, unless that was refused
 abbrev pub PartsFrom : DisconnectMode → Host → List PeerRef → Host → Type 0

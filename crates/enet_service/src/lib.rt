@@ -16,7 +16,7 @@
 //! - What [`beside_turns`] did (`HasTurned`) is turns of the service, in none of which the wire failed: what they were given is what the drain
 //!   took and the wire told, each after a wait, and what they put is what the poster posted, and the report has their sums. They are as many
 //!   as were asked for; where a time was, 64 at a time, and no more once 2,147,483,648 orders were taken or events told (`Lasts`). E14 comes
-//!   exactly where the wire failed.
+//!   exactly where the wire failed. Then they are the turns until that, what they were given and what they put included (`IsCut`).
 //! - Once settled, the only taker took all that was posted, and the orders that the drain didn't take are told in order ([`settle`]).
 //!
 //! A host that notes who came and went ([`WatchedHost`]) is the host that it holds, in each of its calls, and
@@ -29,7 +29,7 @@
 //! - By scripts/check-rows.sh and scripts/check-clients.sh: that the queues settle (no E16), what is noted and shown to a [`Watch`], and that
 //!   turns for a time end once the other thread has left.
 //! - Neither: that a wait or a call of a queue returns, that two threads ran; that a run for a time lasts that time; when [`settle`] answers
-//!   E16; what the host and the queues are after a [`beside_turns`] that ended with E14.
+//!   E16.
 #![tactic(auto)]
 
 mod between;

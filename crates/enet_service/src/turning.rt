@@ -2,7 +2,7 @@
 ghost use Rattle.std.specs.Prelude.{◌≡◌, ◌+◌, IfOk, IfErr, is_err};
 ghost use Rattle.enet_turn.specs.Counts.{count_of};
 ghost use Rattle.enet_bridge.specs.Serving.{queue_of, poster_of};
-ghost use Rattle.enet_service.specs.ServiceRuns.{HasTurned, standing};
+ghost use Rattle.enet_service.specs.ServiceRuns.{HasTurned, IsCut, standing};
 
 use crate::bound_service::BoundService;
 use crate::run_length::{RunLength, take_turns};
@@ -80,6 +80,7 @@ fn serve_turns<R: Wait + Clock, N: Wire, W: Watch>(
     ensures queue { queue_of source.new ≡ queue_of source.old }
     ensures poster { (poster_of sink.new).queue ≡ (poster_of sink.old).queue }
     ensures turned { IfOk result (HasTurned run_length (standing bound.old.service source.old sink.old (N.told bound.old.wire) (N.faults bound.old.wire)) (standing bound.new.service source.new sink.new (N.told bound.new.wire) (N.faults bound.new.wire))) }
+    ensures cut { IfErr result (λ why. IsCut (standing bound.old.service source.old sink.old (N.told bound.old.wire) (N.faults bound.old.wire)) (standing bound.new.service source.new sink.new (N.told bound.new.wire) (N.faults bound.new.wire))) }
     ensures fault { IfErr result (λ why. why ≡ Refusal.WireFault) }
     ensures faults { N.faults bound.new.wire ≡ N.faults bound.old.wire + count_of (is_err result) }
 {
@@ -101,7 +102,7 @@ fn serve_turns<R: Wait + Clock, N: Wire, W: Watch>(
 /// orders: it goes on until it is told that the service has ended, and where it ends before, it says so ([`Signals::leave`]). It begins only
 /// once the service has ended where no second thread can be made. `watch` is told of the turns.
 ///
-/// E14 where the wire fails: the service's thread ends then.
+/// E14 where the wire fails: the service's thread ends then, and its turns until then are as those of a run that returned.
 pub fn beside_turns<R, N, W, F, T>(
     rt: &R,
     bound: &mut BoundService<N>,
@@ -123,6 +124,7 @@ where
     ensures queue { queue_of source.new ≡ queue_of source.old }
     ensures poster { (poster_of sink.new).queue ≡ (poster_of sink.old).queue }
     ensures turned { IfOk result.1 (HasTurned run_length (standing bound.old.service source.old sink.old (N.told bound.old.wire) (N.faults bound.old.wire)) (standing bound.new.service source.new sink.new (N.told bound.new.wire) (N.faults bound.new.wire))) }
+    ensures cut { IfErr result.1 (λ why. IsCut (standing bound.old.service source.old sink.old (N.told bound.old.wire) (N.faults bound.old.wire)) (standing bound.new.service source.new sink.new (N.told bound.new.wire) (N.faults bound.new.wire))) }
     ensures fault { IfErr result.1 (λ why. why ≡ Refusal.WireFault) }
     ensures faults { N.faults bound.new.wire ≡ N.faults bound.old.wire + count_of (is_err result.1) }
 {
@@ -133,6 +135,7 @@ where
             ensures queue { queue_of source.exit.now ≡ queue_of source.entry.now }
             ensures poster { (poster_of sink.exit.now).queue ≡ (poster_of sink.entry.now).queue }
             ensures turned { IfOk result (HasTurned run_length (standing bound.entry.now.service source.entry.now sink.entry.now (N.told bound.entry.now.wire) (N.faults bound.entry.now.wire)) (standing bound.exit.now.service source.exit.now sink.exit.now (N.told bound.exit.now.wire) (N.faults bound.exit.now.wire))) }
+            ensures cut { IfErr result (λ why. IsCut (standing bound.entry.now.service source.entry.now sink.entry.now (N.told bound.entry.now.wire) (N.faults bound.entry.now.wire)) (standing bound.exit.now.service source.exit.now sink.exit.now (N.told bound.exit.now.wire) (N.faults bound.exit.now.wire))) }
             ensures fault { IfErr result (λ why. why ≡ Refusal.WireFault) }
             ensures faults { N.faults bound.exit.now.wire ≡ N.faults bound.entry.now.wire + count_of (is_err result) }
         { serve_turns(rt, bound, source, sink, run_length, signals, watch) },

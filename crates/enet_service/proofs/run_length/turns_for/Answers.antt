@@ -1,8 +1,9 @@
 use Rattle.std.proofs.Common.{◌+◌, List, [], ◌++◌, refl, sym, subst, ◌∙◌, arith, rules}
 use Rattle.std.proofs.lemmas.List.{length-append}
+use Rattle.std.proofs.lemmas.Result.{err_from_is_err_and}
 use Rattle.enet_turn.specs.Turn.{Round}
 use Rattle.enet_service.specs.ServiceRuns.{AreFew}
-use Rattle.enet_service.proofs.Spells.{no_turn, further}
+use Rattle.enet_service.proofs.Spells.{no_turn, further, cut_after}
 use Rattle.enet_service.proofs.run_length.turns_for.Goals as goal
 
 pub loop-init : goal.loop-init
@@ -28,3 +29,8 @@ returns-then-has_left-clause-turns g c =
       record { before = before; last = more; all = refl; times = c.loop.invariant.3; before_are = c.loop.invariant.4; last_are = c.in_ok-report.ensures.turns.1; few = subst AreFew c.loop.invariant.5.totals c.loop.invariant.1 },
       further _ _ _ before more _ _ _ c.loop.invariant.5 c.in_ok-report.ensures.turns.2 c.and-total.ensures,
     )
+
+pub returns-in_err-report-clause-cut : goal.returns-in_err-report-clause-cut
+returns-in_err-report-clause-cut g c =
+    let out = err_from_is_err_and c.from_residual.result c.from_residual.ensures.1 in
+    rw (out.1) (cut_after _ _ _ c.loop.invariant.2 _ c.loop.invariant.5 c.in_err-report.ensures.cut)
