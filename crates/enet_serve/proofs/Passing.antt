@@ -127,13 +127,13 @@ orders_report t d u g h p q et ed eu =
 pub turn_report : (h o b s u : Report) (came went : List Told) (g : List (Option Submission)) (p q : List (Event × Bool))
     → h ≡ record { orders = 0; received = came_in came; sent = 0; lost = 0; events = stopped (taken_in p) } → o ≡ of_orders g q → b ≡ both h o
     → s ≡ record { orders = 0; received = 0; sent = went_in went; lost = blocked_in went; events = 0 } → u ≡ both b s
-    → u ≡ record { orders = stopped (given_in g); received = stopped (came_in came); sent = stopped (went_in went); lost = stopped (blocked_in went); events = stopped (taken_in (p ++ q)) }
+    → u ≡ record { orders = stopped (given_in g); received = stopped (came_in came); sent = stopped (went_in went); lost = stopped (blocked_in went + 0); events = stopped (taken_in (p ++ q)) }
 turn_report h o b s u came went g p q eh eo eb es eu =
     same_report u _ _ _ _ _ _ _ _ _ _ eu
     (orders_then _ _ _ _ _ (ap (λ (r : Report). r.orders) eh) (ap (λ (r : Report). r.orders) eo) (ap (λ (r : Report). r.orders) eb) (ap (λ (r : Report). r.orders) es))
     (received_then _ _ _ _ _ (ap (λ (r : Report). r.received) eh) (ap (λ (r : Report). r.received) eo) (ap (λ (r : Report). r.received) eb) (ap (λ (r : Report). r.received) es))
     (sent_then _ _ _ _ _ (ap (λ (r : Report). r.sent) eh) (ap (λ (r : Report). r.sent) eo) (ap (λ (r : Report). r.sent) eb) (ap (λ (r : Report). r.sent) es))
-    (sent_then _ _ _ _ _ (ap (λ (r : Report). r.lost) eh) (ap (λ (r : Report). r.lost) eo) (ap (λ (r : Report). r.lost) eb) (ap (λ (r : Report). r.lost) es))
+    (lost_then _ _ _ _ _ (ap (λ (r : Report). r.lost) eh) (ap (λ (r : Report). r.lost) eo) (ap (λ (r : Report). r.lost) eb) (ap (λ (r : Report). r.lost) es))
     (events_then _ _ _ _ (taken_sums p q _ _ (ap (λ (r : Report). r.events) eh) (ap (λ (r : Report). r.events) eo)) (ap (λ (r : Report). r.events) eb) (ap (λ (r : Report). r.events) es))
   where
     orders_then : (a c d e n : ℕ) → a ≡ 0 → c ≡ stopped n → d ≡ stopped (a + c) → e ≡ 0 → stopped (d + e) ≡ stopped n
@@ -144,6 +144,9 @@ turn_report h o b s u came went g p q eh eo eb es eu =
 
     sent_then : (a c d e n : ℕ) → a ≡ 0 → c ≡ 0 → d ≡ stopped (a + c) → e ≡ n → stopped (d + e) ≡ stopped n
     sent_then a c d e n ea ec ed ee = omega (arith, ea, ec, ed, ee)
+
+    lost_then : (a c d e n : ℕ) → a ≡ 0 → c ≡ 0 → d ≡ stopped (a + c) → e ≡ n → stopped (d + e) ≡ stopped (n + 0)
+    lost_then a c d e n ea ec ed ee = omega (arith, ea, ec, ed, ee)
 
     events_then : (x d e n : ℕ) → x ≡ stopped n → d ≡ x → e ≡ 0 → stopped (d + e) ≡ stopped n
     events_then x d e n ex ed ee = omega (arith, ex, ed, ee)

@@ -1,6 +1,7 @@
 -- What the two threads of a run did. Events are left only where the relay found its queue full: then it submitted as many orders as the queue
 -- has places.
-use Rattle.std.proofs.Common.{◌≡◌, ℕ, suc, ◌+◌, ◌<◌, ◌≤◌, inl, inr, List, [], ◌∷◌, ◌++◌, length, Some, Result, Ok, IfOk, refl, sym, ◌∙◌, ap, subst, arith}
+use Rattle.std.proofs.Common.{◌≡◌, ◌⊎◌, ℕ, suc, ◌+◌, ◌<◌, ◌≤◌, inl, inr, List, [], ◌∷◌, ◌++◌, length, Some, Result, Ok, Err, IfOk, refl, sym, ◌∙◌, ap, subst, arith}
+use Rattle.std.specs.Prelude.{OnErr}
 use Rattle.std.proofs.lemmas.List.{length-append, length-map}
 use Rattle.std.proofs.lemmas.Result.{IfOk-at_ok}
 use Rattle.enet_codec.specs.declared.refusal.Refusal.{Refusal}
@@ -27,9 +28,10 @@ use Rattle.enet_service.specs.declared.run_length.RunLength.{RunLength}
 use Rattle.enet_turn.specs.LoneTurn.{beside}
 use Rattle.enet_service.specs.Queues.{given, accepted}
 use Rattle.enet_turn.specs.Run.{all_gave, all_told, all_puts}
+use Rattle.enet_turn.specs.Turn.{Round}
 use Rattle.enet_host.specs.Host.{Host}
 use Rattle.enet_turn.specs.declared.service.Service.{Service}
-use Rattle.enet_service.specs.ServiceRuns.{HasTurned, Standing, TakesTurns}
+use Rattle.enet_service.specs.ServiceRuns.{HasTurned, Advances, IsCut, Standing, TakesTurns}
 use Rattle.enet_chat.specs.declared.relaying.Relay.{Relay}
 use Rattle.enet_chat.specs.declared.relaying.RelayParts.{RelayParts}
 use Rattle.enet_chat.specs.Relaying.{AreBehind, AreFarBehind, IsThrough, Relays, SameForEach, events, noted_all, relayed_all, peers_of, backlog_of, sender_of, receiver_of}
@@ -37,8 +39,8 @@ use Rattle.enet_serve.specs.declared.threads.Carryover.{Carryover}
 use Rattle.enet_serve.specs.declared.server.ChatServer.{ChatServer}
 use Rattle.enet_wire.specs.Wires.{unless_spent}
 use Rattle.enet_serve.proofs.TurnByTurn.{told_in}
-use Rattle.enet_serve.specs.Serving.{Serves, told_of, faults_of}
-use Rattle.enet_serve.specs.Private.Threads.{IsBegun, IsLeft}
+use Rattle.enet_serve.specs.Serving.{Serves, IsRelayed, KeepsNothing, IsCutOffBeside, told_of, faults_of}
+use Rattle.enet_serve.specs.Private.Threads.{IsBegun, IsLeft, IsNothing}
 
 numbered_length : (seat number : ℕ) (os : List Order) → length (numbered seat number os) ≡ length os
 numbered_length seat number [] = refl
@@ -100,6 +102,40 @@ pub record IsFirst (capacity : ℕ) (from : Standing) (sender : OrderSender) (re
   pub one_seat : seats_of (sender_queue sender) ≡ 1
   pub places : capacity_of (sender_queue sender) ≡ capacity
 
+-- what the relay made beside such turns, once the queues were settled
+relayed_beside : (old new : ChatServer) (rounds : List Round) (from to : Standing) (sender : OrderSender) (receiver : EventReceiver) (begun ended : Relay) (parts : RelayParts)
+    → Advances from rounds to → Relays begun ended → IsFirst old.queue_capacity from sender receiver → IsBegun old.kept sender receiver begun → Leaves ended parts → IsLeft parts to.drain to.poster new.kept
+    → IsRelayed old rounds new
+relayed_beside old new rounds from to sender receiver begun ended parts t r first b leaves left =
+    let gave : taken to.drain ≡ given (all_gave rounds) =
+    t.gave ∙ ap (λ (xs : List Submission). xs ++ given (all_gave rounds)) first.none_taken in
+    let put : events to.poster.posted ≡ accepted (all_puts rounds) =
+    t.put.grown ∙ ap (λ (xs : List Numbered). events xs ++ accepted (all_puts rounds)) first.none_posted in
+    let none : received (receiver_of begun) ≡ [] = ap received b.receiver_is ∙ first.none_received in
+    let took : r.taken ≡ accepted (all_puts rounds) =
+    sym (r.took ∙ ap (λ (xs : List Numbered). events xs ++ r.taken) none) ∙ (ap events (sym leaves.took ∙ left.all_taken) ∙ put) in
+    let asked_first : asked (sender_of begun) ≡ old.kept.orders.items = b.orders_asked ∙ ap (λ (os : List Order). os ++ old.kept.orders.items) first.none_asked in
+    record {
+      expanded = r.expanded;
+      asked_for = r.asked_for;
+      events = ap (λ (es : List Event). es ++ accepted (all_puts rounds)) (sym b.backlog) ∙ (ap (λ (es : List Event). backlog_of begun ++ es) (sym took)
+          ∙ (r.in_order ∙ ap (λ (es : List Event). r.expanded ++ es) (sym (left.backlog ∙ leaves.backlog))));
+      peers = left.peers ∙ (leaves.peers ∙ (r.peers ∙ ap (λ (ps : List PeerRef). noted_all ps r.expanded) b.peers));
+      for_each = subst (λ (ps : List PeerRef). SameForEach r.asked_for (relayed_all ps r.expanded)) b.peers r.for_each;
+      orders_done = ap (λ (os : List Order). os ++ r.asked_for) (sym asked_first) ∙ (sym r.orders ∙ (leaves.asks ∙ (left.orders_kept
+          ∙ ap (λ (xs : List Submission). orders xs ++ new.kept.orders.items) gave)));
+    }
+
+-- what the wire told in them
+told_beside : (old new : ChatServer) (rounds : List Round) (from to : Standing) → Advances from rounds to → from.told ≡ Some (told_of old) → to.told ≡ Some (told_of new) → from.faults ≡ faults_of old
+    → told_of new ≡ told_of old ++ unless_spent (faults_of old) (all_told rounds)
+told_beside old new rounds from to t told told_after faults =
+    told_in (told_of old) (told_of new) from.faults (all_told rounds) from.told to.told told told_after t.told ∙ ap (λ (f : ℕ). told_of old ++ unless_spent f (all_told rounds)) faults
+
+turns_beside : (old new : ChatServer) (rounds : List Round) (from to : Standing) → Advances from rounds to → from.service ≡ old.bound.service → to.service ≡ new.bound.service → TakesTurns old.bound.service rounds new.bound.service
+turns_beside old new rounds from to t service service_after =
+    subst (λ (s : Service Host). TakesTurns s rounds new.bound.service) service (subst (λ (s : Service Host). TakesTurns from.service rounds s) service_after t.turns)
+
 -- the turns, the relay beside them and the settling are a run of the server
 pub serves_beside : (old new : ChatServer) (run_length : RunLength) (report : Report) (from to : Standing) (sender : OrderSender) (receiver : EventReceiver) (begun ended : Relay) (relayed : Result (Unit {0}) Refusal) (done : Unit {0}) (parts : RelayParts)
     → HasTurned run_length from to report → from.service ≡ old.bound.service → to.service ≡ new.bound.service → from.told ≡ Some (told_of old) → to.told ≡ Some (told_of new) → from.faults ≡ faults_of old → Relays begun ended → relayed ≡ Ok done → IfOk relayed (λ _. IsThrough ended)
@@ -109,31 +145,47 @@ serves_beside old new run_length report from to sender receiver begun ended rela
     let through : IsThrough ended = IfOk-at_ok (λ (x : Unit {0}). IsThrough ended) is_done on_done in
     let rounds = t.rounds in
     let gave : taken to.drain ≡ given (all_gave rounds) =
-    t.spell.gave ∙ ap (λ (xs : List Submission). xs ++ given (all_gave rounds)) first.none_taken in
-    let put : events to.poster.posted ≡ accepted (all_puts rounds) =
-    t.spell.put.grown ∙ ap (λ (xs : List Numbered). events xs ++ accepted (all_puts rounds)) first.none_posted in
-    let none : received (receiver_of begun) ≡ [] = ap received b.receiver_is ∙ first.none_received in
-    let took : r.taken ≡ accepted (all_puts rounds) =
-    sym (r.took ∙ ap (λ (xs : List Numbered). events xs ++ r.taken) none) ∙ (ap events (sym leaves.took ∙ left.all_taken) ∙ put) in
-    let asked_first : asked (sender_of begun) ≡ old.kept.orders.items = b.orders_asked ∙ ap (λ (os : List Order). os ++ old.kept.orders.items) first.none_asked in
+    t.spell.advances.gave ∙ ap (λ (xs : List Submission). xs ++ given (all_gave rounds)) first.none_taken in
     let queue = r.same_queues.0 ∙ b.queue in
+    let made : IsRelayed old rounds new = relayed_beside old new rounds from to sender receiver begun ended parts t.spell.advances r first b leaves left in
     record {
       rounds = rounds;
-      expanded = r.expanded;
-      asked_for = r.asked_for;
+      expanded = made.expanded;
+      asked_for = made.asked_for;
       lasts = t.lasts;
-      turns = subst (λ (s : Service Host). TakesTurns s rounds new.bound.service) service (subst (λ (s : Service Host). TakesTurns from.service rounds s) service_after t.spell.turns);
+      turns = turns_beside old new rounds from to t.spell.advances service service_after;
       sound = t.spell.sound;
-      told = told_in (told_of old) (told_of new) from.faults (all_told rounds) from.told to.told told told_after t.spell.told ∙ ap (λ (f : ℕ). told_of old ++ unless_spent f (all_told rounds)) faults;
+      told = told_beside old new rounds from to t.spell.advances told told_after faults;
       queue_capacity = capacity;
       totals = t.spell.totals;
-      events = ap (λ (es : List Event). es ++ accepted (all_puts rounds)) (sym b.backlog) ∙ (ap (λ (es : List Event). backlog_of begun ++ es) (sym took)
-          ∙ (r.in_order ∙ ap (λ (es : List Event). r.expanded ++ es) (sym (left.backlog ∙ leaves.backlog))));
+      events = made.events;
       behind = left_waiting ended parts to.drain to.poster new.kept through leaves.backlog leaves.waits left;
       far_behind = left_behind ended parts to.drain to.poster new.kept (given (all_gave rounds)) old.queue_capacity through (ap seats_of queue ∙ first.one_seat) (ap capacity_of queue ∙ first.places)
           leaves.asks leaves.backlog left gave;
-      peers = left.peers ∙ (leaves.peers ∙ (r.peers ∙ ap (λ (ps : List PeerRef). noted_all ps r.expanded) b.peers));
-      for_each = subst (λ (ps : List PeerRef). SameForEach r.asked_for (relayed_all ps r.expanded)) b.peers r.for_each;
-      orders_done = ap (λ (os : List Order). os ++ r.asked_for) (sym asked_first) ∙ (sym r.orders ∙ (leaves.asks ∙ (left.orders_kept
-          ∙ ap (λ (xs : List Submission). orders xs ++ new.kept.orders.items) gave)));
+      peers = made.peers;
+      for_each = made.for_each;
+      orders_done = made.orders_done;
     }
+
+-- what is kept of a run that was cut off, by whether its queues were settled
+kept_or_nothing : (old new : ChatServer) (rounds : List Round) (from to : Standing) (sender : OrderSender) (receiver : EventReceiver) (begun ended : Relay) (parts : RelayParts) (settled : Result Carryover Refusal)
+    → Advances from rounds to → Relays begun ended → IsFirst old.queue_capacity from sender receiver → IsBegun old.kept sender receiver begun → Leaves ended parts
+    → IfOk settled (IsLeft parts to.drain to.poster) → IfOk settled (λ kept. new.kept ≡ kept) → OnErr settled (IsNothing new.kept) → IsRelayed old rounds new ⊎ KeepsNothing new
+kept_or_nothing old new rounds from to sender receiver begun ended parts (Ok kept) t r first b leaves left same nothing =
+    inl (relayed_beside old new rounds from to sender receiver begun ended parts t r first b leaves (subst (λ (k : Carryover). IsLeft parts to.drain to.poster k) (sym same) left))
+kept_or_nothing old new rounds from to sender receiver begun ended parts (Err why) t r first b leaves left same nothing = inr nothing
+
+pub cut_beside : (old new : ChatServer) (from to : Standing) (sender : OrderSender) (receiver : EventReceiver) (begun ended : Relay) (parts : RelayParts) (settled : Result Carryover Refusal)
+    → IsCut from to → from.service ≡ old.bound.service → to.service ≡ new.bound.service → from.told ≡ Some (told_of old) → to.told ≡ Some (told_of new) → from.faults ≡ faults_of old → Relays begun ended
+    → IsFirst old.queue_capacity from sender receiver → IsBegun old.kept sender receiver begun → Leaves ended parts → IfOk settled (IsLeft parts to.drain to.poster) → IfOk settled (λ kept. new.kept ≡ kept) → OnErr settled (IsNothing new.kept)
+    → new.queue_capacity ≡ old.queue_capacity → IsCutOffBeside old new
+cut_beside old new from to sender receiver begun ended parts settled t service service_after told told_after faults r first b leaves left same nothing capacity = (
+  record {
+    rounds = t.rounds;
+    turns = turns_beside old new t.rounds from to t.advances service service_after;
+    cut = t.cut;
+    told = told_beside old new t.rounds from to t.advances told told_after faults;
+    queue_capacity = capacity;
+  },
+  kept_or_nothing old new t.rounds from to sender receiver begun ended parts settled t.advances r first b leaves left same nothing,
+)

@@ -16,20 +16,23 @@ use Rattle.enet_wire.specs.Wires.{also, unless_spent, is_spent}
 use Rattle.enet_chat.specs.Lone.{Expands}
 use Rattle.enet_chat.specs.declared.lone.LoneRelay.{LoneRelay}
 use Rattle.enet_chat.specs.Relaying.{noted_all, relayed_all, SameForEach, AreBehind, AreFarBehind}
-use Rattle.enet_turn.specs.Counts.{stopped, given_in, came_in, went_in, blocked_in, taken_in}
+use Rattle.enet_turn.specs.Counts.{stopped, given_in, came_in, went_in, taken_in}
 use Rattle.enet_turn.specs.Hosting.{host_calls}
-use Rattle.enet_turn.specs.LoneTurn.{LoneTurn, lone}
+use Rattle.enet_turn.specs.LoneTurn.{LoneTurn, lone, RoundsOf}
 use Rattle.enet_service.specs.Queues.{given, accepted}
 use Rattle.enet_turn.specs.Turn.{Round}
-use Rattle.enet_turn.specs.Run.{IsSound, all_gave, all_told, all_puts, total}
+use Rattle.enet_turn.specs.Run.{IsSound, AreCut, all_gave, all_told, all_puts, total}
 use Rattle.enet_service.specs.ServiceRuns.{Lasts}
 use Rattle.enet_turn.proofs.PhaseSteps.{chain_more}
 use Rattle.enet_turn.proofs.Reporting.{same_report}
+use Rattle.enet_turn.proofs.Runs.{cut_later}
+use Rattle.enet_turn.specs.Calls.{Calls}
+use Rattle.enet_turn.specs.declared.service.Service.{Service}
 use Rattle.enet_turn.specs.declared.report.Report.{Report}
 use Rattle.enet_service.specs.declared.run_length.RunLength.{RunLength}
 use Rattle.enet_serve.specs.declared.server.ChatServer.{ChatServer}
-use Rattle.enet_serve.specs.Serving.{Serves, told_of, faults_of}
-use Rattle.enet_serve.specs.Private.Alone.{Pair, Goes, IsOf, pair}
+use Rattle.enet_serve.specs.Serving.{Serves, IsCutOffAlone, told_of, faults_of}
+use Rattle.enet_serve.specs.Private.Alone.{Pair, Goes, GoesOff, IsOf, pair}
 use Rattle.enet_serve.specs.Private.Passing.{Passes}
 use Rattle.enet_serve.proofs.Passing.{passes_expanded, passes_on}
 
@@ -81,27 +84,57 @@ goes_on a b c xs ys p q = record {
   faults = q.faults ∙ p.faults;
 }
 
+-- what passes in one turn
+passes_one : (x y : LoneRelay) (r : Round) → Passes x r.gave r.puts y → Passes x (all_gave (r ∷ [])) (all_puts (r ∷ [])) y
+passes_one x y r passes =
+    subst (λ (puts : List (Event × Bool)). Passes x (r.gave ++ []) puts y) (sym (append-nil r.puts))
+    (subst (λ (gave : List (Option Submission)). Passes x gave r.puts y) (sym (append-nil r.gave)) passes)
+
 -- one turn
-pub goes_turn : (a b : Pair) (r : Round) → LoneTurn host_calls a.service r b.service → Passes a.relay r.gave r.puts b.relay → AreBehind b.relay.events b.relay.orders
+pub goes_turn : (a b : Pair) (r : Round) → LoneTurn host_calls a.service r b.service → r.failed ≡ false → Passes a.relay r.gave r.puts b.relay → AreBehind b.relay.events b.relay.orders
     → AreFarBehind 256 b.relay.events b.relay.orders → Some b.told ≡ also (Some a.told) (unless_spent a.faults (Waited r.ms ∷ r.told)) → b.faults ≡ a.faults → Goes a (r ∷ []) b
-goes_turn a b r turn passes behind far_behind told faults = record {
+goes_turn a b r turn sound passes behind far_behind told faults = record {
   turns = (b.service, turn, refl);
-  sound = All-push IsSound [] r (All-nil IsSound) turn.sound;
-  passes = subst (λ (puts : List (Event × Bool)). Passes a.relay (r.gave ++ []) puts b.relay) (sym (append-nil r.puts))
-      (subst (λ (gave : List (Option Submission)). Passes a.relay gave r.puts b.relay) (sym (append-nil r.gave)) passes);
+  sound = All-push IsSound [] r (All-nil IsSound) sound;
+  passes = passes_one a.relay b.relay r passes;
   behind = behind;
   far_behind = far_behind;
   told = told_in a.told b.told a.faults (Waited r.ms ∷ r.told) _ _ refl refl told ∙ ap (λ (zs : List Told). a.told ++ unless_spent a.faults zs) (sym (append-nil (Waited r.ms ∷ r.told)));
   faults = faults;
 }
 
+-- a turn in which the wire failed
+pub cut_turn : {H : Type 0} (calls : Calls H) (a b : Service H) (x y : LoneRelay) (o p : Option (List Told)) (f : ℕ) (r : Round) → r.failed ≡ true → LoneTurn calls a r b → Passes x r.gave r.puts y
+    → p ≡ also o (unless_spent f (Waited r.ms ∷ r.told))
+    → (rounds : List Round) × AreCut rounds × RoundsOf lone calls a rounds b × Passes x (all_gave rounds) (all_puts rounds) y × (p ≡ also o (unless_spent f (all_told rounds)))
+cut_turn calls a b x y o p f r failed turn passes told = (
+  r ∷ [],
+  inr ([], r, refl, All-nil IsSound, failed),
+  (b, turn, refl),
+  passes_one x y r passes,
+  told ∙ ap (λ (zs : List Told). also o (unless_spent f zs)) (sym (append-nil (Waited r.ms ∷ r.told))),
+)
+
+pub goes_cut : (a b : Pair) → ((rounds : List Round) × AreCut rounds × RoundsOf lone host_calls a.service rounds b.service × Passes a.relay (all_gave rounds) (all_puts rounds) b.relay
+    × (Some b.told ≡ also (Some a.told) (unless_spent a.faults (all_told rounds)))) → (rounds : List Round) × GoesOff a rounds b
+goes_cut a b h = (h.0, record { turns = h.2; cut = h.1; passes = h.3; told = told_in a.told b.told a.faults (all_told h.0) (Some a.told) (Some b.told) refl refl h.4 })
+
+-- turns, and then those that the wire cut off
+pub goes_off : (a b c : Pair) (xs ys : List Round) → Goes a xs b → GoesOff b ys c → GoesOff a (xs ++ ys) c
+goes_off a b c xs ys p q = record {
+  turns = chain_more _ a.service xs b.service ys c.service p.turns q.turns;
+  cut = cut_later xs ys p.sound q.cut;
+  passes = passes_both a.relay b.relay c.relay xs ys p.passes q.passes;
+  told = told_further a.faults b.faults a.told b.told c.told xs ys p.faults p.told q.told;
+}
+
 -- its report is the sum of one
 sum_one : (f : Round → ℕ) (r : Round) (n : ℕ) → f r ≡ stopped n → f r ≡ stopped (sum_by f (r ∷ []))
 sum_one f r n e = omega (arith, e)
 
-pub one_total : (r : Round) (came went : List Told) → r.report ≡ record { orders = stopped (given_in r.gave); received = stopped (came_in came); sent = stopped (went_in went); lost = stopped (blocked_in went); events = stopped (taken_in r.puts) }
+pub one_total : (r : Round) (came went : List Told) (lost : ℕ) → r.report ≡ record { orders = stopped (given_in r.gave); received = stopped (came_in came); sent = stopped (went_in went); lost = stopped lost; events = stopped (taken_in r.puts) }
     → r.report ≡ total (r ∷ [])
-one_total r came went e =
+one_total r came went lost e =
     same_report r.report _ _ _ _ _ _ _ _ _ _ refl
     (sum_one (λ (t : Round). t.report.orders) r _ (ap (λ (t : Report). t.orders) e))
     (sum_one (λ (t : Round). t.report.received) r _ (ap (λ (t : Report). t.received) e))
@@ -136,3 +169,17 @@ serves old new began ended run_length rounds report i o capacity lasts totals g 
   for_each = subst (λ (ps : List PeerRef). SameForEach g.passes.asked_for (relayed_all ps g.passes.expanded)) i.peers g.passes.for_each;
   orders_done = ap (λ (os : List Order). os ++ g.passes.asked_for) (sym i.orders_are) ∙ (g.passes.orders_done ∙ ap (λ (os : List Order). orders (given (all_gave rounds)) ++ os) o.orders_are);
 }
+
+pub cut_alone : (old new : ChatServer) (began ended : LoneRelay) (rounds : List Round) → IsOf old.kept began → IsOf new.kept ended → new.queue_capacity ≡ old.queue_capacity
+    → GoesOff (pair old.bound.service began (told_of old) (faults_of old)) rounds (pair new.bound.service ended (told_of new) (faults_of new)) → IsCutOffAlone old new
+cut_alone old new began ended rounds i o capacity g = (
+  record { rounds = rounds; turns = g.turns; cut = g.cut; told = g.told; queue_capacity = capacity },
+  record {
+    expanded = g.passes.expanded;
+    asked_for = g.passes.asked_for;
+    events = ap (λ (es : List Event). es ++ accepted (all_puts rounds)) (sym i.events) ∙ (g.passes.events ∙ ap (λ (es : List Event). g.passes.expanded ++ es) o.events);
+    peers = sym o.peers ∙ (g.passes.peers ∙ ap (λ (ps : List PeerRef). noted_all ps g.passes.expanded) i.peers);
+    for_each = subst (λ (ps : List PeerRef). SameForEach g.passes.asked_for (relayed_all ps g.passes.expanded)) i.peers g.passes.for_each;
+    orders_done = ap (λ (os : List Order). os ++ g.passes.asked_for) (sym i.orders_are) ∙ (g.passes.orders_done ∙ ap (λ (os : List Order). orders (given (all_gave rounds)) ++ os) o.orders_are);
+  },
+)

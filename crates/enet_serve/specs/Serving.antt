@@ -20,10 +20,10 @@ use Rattle.enet_guard.specs.Journals.{told_of as told_at}
 use Rattle.enet_turn.specs.declared.report.Report.{Report}
 use Rattle.enet_turn.specs.declared.service.Service.{Service}
 use Rattle.enet_turn.specs.Hosting.{host_calls}
-use Rattle.enet_turn.specs.LoneTurn.{Kind, RoundsOf}
+use Rattle.enet_turn.specs.LoneTurn.{Kind, beside, lone, RoundsOf}
 use Rattle.enet_service.specs.Queues.{given, accepted}
 use Rattle.enet_turn.specs.Turn.{Round}
-use Rattle.enet_turn.specs.Run.{IsSound, all_gave, all_told, all_puts, total}
+use Rattle.enet_turn.specs.Run.{IsSound, AreCut, all_gave, all_told, all_puts, total}
 use Rattle.enet_chat.specs.Relaying.{noted_all, relayed_all, SameForEach, AreBehind, AreFarBehind}
 use Rattle.enet_service.specs.declared.run_length.RunLength.{RunLength}
 use Rattle.enet_service.specs.ServiceRuns.{Lasts, IsCapacity}
@@ -110,6 +110,38 @@ pub record Serves (kind : Kind) (many : ℕ) (old : ChatServer) (run_length : Ru
   pub peers : peers_of new ≡ noted_all (peers_of old) expanded
   pub for_each : SameForEach asked_for (relayed_all (peers_of old) expanded)
   pub orders_done : orders_of old ++ asked_for ≡ orders (given (all_gave rounds)) ++ orders_of new
+
+-- ---- a run that the wire cut off
+-- Its turns, in the last of which, or in the wait after it, the wire failed. What the wire told goes on by just their waits, what they heard
+-- and what they sent, in order
+pub record IsCutOff (kind : Kind) (old new : ChatServer) : Type 0 where
+  pub rounds : List Round
+  pub turns : RoundsOf kind host_calls old.bound.service rounds new.bound.service
+  pub cut : AreCut rounds
+  pub told : told_of new ≡ told_of old ++ unless_spent (faults_of old) (all_told rounds)
+  pub queue_capacity : queue_capacity_of new ≡ queue_capacity_of old
+
+-- What the relay made of what such turns put, as in a run that returns: each event is expanded once and in order, or waits; each order that
+-- was asked for was handed to the turns, once and in order, or waits
+pub record IsRelayed (old : ChatServer) (rounds : List Round) (new : ChatServer) : Type 0 where
+  pub expanded : List Event
+  pub asked_for : List Order
+  pub events : backlog_of old ++ accepted (all_puts rounds) ≡ expanded ++ backlog_of new
+  pub peers : peers_of new ≡ noted_all (peers_of old) expanded
+  pub for_each : SameForEach asked_for (relayed_all (peers_of old) expanded)
+  pub orders_done : orders_of old ++ asked_for ≡ orders (given (all_gave rounds)) ++ orders_of new
+
+-- no peer, no event and no order
+abbrev pub KeepsNothing : ChatServer → Type 0
+KeepsNothing server = (peers_of server ≡ []) × (backlog_of server ≡ []) × (orders_of server ≡ [])
+
+-- in two threads: where the queues couldn't be settled, nothing is kept
+abbrev pub IsCutOffBeside : ChatServer → ChatServer → Type 0
+IsCutOffBeside old new = (c : IsCutOff beside old new) × (IsRelayed old c.rounds new ⊎ KeepsNothing new)
+
+-- in one thread
+abbrev pub IsCutOffAlone : ChatServer → ChatServer → Type 0
+IsCutOffAlone old new = (c : IsCutOff lone old new) × IsRelayed old c.rounds new
 
 -- what ends a run early: the wire failed, memory was wanting, the seat is spent, or a queue was not empty
 abbrev pub EndsRun : Refusal → Type 0

@@ -14,8 +14,11 @@
 //!   one call to the next.
 //! - Events wait only where orders do, and where more orders were handed to the turns or wait than the queue has places, in one thread 256 at
 //!   least.
-//! - Where it ends early, E14 says that the wire failed, and only E14 does; no run begins where the queues' places are out of range. After a
-//!   call that was refused nothing else is said of the server.
+//! - Where it ends early, E14 says that the wire failed, and only E14 does. Then it is the turns until that, and the wire told just what they
+//!   did. In one thread each event that they told was expanded or waits, and each order that those gave was handed to a turn or waits
+//!   (`IsCutOffAlone`). In two threads so it is where the queues were settled after it; else nothing is kept (`IsCutOffBeside`).
+//! - No run begins where the queues' places are out of range. After a call that was refused for another reason than E14 nothing else is said
+//!   of the server.
 //!
 //! Besides:
 //! - A server opens with the standard host of its settings, behind a guard with their rules, with nothing waiting ([`ChatServer::open`]). Who

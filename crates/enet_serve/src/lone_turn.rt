@@ -1,7 +1,8 @@
 //! A turn of a service whose relay shares its thread.
-ghost use Rattle.std.specs.Prelude.{◌≡◌, ◌≢◌, ◌+◌, ◌⊎◌, List, ◌∷◌, OnOk, IfOk, IfErr};
+ghost use Rattle.std.specs.Prelude.{◌≡◌, ◌≢◌, ◌+◌, ◌⊎◌, List, ◌∷◌, false, OnOk, IfOk, IfErr};
 ghost use Rattle.enet_chat.specs.Relaying.{AreBehind, AreFarBehind};
-ghost use Rattle.enet_turn.specs.LoneTurn.{LoneTurn, Applied, AppliesAll, gave_in, puts_in};
+ghost use Rattle.enet_turn.specs.LoneTurn.{LoneTurn, lone, RoundsOf, Applied, AppliesAll, gave_in, puts_in};
+ghost use Rattle.enet_turn.specs.Run.{AreCut, all_gave, all_told, all_puts};
 ghost use Rattle.enet_turn.specs.Turn.{Round};
 ghost use Rattle.enet_turn.specs.Counts.{given_in, taken_in, stopped};
 ghost use Rattle.enet_wire.specs.declared.told.Told.TheVariants.{Waited};
@@ -21,7 +22,7 @@ const MOST_ROUNDS: u32 = 64;
 /// Takes a turn after a wait: what comes, the events of it, expanded and their orders carried out until none is left or much was done, and
 /// then what goes. So an acknowledgement and the packets that the same datagram gave leave together.
 ///
-/// E14 where the wire fails, E1 for want of memory, where an event found none, too.
+/// E14 where the wire fails: what was done until then stands. E1 for want of memory, where an event found none, too.
 pub(crate) fn lone_turn<H: Core, W: Wire, R: Wait + Clock>(
     rt: &R,
     service: &mut Service<H>,
@@ -31,7 +32,10 @@ pub(crate) fn lone_turn<H: Core, W: Wire, R: Wait + Clock>(
 ) -> Result<Report, Fault>
     ensures turn { IfOk result (λ report. (round : Round) × (round.report ≡ report) × LoneTurn H.calls service.old round service.new
         × Passes relay.old round.gave round.puts relay.new
-        × (W.told wire.new ≡ also (W.told wire.old) (unless_spent (W.faults wire.old) (Waited round.ms ∷ round.told)))) }
+        × (W.told wire.new ≡ also (W.told wire.old) (unless_spent (W.faults wire.old) (Waited round.ms ∷ round.told))) × (round.failed ≡ false)) }
+    ensures cut { IfErr result (λ fault. fault.why ≡ Refusal.WireFault → (rounds : List Round) × AreCut rounds × RoundsOf lone H.calls service.old rounds service.new
+        × Passes relay.old (all_gave rounds) (all_puts rounds) relay.new
+        × (W.told wire.new ≡ also (W.told wire.old) (unless_spent (W.faults wire.old) (all_told rounds)))) }
     ensures behind { OnOk result (AreBehind relay.new.events relay.new.orders) }
     ensures far_behind { OnOk result (AreFarBehind 256 relay.new.events relay.new.orders) }
     ensures why { IfErr result (λ fault. (fault.why ≡ Refusal.WireFault) ⊎ (fault.why ≡ Refusal.Memory)) }

@@ -7,7 +7,7 @@ ghost use Rattle.enet_serve.specs.Private.Threads.{IsLeft, returned};
 use crate::alone::Alone;
 use crate::leaving::take_leave;
 use crate::registrar::Registrar;
-use crate::threads::{Carryover, begin_alone, begin_relay, end_alone, relay_on};
+use crate::threads::{Carryover, begin_alone, begin_relay, end_alone, left_or_nothing, relay_on};
 use enet_chat::{Gauge, RelayParts};
 use enet_codec::{Addr, Config, Refusal};
 use enet_events::Poster;
@@ -73,7 +73,7 @@ impl ChatServer {
     ghost use Rattle.enet_guard.specs.Guarding.{is_other};
     ghost use Rattle.enet_service.specs.ServiceRuns.{AreNew, IsCapacity};
     ghost use Rattle.enet_turn.specs.LoneTurn.{beside, lone};
-    ghost use Rattle.enet_serve.specs.Serving.{Serves, EndsRun, IsNotServed, IsOpened, is_in_range, host_of, faults_of, guard_of, waiting_of, service_of, peers_of, backlog_of, orders_of, queue_capacity_of};
+    ghost use Rattle.enet_serve.specs.Serving.{Serves, IsCutOffBeside, IsCutOffAlone, EndsRun, IsNotServed, IsOpened, is_in_range, host_of, faults_of, guard_of, waiting_of, service_of, peers_of, backlog_of, orders_of, queue_capacity_of};
     ghost use Rattle.enet_serve.specs.Leaving.{TakesLeave};
 
     /// A server at this address, with no peer.
@@ -112,8 +112,9 @@ impl ChatServer {
     ///
     /// E14 where the wire fails, E1 for want of memory, E8 where the queues' places are out of range, E10 where a run is so long
     /// that the seat has submitted as many orders as it may, E16 where the threads ended and a queue isn't empty. By E1 and E10 the relay
-    /// ends, and a run for a time soon after it. Whatever is refused, nothing is promised of the server then but how often its socket has
-    /// failed, and that it can take leave and be closed.
+    /// ends, and a run for a time soon after it. After E14 what was done until then stands, as after a run that returned, and what was left is
+    /// kept; where the queues weren't settled, for want of memory or since one isn't empty, nothing is. Whatever else is refused, nothing is
+    /// promised of the server then but how often its socket has failed, and that it can take leave and be closed.
     pub fn serve<R, W>(
         &mut self,
         rt: &R,
@@ -125,6 +126,7 @@ impl ChatServer {
         R: Threads + Wait + Clock + Sync,
         W: Watch + Send,
         ensures serves { IfOk result (Serves beside (queue_capacity_of self.old + 1) self.old run_length self.new) }
+        ensures cut_off { IfErr result (λ why. why ≡ Refusal.WireFault → IsCutOffBeside self.old self.new) }
         ensures refused { IfErr result (IsNotServed self.old) }
         ensures range { OnOk result (IsCapacity (queue_capacity_of self.old)) }
         ensures sound { OnOk result (faults_of self.new ≡ faults_of self.old) }
@@ -152,8 +154,8 @@ impl ChatServer {
     /// service takes the orders before it sends. A packet wakes no other thread and passes no queue between two of them, so that each takes
     /// less time and there is no use of a second processor.
     ///
-    /// E14 where the wire fails, E1 for want of memory, where an event found none, too. Whatever is refused, nothing is promised of the
-    /// server then but how often its socket has failed, and that it can take leave and be closed.
+    /// E14 where the wire fails: what was done until then stands, and what was left is kept. E1 for want of memory, where an event found none,
+    /// too: then nothing is promised of the server but how often its socket has failed, and that it can take leave and be closed.
     pub fn serve_alone<R, W>(
         &mut self,
         rt: &R,
@@ -165,6 +167,7 @@ impl ChatServer {
         R: Wait + Clock,
         W: Watch,
         ensures serves { IfOk result (Serves lone 256 self.old run_length self.new) }
+        ensures cut_off { IfErr result (λ why. why ≡ Refusal.WireFault → IsCutOffAlone self.old self.new) }
         ensures refused { IfErr result (λ why. (why ≡ Refusal.WireFault) ⊎ (why ≡ Refusal.Memory)) }
         ensures sound { OnOk result (faults_of self.new ≡ faults_of self.old) }
         ensures failed { IfErr result (λ why. why ≡ Refusal.WireFault → faults_of self.new ≡ faults_of self.old + 1) }
@@ -180,9 +183,9 @@ impl ChatServer {
             gauge,
         };
         alone.relay.expand()?;
-        let report = alone.run(rt, &mut self.bound, run_length, &mut watch)?;
+        let served = alone.run(rt, &mut self.bound, run_length, &mut watch);
         self.kept = end_alone(alone.relay);
-        Ok(report)
+        served
     }
 
     // A run between these queues.
@@ -198,6 +201,7 @@ impl ChatServer {
         requires new { AreNew shared.queue.now shared.events.now ends }
         requires places { capacity_of shared.queue.now ≡ queue_capacity_of self.old }
         ensures serves { IfOk result (Serves beside (queue_capacity_of self.old + 1) self.old run_length self.new) }
+        ensures cut_off { IfErr result (λ why. why ≡ Refusal.WireFault → IsCutOffBeside self.old self.new) }
         ensures refused { IfErr result EndsRun }
         ensures sound { OnOk result (faults_of self.new ≡ faults_of self.old) }
         ensures failed { IfErr result (λ why. why ≡ Refusal.WireFault → faults_of self.new ≡ faults_of self.old + 1) }
@@ -237,7 +241,13 @@ impl ChatServer {
             source.into_drain(),
             sink.into_poster(),
         );
-        let report = report?;
+        let report = match report {
+            Ok(report) => report,
+            Err(why) => {
+                self.kept = left_or_nothing(self.alloc, kept);
+                return Err(why);
+            }
+        };
         relayed?;
         self.kept = kept?;
         Ok(report)

@@ -1,8 +1,8 @@
 //! The relay's side of a run.
-ghost use Rattle.std.specs.Prelude.{◌≡◌, ◌⊎◌, OnOk, IfOk, IfErr};
+ghost use Rattle.std.specs.Prelude.{◌≡◌, ◌⊎◌, OnOk, OnErr, IfOk, IfErr};
 ghost use Rattle.enet_chat.specs.Relaying.{Relays, IsThrough};
 ghost use Rattle.enet_serve.specs.Private.Alone.{IsOf};
-ghost use Rattle.enet_serve.specs.Private.Threads.{IsBegun};
+ghost use Rattle.enet_serve.specs.Private.Threads.{IsBegun, IsNothing};
 
 use enet_chat::{Gauge, LoneRelay, Relay, Table};
 use enet_codec::{Event, Refusal};
@@ -32,6 +32,17 @@ impl Carryover {
             backlog: VecDeque::new(alloc),
             orders: VecDeque::new(alloc),
         }
+    }
+}
+
+/// What is kept of a run that was cut off: what was left, or nothing where that couldn't be settled.
+pub(crate) fn left_or_nothing(alloc: Global, left: Result<Carryover, Refusal>) -> Carryover
+    ensures left { IfOk left (λ kept. result ≡ kept) }
+    ensures nothing { OnErr left (IsNothing result) }
+{
+    match left {
+        Ok(kept) => kept,
+        Err(_) => Carryover::new(alloc),
     }
 }
 

@@ -10,7 +10,7 @@ use Rattle.enet_turn.specs.declared.service.Service.{Service}
 use Rattle.enet_turn.specs.Hosting.{host_calls}
 use Rattle.enet_turn.specs.LoneTurn.{RoundsOf, lone}
 use Rattle.enet_turn.specs.Turn.{Round}
-use Rattle.enet_turn.specs.Run.{IsSound, all_gave, all_told, all_puts}
+use Rattle.enet_turn.specs.Run.{IsSound, AreCut, all_gave, all_told, all_puts}
 use Rattle.enet_serve.specs.declared.threads.Carryover.{Carryover}
 use Rattle.enet_serve.specs.Private.Passing.{Passes}
 
@@ -39,3 +39,10 @@ pub record Goes (old : Pair) (rounds : List Round) (new : Pair) : Type 0 where
   pub far_behind : AreFarBehind 256 new.relay.events new.relay.orders
   pub told : new.told ≡ old.told ++ unless_spent old.faults (all_told rounds)
   pub faults : new.faults ≡ old.faults
+
+-- Turns that the wire cut off, and what passed the relay in them
+pub record GoesOff (old : Pair) (rounds : List Round) (new : Pair) : Type 0 where
+  pub turns : RoundsOf lone host_calls old.service rounds new.service
+  pub cut : AreCut rounds
+  pub passes : Passes old.relay (all_gave rounds) (all_puts rounds) new.relay
+  pub told : new.told ≡ old.told ++ unless_spent old.faults (all_told rounds)

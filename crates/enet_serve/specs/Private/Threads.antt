@@ -1,5 +1,5 @@
 -- What the two threads of a run begin with, and what they leave.
-use Rattle.std.specs.Prelude.{◌≡◌, ◌≤◌, ◌++◌, length}
+use Rattle.std.specs.Prelude.{◌≡◌, ◌≤◌, [], ◌++◌, length}
 use Rattle.enet_submit.specs.declared.token.Drain.{Drain}
 use Rattle.enet_submit.specs.Words.{all_sent, taken}
 use Rattle.enet_events.specs.Words.{PosterState}
@@ -32,3 +32,7 @@ pub record IsLeft (parts : RelayParts) (drain : Drain) (poster : PosterState) (k
   pub more_orders : length parts.orders.items ≤ length kept.orders.items
   pub all_taken : parts.taker.taken ≡ poster.posted
   pub orders_kept : orders (all_sent parts.seat) ++ parts.orders.items ≡ orders (taken drain) ++ kept.orders.items
+
+-- nothing is kept
+abbrev pub IsNothing : Carryover → Type 0
+IsNothing kept = (kept.table ≡ []) × (kept.backlog.items ≡ []) × (kept.orders.items ≡ [])

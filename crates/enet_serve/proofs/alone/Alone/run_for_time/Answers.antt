@@ -1,5 +1,6 @@
 use Rattle.std.proofs.Common.{◌+◌, List, [], ◌++◌, refl, sym, subst, ◌∙◌, arith, rules}
 use Rattle.std.proofs.lemmas.List.{length-append}
+use Rattle.std.proofs.lemmas.Result.{err_from_is_err_and}
 use Rattle.enet_chat.proofs.Expansions.{expands_none}
 use Rattle.enet_wire.specs.Socket.{failures_of}
 use Rattle.enet_guard.specs.Journals.{told_of}
@@ -7,7 +8,7 @@ use Rattle.enet_turn.specs.Turn.{Round}
 use Rattle.enet_service.specs.ServiceRuns.{AreFew}
 use Rattle.enet_service.proofs.Spells.{total_of_both}
 use Rattle.enet_serve.specs.Private.Alone.{pair}
-use Rattle.enet_serve.proofs.TurnByTurn.{goes_nowhere, goes_on}
+use Rattle.enet_serve.proofs.TurnByTurn.{goes_nowhere, goes_on, goes_off}
 use Rattle.enet_serve.proofs.alone.Alone.run_for_time.Goals as goal
 
 pub loop-init : goal.loop-init
@@ -51,3 +52,13 @@ returns-then-wants_end-clause-goes g c =
       total_of_both c.loop.total c.in_ok-report.report c.and-total.result before more inv.6 c.in_ok-report.ensures.goes.2 c.and-total.ensures,
       goes_on first second third before more inv.5 c.in_ok-report.ensures.goes.3,
     )
+
+pub returns-in_err-report-clause-goes_off : goal.returns-in_err-report-clause-goes_off
+returns-in_err-report-clause-goes_off g c =
+    let out = err_from_is_err_and c.from_residual.result c.from_residual.ensures.1 in
+    let inv = c.loop.invariant in
+    let before : List Round = inv.2 in
+    let first = pair c.args.bound.now.service c.args.self.now.relay (told_of c.args.bound.now.wire) (failures_of c.args.bound.now.wire.wire) in
+    let second = pair c.loop.bound.service c.loop.self.relay (told_of c.loop.bound.wire) (failures_of c.loop.bound.wire.wire) in
+    let third = pair c.run_for_turns.new.bound.service c.run_for_turns.new.self.relay (told_of c.run_for_turns.new.bound.wire) (failures_of c.run_for_turns.new.bound.wire.wire) in
+    rw (out.1, out.2) (λ is. (let more = c.in_err-report.ensures.goes_off is in (before ++ more.0, goes_off first second third before more.0 inv.5 more.1)))
