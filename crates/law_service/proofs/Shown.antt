@@ -1,5 +1,5 @@
 -- What runs between two queues show, once these were settled.
-use Rattle.std.proofs.Common.{◌≡◌, ℕ, List, [], ◌∷◌, ◌++◌, map, refl, sym, ap, subst, ◌∙◌, append-nil, Option}
+use Rattle.std.proofs.Common.{◌≡◌, inl, inr, ℕ, List, [], ◌∷◌, ◌++◌, map, refl, sym, ap, subst, ◌∙◌, append-nil, Option}
 use Rattle.std.specs.Prelude.{option_to_list}
 use Rattle.enet_codec.specs.declared.config.Config.{Config}
 use Rattle.enet_codec.specs.declared.event.Event.{Event}
@@ -16,7 +16,7 @@ use Rattle.enet_turn.specs.Hosting.{host_calls}
 use Rattle.enet_turn.specs.Phases.{Chain}
 use Rattle.enet_service.specs.Queues.{given, accepted}
 use Rattle.enet_turn.specs.Run.{all_gave, all_puts}
-use Rattle.enet_service.specs.ServiceRuns.{Spell, Standing, TakesTurns, beginning}
+use Rattle.enet_service.specs.ServiceRuns.{Advances, Standing, TakesTurns, beginning}
 use Rattle.enet_turn.specs.Spans.{Span, Parts, Spans, rounds_in}
 use Rattle.enet_turn.specs.Turn.{Round}
 use Rattle.enet_bridge.specs.Ends.{orders}
@@ -25,11 +25,12 @@ use Rattle.law_service.specs.Queues.{AtQueues, TakesRounds, RunsBetween, Shows, 
 use Rattle.law_service.proofs.Queues.{each-thread}
 use Rattle.law_service.proofs.Lives.{life-has-threads}
 
-on-by : (a : Standing) (rounds : List Round) (b : Standing) (t : TakesRounds a rounds b) → Spell a rounds b t.1
-on-by a rounds b t = subst (λ (rs : List Round). Spell a rs b t.1) t.3 t.2.spell
+on-by : (a : Standing) (rounds : List Round) (b : Standing) → TakesRounds a rounds b → Advances a rounds b
+on-by a rounds b (inl t) = subst (λ (rs : List Round). Advances a rs b) t.3 t.2.spell.advances
+on-by a rounds b (inr c) = subst (λ (rs : List Round). Advances a rs b) c.1 c.0.advances
 
 module _ (old : Service Host) (rounds : List Round) (back : Returned) (rest : List Order) (new : Service Host) (b : RunsBetween old rounds back rest new) where
-  on : Spell b.first rounds b.last b.turned.1
+  on : Advances b.first rounds b.last
   on = on-by b.first rounds b.last b.turned
 
   turns : TakesTurns old rounds new

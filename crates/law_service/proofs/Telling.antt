@@ -267,11 +267,11 @@ turn-ledger old round new t =
 
 -- a turn whose orders its own thread makes
 
-begins-ledger : (old : Service Noted) (ms : ℕ) (came : List Told) (puts : List (Event × Bool)) (new : Service Noted) → Begins noting old ms came puts new → Ledger old new [] puts
-begins-ledger old ms came puts new t =
-    let d : Ledger (over t.heard t.waits) new [] t.of_events = tells-ledger (over t.heard t.waits) t.of_events new t.telling in
+begins-ledger : (old : Service Noted) (ms : ℕ) (came : List Told) (puts : List (Event × Bool)) (new : Service Noted) (failed : Bool) → Begins noting old ms came puts new failed → Ledger old new [] puts
+begins-ledger old ms came puts new failed t =
+    let d : Ledger (over t.heard t.waits) new [] t.of_events = telling-ledger (record { host = t.heard; failed = failed }) t.waits t.of_events new failed refl t.telling in
     let c : Ledger (over t.ticked t.waits) new [] t.of_events =
-    join (over t.ticked t.waits) (over t.heard t.waits) new [] [] [] t.of_events (hears-ledger t.waits 256 t.ticked came (record { host = t.heard; failed = false }) t.hearing) d in
+    join (over t.ticked t.waits) (over t.heard t.waits) new [] [] [] t.of_events (hears-ledger t.waits 256 t.ticked came (record { host = t.heard; failed = failed }) t.hearing) d in
     let b : Ledger (over t.ticked old.waiting) new [] (t.again ++ t.of_events) =
     join (over t.ticked old.waiting) (over t.ticked t.waits) new [] [] t.again t.of_events (offers-again t.ticked old.waiting t.waits t.again t.offered) c in
     let all : Ledger old new [] (t.again ++ t.of_events) =
@@ -286,10 +286,11 @@ obeys-ledger old (o ∷ applied) new r =
 lone-ledger : (old : Service Noted) (round : Round) (new : Service Noted) → LoneTurn noting old round new → Ledger old new round.gave round.puts
 lone-ledger old round new t =
     let c : Ledger t.ordered new [] [] =
-    subst (λ (w : Option Event). Ledger t.ordered (over new.host w) [] []) (sym t.waits) (sends-ledger t.ordered.waiting 256 t.ordered.host t.went (record { host = new.host; failed = false }) t.sends) in
+    subst (λ (w : Option Event). Ledger t.ordered (over new.host w) [] []) (sym t.waits)
+    (sending-ledger t.ordered.waiting (record { host = t.ordered.host; failed = t.early }) t.went (record { host = new.host; failed = round.failed }) t.early refl t.sends) in
     let b : Ledger t.begun new (gave_in t.applied ++ []) (puts_in t.applied ++ []) = join t.begun t.ordered new (gave_in t.applied) [] (puts_in t.applied) [] (obeys-ledger t.begun t.applied t.ordered t.applies) c in
     let a : Ledger old new (gave_in t.applied ++ []) (t.told_first ++ (puts_in t.applied ++ [])) =
-    join old t.begun new [] (gave_in t.applied ++ []) t.told_first (puts_in t.applied ++ []) (begins-ledger old round.ms t.came t.told_first t.begun t.begins) b in
+    join old t.begun new [] (gave_in t.applied ++ []) t.told_first (puts_in t.applied ++ []) (begins-ledger old round.ms t.came t.told_first t.begun t.early t.begins) b in
     subst (λ (p : List (Event × Bool)). Ledger old new round.gave p) (ap (λ (p : List (Event × Bool)). t.told_first ++ p) (append-nil (puts_in t.applied)) ∙ sym t.put)
     (subst (λ (g : List (Option Submission)). Ledger old new g (t.told_first ++ (puts_in t.applied ++ []))) (append-nil (gave_in t.applied) ∙ sym t.gave) a)
 

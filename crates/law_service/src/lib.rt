@@ -1,7 +1,7 @@
 //! The headline between game threads: of a server's service and any number of clients' services, at any distinct addresses. No code.
 //!
 //! Proved, of the definitions that `Service::turn` and `run` promise, and of the turns of a service whose thread is the only one
-//! (`RoundsOf`; wires that fail, sends that block and refused orders among them): turns are calls of their host, and tell what these gave
+//! (`RoundsOf`; wires that fail, sends that block and refused orders among them, of either kind): turns are calls of their host, and tell what these gave
 //! (`each_turn_is_calls`); each call of a host is one thing that happens among hosts and strangers (`each_call_happens`); over any
 //! interleaving of the calls in which the network invents nothing in a host's name and brings nothing late or of an earlier connection, the
 //! headline holds at each moment of what each host accepted and told by its calls, and so, after whole turns, of the orders that its service
@@ -41,9 +41,9 @@ pub fn each_call_happens()
 /// `queues`: the thread of a run is what a moment of the run's queues shows. `lives`: runs with such threads, from the beginning of a service
 /// on, are a service with game threads.
 ///
-/// There is such a moment of each run whose queues were opened for it and settled after it, by what `Queues::open`, `beside_turns` and
-/// `settle` promise (`shown`). So any number of such runs have game threads (`all_shown`). And there is one at each
-/// moment of a run, whether or not it ends, by what the rules of its queues say of each moment (`moments`).
+/// There is such a moment of each run whose queues were opened for it and settled after it, whether it answered Ok or E14, by what
+/// `Queues::open`, `beside_turns` and `settle` promise (`shown`). So any number of such runs have game threads (`all_shown`). And there is one
+/// at each moment of a run, whether or not it ends, by what the rules of its queues say of each moment (`moments`).
 ///
 /// `never_stuck`: any interleaving whose datagrams are honest, and in which clients ask the server alone, goes on so; nothing else is asked of
 /// a service.
