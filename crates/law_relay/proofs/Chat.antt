@@ -30,7 +30,8 @@ use Rattle.enet_turn.proofs.PhaseSteps.{chain_more}
 use Rattle.enet_service.proofs.Spells.{given_both, accepted_both}
 use Rattle.enet_serve.specs.declared.server.ChatServer.{ChatServer}
 use Rattle.enet_serve.specs.declared.server.Settings.{Settings}
-use Rattle.enet_serve.specs.Serving.{Serves, IsOpened, service_of, peers_of, backlog_of, orders_of, config_of}
+use Rattle.enet_serve.specs.Leaving.{Leaves}
+use Rattle.enet_serve.specs.Serving.{Serves, IsCutOff, IsRelayed, IsOpened, service_of, peers_of, backlog_of, orders_of, config_of}
 use Rattle.enet_serve.proofs.Partings.{spans-of-leave}
 use Rattle.law_network.specs.Calls.{Call}
 use Rattle.law_headline.specs.Nets.{Net, open_net}
@@ -45,7 +46,7 @@ use Rattle.law_service.proofs.Queues.{each-moment, sent-is, put-is}
 use Rattle.law_relay.specs.Relay.{Relaying}
 use Rattle.law_relay.proofs.Refusals.{has-answers, between-pairs-unless}
 use Rattle.law_relay.proofs.Unreliable.{between-pairs-on-one}
-use Rattle.law_relay.specs.Chat.{ServesAll, Served, EachServed, HasServed, EachHasServed, IsServing, GoesOn, EachServesOn, Played, hosts_of, users_of, users_by, ChatsInOrder, OfChatServer, OfChatThreads}
+use Rattle.law_relay.specs.Chat.{ServesAll, Served, EachServed, HasServed, EachHasServed, EachCutOff, IsServing, GoesOn, EachServesOn, Played, hosts_of, users_of, users_by, ChatsInOrder, OfChatServer, OfChatThreads}
 
 none : (kind : Kind) (s : ChatServer) → Served kind s s
 none kind s = record {
@@ -92,8 +93,45 @@ pub each-served : EachServed
 each-served kind old [] new h = subst (λ (s : ChatServer). Served kind old s) (sym h) (none kind old)
 each-served kind old (run ∷ runs) new h = more kind old h.0 new (one h.1.0 kind h.1.1 h.1.2 old run.0 h.0 run.1 h.1.3) (each-served kind h.0 runs new h.2)
 
-pub each-has-served : EachHasServed
-each-has-served kind settings fresh served runs left opened h leaves = record {
+-- runs, of which the wire may have cut off the last
+record Did (kind : Kind) (old new : ChatServer) : Type 0 where
+  rounds : List Round
+  expanded : List Event
+  asked_for : List Order
+  turns : RoundsOf kind host_calls (service_of old) rounds (service_of new)
+  events : backlog_of old ++ accepted (all_puts rounds) ≡ expanded ++ backlog_of new
+  peers : peers_of new ≡ noted_all (peers_of old) expanded
+  for_each : SameForEach asked_for (relayed_all (peers_of old) expanded)
+  orders_done : orders_of old ++ asked_for ≡ orders (given (all_gave rounds)) ++ orders_of new
+
+did : (kind : Kind) (old new : ChatServer) → Served kind old new → Did kind old new
+did kind old new s = record {
+  rounds = s.rounds;
+  expanded = s.expanded;
+  asked_for = s.asked_for;
+  turns = s.turns;
+  events = s.events;
+  peers = s.peers;
+  for_each = s.for_each;
+  orders_done = s.orders_done;
+}
+
+then-cut : (kind : Kind) (a b c : ChatServer) → Served kind a b → (its : Kind) → AreAmong its kind → (o : IsCutOff its b c) → IsRelayed b o.rounds c → Did kind a c
+then-cut kind a b c p its among o q = record {
+  rounds = p.rounds ++ o.rounds;
+  expanded = p.expanded ++ q.expanded;
+  asked_for = p.asked_for ++ q.asked_for;
+  turns = chain_more _ (service_of a) p.rounds (service_of b) o.rounds (service_of c) p.turns (rounds_among its kind among host_calls (service_of b) o.rounds (service_of c) o.turns);
+  events = ap (λ (es : List Event). backlog_of a ++ es) (accepted_both p.rounds o.rounds)
+      ∙ joined (backlog_of a) (backlog_of b) (backlog_of c) (accepted (all_puts p.rounds)) (accepted (all_puts o.rounds)) p.expanded q.expanded p.events q.events;
+  peers = q.peers ∙ (ap (λ (ps : List PeerRef). noted_all ps q.expanded) p.peers ∙ sym (noted_more (peers_of a) p.expanded q.expanded));
+  for_each = on_for_each p.asked_for q.asked_for (peers_of a) (peers_of b) p.expanded q.expanded p.peers p.for_each q.for_each;
+  orders_done = joined (orders_of a) (orders_of b) (orders_of c) p.asked_for q.asked_for (orders (given (all_gave p.rounds))) (orders (given (all_gave o.rounds))) p.orders_done q.orders_done
+      ∙ ap (λ (os : List Order). os ++ orders_of c) (sym (ap orders (given_both p.rounds o.rounds) ∙ map-append (λ (x : Submission). x.order) (given (all_gave p.rounds)) (given (all_gave o.rounds))));
+}
+
+has-served : (kind : Kind) (settings : Settings) (fresh served : ChatServer) (left : Service Host) → IsOpened settings fresh → Did kind fresh served → Leaves (service_of served) left → HasServed settings served left
+has-served kind settings fresh served left opened s leaves = record {
   serving = record { running = r; relaying = relaying; config = refl };
   left_is = refl;
   untaken = untaken;
@@ -102,9 +140,6 @@ each-has-served kind settings fresh served runs left opened h leaves = record {
   peers = s.peers ∙ ap (λ (ps : List PeerRef). noted_all ps s.expanded) opened.peers;
 }
   where
-    s : Served kind fresh served
-    s = each-served kind fresh runs served h
-
     leave-spans : List Span
     leave-spans = leaves.spans ++ leaves.last ∷ []
 
@@ -143,6 +178,13 @@ each-has-served kind settings fresh served runs left opened h leaves = record {
       orders_done = ap (λ (os : List Order). os ++ s.asked_for) (sym opened.orders) ∙ s.orders_done
           ∙ ap (λ (xs : List Submission). orders xs ++ orders_of served) (sym (given_both s.rounds more-rounds ∙ ap (λ (xs : List Submission). given (all_gave s.rounds) ++ xs) leaves.no_orders ∙ append-nil (given (all_gave s.rounds))));
     }
+
+pub each-has-served : EachHasServed
+each-has-served kind settings fresh served runs left opened h leaves = has-served kind settings fresh served left opened (did kind fresh served (each-served kind fresh runs served h)) leaves
+
+pub each-cut-off : EachCutOff
+each-cut-off kind settings fresh served runs cut left opened h its among c relayed leaves =
+    has-served kind settings fresh cut left opened (then-cut kind fresh served cut (each-served kind fresh runs served h) its among c relayed) leaves
 
 -- ---- a run that goes on
 pub each-serves-on : EachServesOn

@@ -27,7 +27,7 @@ use Rattle.enet_chat.specs.Relaying.{noted_all, relayed_all, SameForEach}
 use Rattle.enet_serve.specs.declared.server.ChatServer.{ChatServer}
 use Rattle.enet_serve.specs.declared.server.Settings.{Settings}
 use Rattle.enet_serve.specs.Leaving.{Leaves}
-use Rattle.enet_serve.specs.Serving.{Serves, IsOpened, config_of, is_in_range, service_of, peers_of, backlog_of, orders_of}
+use Rattle.enet_serve.specs.Serving.{Serves, IsCutOff, IsRelayed, IsOpened, config_of, is_in_range, service_of, peers_of, backlog_of, orders_of}
 use Rattle.law_network.specs.Calls.{Call}
 use Rattle.law_headline.specs.Nets.{Net, AreApart, is_host, open_net}
 use Rattle.law_headline.specs.Page.{User, IsHeadline, came}
@@ -79,6 +79,12 @@ pub record HasServed (settings : Settings) (served : ChatServer) (left : Service
 abbrev pub EachHasServed : Type 0
 EachHasServed = (kind : Kind) (settings : Settings) (fresh served : ChatServer) (runs : List (RunLength × Report)) (left : Service Host) → IsOpened settings fresh → ServesAll kind fresh runs served → Leaves (service_of served) left
     → HasServed settings served left
+
+-- the same of a run that the wire cut off, with E14, after those: the server as it was left, and what it did in all of them and in taking leave.
+-- In two threads its queues were settled (`IsCutOffBeside`)
+abbrev pub EachCutOff : Type 0
+EachCutOff = (kind : Kind) (settings : Settings) (fresh served : ChatServer) (runs : List (RunLength × Report)) (cut : ChatServer) (left : Service Host) → IsOpened settings fresh → ServesAll kind fresh runs served
+    → (its : Kind) → AreAmong its kind → (c : IsCutOff its served cut) → IsRelayed served c.rounds cut → Leaves (service_of cut) left → HasServed settings cut left
 
 -- ---- each moment
 -- A run of two threads that goes on, of which these turns are over: a moment of its queues, and what the relay made until then of what the server
