@@ -7,6 +7,7 @@ pub mod Trips
 pub mod NoDeadEnd
 pub mod Carried
 pub mod Rounds
+pub mod Outstanding
 pub mod RoundHappens
 -- an outbox
 pub mod Filling
@@ -33,6 +34,8 @@ pub mod Timed
 pub mod Attempts
 pub mod Told
 pub mod Waiting
+pub mod Ageing
+pub mod Wide
 pub mod Fitting
 pub mod Later
 pub mod Parted

@@ -112,9 +112,9 @@ pub none-new : (R : Transmission → Type 0) (from n : ℕ) → (s : SendingEnd)
 none-new R from n s h t k = let c = Has-mapped new_end (range_with_len from n) s h in absurd (subst (λ (x : SendingEnd). Has x.sender.sent t) (sym c.2) k)
 
 -- what a datagram that is filled keeps of it, where it holds of what goes first and of what goes again
-record Sends (R : Transmission → Type 0) (now wait : ℕ) : Type 0 where
-  first : R (transmission.begun now wait)
-  again : (t : Transmission) → R t → t.due ≡ true → R (transmission.again now t)
+pub record Sends (R : Transmission → Type 0) (now wait : ℕ) : Type 0 where
+  pub first : R (transmission.begun now wait)
+  pub again : (t : Transmission) → R t → t.due ≡ true → R (transmission.again now t)
 
 each-next : (R : Transmission → Type 0) (now wait : ℕ) (c : Commands) (n : controlling.Next) → Sends R now wait → controlling.next now wait c ≡ Some n → ((t : SentControl) → Has c.sent t → R t.transmission)
     → (t : SentControl) → Has n.commands.sent t → R t.transmission
@@ -190,7 +190,7 @@ pub each-set : (R : Transmission → Type 0) (xs : List SendingEnd) (k : ℕ) (s
     → (x : SendingEnd) → Has (slice_set xs k (record s { sender = new })) x → (t : Sent) → Has x.sender.sent t → R t.transmission
 each-set R xs k s new there own others x h t m = elim (Has-set xs k (record s { sender = new }) x h) [ inl is ↦ own t (subst (λ (y : SendingEnd). Has y.sender.sent t) (sym is) m) | inr old ↦ others x old t m ]
 
-each-filled : (R : Transmission → Type 0) (pace : Pace) (o : Outbox) → Sends R pace.now pace.timeout → Each R o.control.sent o.senders → Each R (filled pace o).outbox.control.sent (filled pace o).outbox.senders
+pub each-filled : (R : Transmission → Type 0) (pace : Pace) (o : Outbox) → Sends R pace.now pace.timeout → Each R o.control.sent o.senders → Each R (filled pace o).outbox.control.sent (filled pace o).outbox.senders
 each-filled R pace o g all = by-filling pace o (λ f. Each R f.outbox.control.sent f.outbox.senders) (record {
   closes = λ f h. h;
   acknowledges = λ f a rest e h. h;
@@ -374,7 +374,7 @@ fair-takes R most p h = by p.greeting
     by (Some info) = h
     by None = packets p.inbox.untaken
 
-fair-went : (R : Transmission → Type 0) (most : ℕ) (p : Peering) (s : PeerState) → Fair R most p → Fair R most (gone_on_in s p)
+pub fair-went : (R : Transmission → Type 0) (most : ℕ) (p : Peering) (s : PeerState) → Fair R most p → Fair R most (gone_on_in s p)
 fair-went R most p state.AckDisconnect h = fair-ended R most p p.info h
 fair-went R most p state.Parting h = by (nat_lt 0 (length p.outbox.control.queued))
   where
@@ -383,7 +383,7 @@ fair-went R most p state.Parting h = by (nat_lt 0 (length p.outbox.control.queue
     by false = fair-freed R most p h
 fair-went R most p s h = fair-settled R most p h
 
-fair-submitted : (R : Transmission → Type 0) (most : ℕ) (p : Peering) (channel : ℕ) (q : Packet) → Fair R most p → Fair R most (submitted p channel q)
+pub fair-submitted : (R : Transmission → Type 0) (most : ℕ) (p : Peering) (channel : ℕ) (q : Packet) → Fair R most p → Fair R most (submitted p channel q)
 fair-submitted R most p channel q h = by (outbox.is_unsequenced p.terms.mtu q)
   where
     on : (x : Option SendingEnd) → slice_get p.outbox.senders channel ≡ x → Fair R most (record p { outbox = outbox.with_sequenced p.outbox p.terms.mtu channel q x })
@@ -394,7 +394,7 @@ fair-submitted R most p channel q h = by (outbox.is_unsequenced p.terms.mtu q)
     by true = h
     by false = on (slice_get p.outbox.senders channel) refl
 
-fair-left : (R : Transmission → Type 0) (most : ℕ) (p : Peering) (leave : Leave) (info : ℕ) → Fair R most p → Fair R most (after_leave p (left leave p info))
+pub fair-left : (R : Transmission → Type 0) (most : ℕ) (p : Peering) (leave : Leave) (info : ℕ) → Fair R most p → Fair R most (after_leave p (left leave p info))
 fair-left R most p AtOnce info h = fair-freed R most p h
 fair-left R most p TellsOnce info h = fair-parting R most p info h
 fair-left R most p Asks info h = fair-disconnecting R most p info h

@@ -1,0 +1,215 @@
+-- What was sent, however rarely time comes and datagrams go: nothing waits for longer than its timeout but what is due to go again, and no
+-- timeout is above 327,675 ms, as long as the clock hasn't wrapped since the first send. Of a peer with ENet's patience.
+use Rattle.std.proofs.Common.{◌≡◌, ℕ, ◌+◌, ◌-◌, ◌*◌, ◌%◌, ◌^◌, ◌<◌, ◌≤◌, ◌&&◌, not, leb, Bool, true, false, cond, List, map, refl, sym, ap, subst, ◌∙◌, inl, inr, ◌⊎◌, arith}
+use Rattle.std.proofs.lemmas.Bool.Decides.{nat_tests}
+use Rattle.std.specs.List.{list_any}
+use Rattle.enet_rtt.specs.Clock.{elapsed_time}
+use Rattle.enet_rtt.specs.Timing.{timeout}
+use Rattle.enet_rtt.specs.Transmission as transmission
+use Rattle.enet_rtt.specs.Expiry.{gives_up}
+use Rattle.enet_rtt.specs.declared.transmission.Transmission.{Transmission}
+use Rattle.enet_rtt.specs.declared.expiry.Patience.{Patience}
+use Rattle.enet_rtt.specs.declared.expiry.Expiry.TheVariants.{No, Resend, End}
+use Rattle.enet_senders.specs.Controlling as controlling
+use Rattle.enet_senders.specs.declared.control.Control.TheVariants as control
+use Rattle.enet_senders.specs.declared.control.SentControl.{SentControl}
+use Rattle.enet_receiver.specs.Members.{Has}
+use Rattle.enet_sender.specs.declared.sent.Sent.{Sent}
+use Rattle.enet_sender.specs.Sender as sender
+use Rattle.enet_sender.specs.Due.{SendingEnd}
+use Rattle.enet_outbox.specs.Outbox.{has_ended, has_late, marked_sender, cleared_sender}
+use Rattle.enet_outbox.specs.Outbox as outbox
+use Rattle.enet_outbox.specs.Emission.{filled}
+use Rattle.enet_peer.specs.declared.parts.PeerState.{PeerState}
+use Rattle.enet_peer.specs.declared.parts.PeerState.TheVariants as state
+use Rattle.enet_peer.specs.Peering.{Peering}
+use Rattle.enet_peer.specs.Endings.{cut_off_in}
+use Rattle.enet_peer.specs.Calls.{pace_of, gone_on_in, ticked, pinged, is_pinged, after_timeouts_by, growth_bound}
+use Rattle.law_progress.specs.Exchanges.{AllOver}
+use Rattle.law_progress.proofs.Timed.{elapsed-is, le-of, lt-of}
+use Rattle.law_progress.proofs.Waiting.{Fair, Sends, each-filled, fair-went, timeout-low, none-of, or-both, Has-mapped}
+
+-- by now a command that first went `time` milliseconds ago at most
+pub record Aged (now time : ℕ) (t : Transmission) : Type 0 where
+  pub first : ℕ
+  pub last : ℕ
+  pub first_is : t.first ≡ first % 2 ^ 32
+  pub last_is : t.last ≡ last % 2 ^ 32
+  pub after : first ≤ last
+  pub by : last ≤ now
+  pub since : now ≤ first + time
+  pub brief : t.timeout ≤ 327675
+  pub waits : (t.due ≡ true) ⊎ (now ≤ last + t.timeout)
+
+-- the greatest patience is ENet's
+abbrev pub most : ℕ
+most = 30000
+
+abbrev pub Ages : ℕ → ℕ → Peering → Type 0
+Ages now time p = Fair (Aged now time) most p
+
+aged-begun : (now time wait : ℕ) → wait ≤ 327675 → Aged now time (transmission.begun (now % 2 ^ 32) wait)
+aged-begun now time wait low = record { first = now; last = now; first_is = refl; last_is = refl; after = omega arith; by = omega arith; since = omega arith; brief = low; waits = inr (omega arith) }
+
+aged-again : (now time : ℕ) (t : Transmission) → Aged now time t → Aged now time (transmission.again (now % 2 ^ 32) t)
+aged-again now time t a =
+    let after = a.after in
+    let by = a.by in
+    record { first = a.first; last = now; first_is = a.first_is; last_is = refl; after = omega arith; by = omega arith; since = a.since; brief = a.brief; waits = inr (omega arith) }
+
+at-most-twice : (bound t : ℕ) → transmission.grown_time bound t ≤ 2 * t
+at-most-twice bound t = grind arith
+
+-- so many milliseconds later, patience lasting where it is late
+aged-marked : (now time d bound : ℕ) (t : Transmission) → Aged now time t → time + d < 2 ^ 32 → (transmission.is_late ((now + d) % 2 ^ 32) t ≡ true → leb most (elapsed_time ((now + d) % 2 ^ 32) t.first) ≡ false)
+    → Aged (now + d) (time + d) (transmission.marked bound ((now + d) % 2 ^ 32) t)
+aged-marked now time d bound t a near patient = by t.due refl (leb t.timeout (elapsed_time n t.last)) refl
+  where
+    n : ℕ
+    n = (now + d) % 2 ^ 32
+
+    low : a.last ≤ now + d
+    low = let x = a.by in omega arith
+
+    gone : elapsed_time n t.last ≡ now + d - a.last
+    gone = ap (elapsed_time n) a.last_is ∙ elapsed-is a.last (now + d) low (let x = a.after in let y = a.since in omega arith)
+
+    grows : Transmission
+    grows = record t { timeout = transmission.grown_time bound t.timeout; due = true }
+
+    same : transmission.is_late n t ≡ false → ((t.due ≡ true) ⊎ (now + d ≤ a.last + t.timeout)) → Aged (now + d) (time + d) (transmission.marked bound n t)
+    same e w = subst (λ b. Aged (now + d) (time + d) (cond b grows t)) (sym e) (let y = a.since in
+        record { first = a.first; last = a.last; first_is = a.first_is; last_is = a.last_is; after = a.after; by = low; since = omega arith; brief = a.brief; waits = w })
+
+    by : (due : Bool) → t.due ≡ due → (late : Bool) → leb t.timeout (elapsed_time n t.last) ≡ late → Aged (now + d) (time + d) (transmission.marked bound n t)
+    by true e late f = same (ap (λ b. not b && leb t.timeout (elapsed_time n t.last)) e) (inl e)
+    by false e false f = same ((λ i. not (e i) && f i)) (inr (let x = lt-of t.timeout (elapsed_time n t.last) f in let y = gone in let z = low in omega arith))
+    by false e true f = subst (λ b. Aged (now + d) (time + d) (cond b grows t)) (sym is_late) (record {
+      first = a.first;
+      last = a.last;
+      first_is = a.first_is;
+      last_is = a.last_is;
+      after = a.after;
+      by = low;
+      since = let y = a.since in omega arith;
+      brief = (let x = at-most-twice bound t.timeout in let y = brief in omega arith);
+      waits = inl refl;
+    })
+      where
+        is_late : transmission.is_late n t ≡ true
+        is_late = (λ i. not (e i) && f i)
+
+        since : elapsed_time n t.first ≡ now + d - a.first
+        since = ap (elapsed_time n) a.first_is ∙ elapsed-is a.first (now + d) (let x = a.after in let y = low in omega arith) (let y = a.since in omega arith)
+
+        brief : t.timeout < 30000
+        brief = (let x = le-of t.timeout (elapsed_time n t.last) f in let y = gone in let z = lt-of most (elapsed_time n t.first) (patient is_late) in let u = since in let v = a.after in let w = low in omega arith)
+
+-- time comes to a peer
+no-end : (n heard : ℕ) (pt : Patience) (t : Transmission) → pt.maximum ≡ most → transmission.ends n pt heard t ≡ false → transmission.is_late n t ≡ true → leb most (elapsed_time n t.first) ≡ false
+no-end n heard pt t same e late =
+    ap (λ m. leb m (elapsed_time n t.first)) (sym same) ∙ (or-both (leb pt.maximum (elapsed_time n t.first)) _ (ap (λ b. b && gives_up pt n heard t) (sym late) ∙ e)).0
+
+none-cleared : (R : Transmission → Type 0) (xs : List SendingEnd) → (s : SendingEnd) → Has (map cleared_sender xs) s → (t : Sent) → Has s.sender.sent t → R t.transmission
+none-cleared R xs s h t k = let c = Has-mapped cleared_sender xs s h in absurd (subst (λ (x : SendingEnd). Has x.sender.sent t) (sym c.2) k)
+
+pub ages-ticked : (now time d : ℕ) (p : Peering) → Ages now time p → time + d < 2 ^ 32 → Ages (now + d) (time + d) (ticked p ((now + d) % 2 ^ 32))
+ages-ticked now time d p h near = go (has_ended p.outbox n p.patience p.heard) refl (has_late p.outbox n) refl
+  where
+    n : ℕ
+    n = (now + d) % 2 ^ 32
+
+    R : Transmission → Type 0
+    R = Aged (now + d) (time + d)
+
+    goes : (bound : ℕ) (t : Transmission) → Aged now time t → transmission.ends n p.patience p.heard t ≡ false → R (transmission.marked bound n t)
+    goes bound t a e = aged-marked now time d bound t a near (λ late. no-end n p.heard p.patience t h.2 e late)
+
+    ends-controls : has_ended p.outbox n p.patience p.heard ≡ false → (t : SentControl) → Has p.outbox.control.sent t → transmission.ends n p.patience p.heard t.transmission ≡ false
+    ends-controls e t k = none-of (controlling.ends n p.patience p.heard) p.outbox.control.sent t (or-both (list_any (controlling.ends n p.patience p.heard) p.outbox.control.sent) _ e).0 k
+
+    ends-channels : has_ended p.outbox n p.patience p.heard ≡ false → (s : SendingEnd) → Has p.outbox.senders s → (t : Sent) → Has s.sender.sent t → transmission.ends n p.patience p.heard t.transmission ≡ false
+    ends-channels e s k t j =
+        none-of (sender.ends n p.patience p.heard) s.sender.sent t
+        (none-of (λ (x : SendingEnd). list_any (sender.ends n p.patience p.heard) x.sender.sent) p.outbox.senders s (or-both (list_any (controlling.ends n p.patience p.heard) p.outbox.control.sent) _ e).1 k) j
+
+    marks : (bound : ℕ) → has_ended p.outbox n p.patience p.heard ≡ false → Fair R most (record p { outbox = outbox.marked p.outbox bound n })
+    marks bound e = (
+      (
+        (λ t k. (let c = Has-mapped (controlling.marked bound n) p.outbox.control.sent t k in
+            subst (λ (x : SentControl). R x.transmission) c.2 (goes bound c.0.transmission (h.0.0 c.0 c.1) (ends-controls e c.0 c.1)))),
+        (λ s k t j. (let d' = Has-mapped (marked_sender bound n) p.outbox.senders s k in
+            let c = Has-mapped (sender.marked bound n) d'.0.sender.sent t (subst (λ (x : SendingEnd). Has x.sender.sent t) (sym d'.2) j) in
+            subst (λ (x : Sent). R x.transmission) c.2 (goes bound c.0.transmission (h.0.1 d'.0 d'.1 c.0 c.1) (ends-channels e d'.0 d'.1 c.0 c.1)))),
+      ),
+      h.1,
+      h.2,
+    )
+
+    -- nothing is late: all stays as it was
+    same : (t : Transmission) → transmission.is_late n t ≡ false → transmission.marked 0 n t ≡ t
+    same t e = ap (λ b. cond b (record t { timeout = transmission.grown_time 0 t.timeout; due = true }) t) e
+
+    stays : has_ended p.outbox n p.patience p.heard ≡ false → has_late p.outbox n ≡ false → Fair R most p
+    stays e f = (let both = or-both (list_any (controlling.is_late n) p.outbox.control.sent) _ f in (
+      (
+        (λ t k. subst (λ (x : Transmission). R x) (same t.transmission (none-of (controlling.is_late n) p.outbox.control.sent t both.0 k)) (goes 0 t.transmission (h.0.0 t k) (ends-controls e t k))),
+        (λ s k t j. subst (λ (x : Transmission). R x)
+            (same t.transmission (none-of (sender.is_late n) s.sender.sent t (none-of (λ (x : SendingEnd). list_any (sender.is_late n) x.sender.sent) p.outbox.senders s both.1 k) j))
+            (goes 0 t.transmission (h.0.1 s k t j) (ends-channels e s k t j))),
+      ),
+      h.1,
+      h.2,
+    ))
+
+    cut : (s : PeerState) → Fair R most (cut_off_in s p)
+    cut state.Answering = (((λ t k. absurd k), none-cleared R p.outbox.senders), h.1, h.2)
+    cut s = (((λ t k. absurd k), none-cleared R p.outbox.senders), h.1, h.2)
+
+    pings : (q : Peering) → Fair R most q → Fair R most (pinged q n)
+    pings q k = by (is_pinged q n)
+      where
+        by : (b : Bool) → Fair R most (cond b (record q { outbox = outbox.with_control q.outbox control.Ping }) q)
+        by true = k
+        by false = k
+
+    go : (e : Bool) → has_ended p.outbox n p.patience p.heard ≡ e → (late : Bool) → has_late p.outbox n ≡ late → Fair R most (pinged (after_timeouts_by (cond e End (cond late Resend No)) p n) n)
+    go true e late f = pings (cut_off_in p.state p) (cut p.state)
+    go false e true f = pings (record p { outbox = outbox.marked p.outbox (growth_bound p) n }) (marks (growth_bound p) e)
+    go false e false f = pings p (stays e f)
+
+-- nor does it matter that a peer is asked for a datagram
+pub ages-emitted : (now time : ℕ) (p : Peering) → Ages now time p → Ages now time (gone_on_in p.state (record p { outbox = (filled (pace_of p (now % 2 ^ 32)) p.outbox).outbox }))
+ages-emitted now time p h =
+    let f = filled (pace_of p (now % 2 ^ 32)) p.outbox in
+    let sends : Sends (Aged now time) (now % 2 ^ 32) (timeout p.estimate) = record { first = aged-begun now time (timeout p.estimate) (timeout-low p.estimate h.1); again = λ t a due. aged-again now time t a } in
+    fair-went (Aged now time) most (record p { outbox = f.outbox }) p.state (each-filled (Aged now time) (pace_of p (now % 2 ^ 32)) p.outbox sends h.0, h.1, h.2)
+
+-- where less time than that is known to have gone by, it is so too of more
+aged-more : (now time more : ℕ) (t : Transmission) → time ≤ more → Aged now time t → Aged now more t
+aged-more now time more t low a =
+    let since = a.since in
+    record { first = a.first; last = a.last; first_is = a.first_is; last_is = a.last_is; after = a.after; by = a.by; since = omega arith; brief = a.brief; waits = a.waits }
+
+pub ages-more : (now time more : ℕ) (p : Peering) → time ≤ more → Ages now time p → Ages now more p
+ages-more now time more p low h = (((λ t k. aged-more now time more t.transmission low (h.0.0 t k)), (λ s k t j. aged-more now time more t.transmission low (h.0.1 s k t j))), h.1, h.2)
+
+-- so many milliseconds later all that was sent is over
+pub ages-over : (now time wait : ℕ) (p : Peering) → Ages now time p → 327675 ≤ wait → time + wait < 2 ^ 32 → AllOver ((now + wait) % 2 ^ 32) p
+ages-over now time wait p h long near s k t j = by t.transmission.due refl
+  where
+    n : ℕ
+    n = (now + wait) % 2 ^ 32
+
+    a : Aged now time t.transmission
+    a = h.0.1 s k t j
+
+    gone : elapsed_time n t.transmission.last ≡ now + wait - a.last
+    gone = ap (elapsed_time n) a.last_is ∙ elapsed-is a.last (now + wait) (let x = a.by in omega arith) (let x = a.after in let y = a.since in omega arith)
+
+    over : leb t.transmission.timeout (elapsed_time n t.transmission.last) ≡ true
+    over = let x = gone in let y = a.brief in let z = a.by in let c : t.transmission.timeout ≤ elapsed_time n t.transmission.last = omega arith in grind (arith, nat_tests)
+
+    by : (due : Bool) → t.transmission.due ≡ due → (t.transmission.due ≡ true) ⊎ (sender.is_late n t ≡ true)
+    by true e = inl e
+    by false e = inr (λ i. not (e i) && over i)
