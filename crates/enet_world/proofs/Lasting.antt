@@ -31,7 +31,7 @@ pub record Lasts (P : Peering → Type 0) : Type 0 where
   pub sets : (p : Peering) (s : Setting) → MaySet s p → P p → P (with_setting s p)
 
 -- ---- alone
-obeys : (P : Peering → Type 0) (answer : Result (Unit {0}) Stop) (wants : Bool) (o : Outcome) (p q : Peering) → Obeys answer wants o p q → P p → P o.after → P q
+pub obeys : (P : Peering → Type 0) (answer : Result (Unit {0}) Stop) (wants : Bool) (o : Outcome) (p q : Peering) → Obeys answer wants o p q → P p → P o.after → P q
 obeys P (Ok done) wants o p q a h after = subst P (sym a.1) after
 obeys P (Err stop.Memory) wants o p q a h after = subst P (sym a.2) h
 obeys P (Err why) wants o p q a h after = subst P (sym a.1) after

@@ -11,3 +11,5 @@ pub mod TwoEnds
 pub mod Crossing
 pub mod InRounds
 pub mod Through
+pub mod Ages
+pub mod Commands

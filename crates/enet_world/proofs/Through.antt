@@ -413,10 +413,10 @@ through-sides s t x e f own far q channel is_e is_f a b is empty low through =
 -- ---- before and after
 -- a host has an end of connection x, and its peer is connected
 pub record IsConnected (s : Site) (x : ℕ) : Type 0 where
-  stands : Stands s x
-  connected : stands.peer.state ≡ state.Connected
+  pub stands : Stands s x
+  pub connected : stands.peer.state ≡ state.Connected
 
-connected-at : (s : Site) (x : ℕ) → state_at s x ≡ Some state.Connected → IsConnected s x
+pub connected-at : (s : Site) (x : ℕ) → state_at s x ≡ Some state.Connected → IsConnected s x
 connected-at s x h = by (end_of x s.ends) refl h
   where
     by-peer : (e : HostEnd) → end_of x s.ends ≡ Some e → (o : Option Peering) → named s.host.slots e.name ≡ o → option_map (λ (p : Peering). p.state) o ≡ Some state.Connected → IsConnected s x
@@ -463,14 +463,14 @@ joint-of j one two (inl k) = k.connection
 joint-of j one two (inr k) = joint-swap j two one k.connection
 
 -- both are connected before the rounds
-record Begun (joined : Bool) (w : World) (x : ℕ) (p q : Peering) : Type 0 where
-  own : End
-  far : End
-  up : Up joined w x A own far
-  same_p : up.p ≡ p
-  same_q : up.q ≡ q
+pub record Begun (joined : Bool) (w : World) (x : ℕ) (p q : Peering) : Type 0 where
+  pub own : End
+  pub far : End
+  pub up : Up joined w x A own far
+  pub same_p : up.p ≡ p
+  pub same_q : up.q ≡ q
 
-begun : (joined : Bool) (w : World) (x : ℕ) → IsReached joined w → (a : IsConnected w.a x) (b : IsConnected w.b x) → Begun joined w x a.stands.peer b.stands.peer
+pub begun : (joined : Bool) (w : World) (x : ℕ) → IsReached joined w → (a : IsConnected w.a x) (b : IsConnected w.b x) → Begun joined w x a.stands.peer b.stands.peer
 begun joined w x r a b = record {
   own = pair.one;
   far = pair.two;
@@ -517,7 +517,7 @@ both-so true true h = (refl, refl)
 both-so true false h = absurd (cc)
 both-so false b h = absurd (cc)
 
-shown-end-of : (s : Site) (count x : ℕ) (e : HostEnd) → IsHost s count → Has s.ends e → e.connection ≡ x → end_of x s.ends ≡ Some e
+pub shown-end-of : (s : Site) (count x : ℕ) (e : HostEnd) → IsHost s count → Has s.ends e → e.connection ≡ x → end_of x s.ends ≡ Some e
 shown-end-of s count x e k h of = subst (λ (n : ℕ). end_of n s.ends ≡ Some e) of (end-there s.ends e h (k.apart e h))
 
 parted : (n m : ℕ) → m ≤ n → (r : ℕ) × (n ≡ r + m)

@@ -147,7 +147,8 @@ impl World {
     /// after them (`World::state`): where nothing stood in the way (`Calm::is_smooth`), and the rounds were enough, each user has taken
     /// each packet flagged RELIABLE that the other has submitted on a channel below 255, in order. Rounds are enough where in one of them
     /// all timeouts of what waited for its acknowledgement at first are over, at both, and twice as many come after it as data commands
-    /// were queued or waited at first, at both, on all channels. It isn't said that peers stay connected.
+    /// were queued or waited at first, at both, on all channels: so are as many as `World::rounds_needed` tells. It isn't said that peers stay
+    /// connected.
     ///
     /// `delivered`: what a side has nothing left of has arrived. Where the peer of an end stands, still sends, and has no reliable command
     /// of a channel queued or unacknowledged after the rounds, each reliable packet that its user submitted there, and that went in order,

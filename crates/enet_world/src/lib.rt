@@ -7,13 +7,15 @@
 //! of every connection, end and channel, whatever was connected before, at the same time or after, slots used again included
 //! (`HasHeadline`), and what a host has nothing left to send of was delivered at the other (`HasDelivered`). `calm` is the stated rounds of
 //! such events in which the network loses nothing (`Rounds`), counted; enough of them bring all that was submitted reliably, of a
-//! connection that stands before and after them, where nothing stood in the way (`GetsThrough`).
+//! connection that stands before and after them, where nothing stood in the way (`GetsThrough`). `rounds_needed` tells of how many that is
+//! so (`AreEnough`), which needn't be the least number.
 //! Only tested, by scripts/rows, `check_lists` and `check_memory`: that calls succeed with ample memory, worked runs with their
-//! answers and bytes, and that a call which was refused for want of memory is answered as wanted when it is made again.
+//! answers and bytes, that `rounds_needed` tells a number where it says so, and that a call which was refused for want of memory is answered as wanted when it is made again.
 //! Neither: that a datagram arrives, or that memory is there; nor that a connection stands through rounds without losses.
 #![tactic(auto)]
 
 mod calm;
+mod enough;
 mod happening;
 mod hosts;
 mod world;

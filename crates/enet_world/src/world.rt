@@ -1,6 +1,6 @@
 //! A world of two hosts.
 
-ghost use Rattle.std.specs.Prelude.{◌≡◌, ◌&&◌, true, false, slice_get, zip, Err, IfOk, IfErr, OnErr};
+ghost use Rattle.std.specs.Prelude.{◌≡◌, ◌&&◌, true, false, slice_get, zip, Err, IfOk, IfErr, IfSome, OnErr};
 ghost use Rattle.std.specs.Option.{option_copied, option_map};
 ghost use Rattle.enet_codec.specs.Config.{is_in_range};
 ghost use Rattle.law_network.specs.Headline.{HasHeadline, end_at, submitted_at, taken_at, events_at};
@@ -9,8 +9,10 @@ ghost use Rattle.enet_site.specs.Standing.{state_at};
 ghost use Rattle.enet_world.specs.Delivered.{HasDelivered};
 ghost use Rattle.enet_world.specs.Transcript.{IsOnEachFront};
 ghost use Rattle.enet_world.specs.Worlds.{begun};
-ghost use Rattle.enet_world.specs.Private.Worlds.{IsReached};
+ghost use Rattle.enet_world.specs.Private.Enough.{AreOverIn};
+ghost use Rattle.enet_world.specs.Private.Worlds.{IsReached, passes};
 
+use crate::enough::rounds_of_a_wait;
 use crate::hosts::Hosts;
 use enet_codec::{Config, Event, Packet, Refusal};
 use enet_host::PeerState;
@@ -29,11 +31,13 @@ pub struct World {
     /// Connection 0 stands from the start.
     joined: bool,
     hosts: Hosts,
+    /// By how many milliseconds both clocks together have gone on since the beginning, counted up to 2^32 - 1.
+    passed: u32,
 }
 
 impl Model for World {
     ghost use Rattle.enet_world.specs.Worlds.{Begun};
-    ghost use Rattle.enet_world.specs.Private.Worlds.{IsReached};
+    ghost use Rattle.enet_world.specs.Private.Worlds.{IsReachedIn};
     ghost use Rattle.std.specs.Coded.{codes};
     ghost use Rattle.enet_inbox.specs.Codes.{inbox_code};
 
@@ -43,7 +47,7 @@ impl Model for World {
 
     ghost view = { λ w. record { joined = w.joined; world = w.hosts } };
 
-    ghost invariant = { λ w. IsReached w.joined w.hosts };
+    ghost invariant = { λ w. IsReachedIn w.passed w.joined w.hosts };
 }
 
 /// The other side.
@@ -53,6 +57,19 @@ pub(crate) fn other(side: Side) -> Side
     match side {
         Side::A => Side::B,
         Side::B => Side::A,
+    }
+}
+
+/// For so many milliseconds the clocks can go on before a wait that begins then could outlast their 32 bits.
+const LATEST: u32 = 4_294_500_000;
+
+/// By how many milliseconds an event's clock goes on.
+fn passes(event: &WorldEvent) -> u32
+    ensures { result ≡ passes event.now }
+{
+    match event {
+        WorldEvent::Tick { ms, .. } => (*ms).min(60_000),
+        _ => 0,
     }
 }
 
@@ -71,6 +88,7 @@ impl World {
             alloc,
             joined: false,
             hosts: Hosts::open(alloc, cfg_a, cfg_b)?,
+            passed: 0,
         })
     }
 
@@ -88,6 +106,7 @@ impl World {
             alloc,
             joined: true,
             hosts: Hosts::joined(alloc, cfg_a, cfg_b)?,
+            passed: 0,
         })
     }
 
@@ -201,7 +220,22 @@ impl World {
     {
         // A host that puts out a datagram has an end of the peer to which it goes.
         self.headline();
+        let passed = self.passed.saturating_add(passes(event));
+        self.passed = passed;
         self.hosts.happen(self.alloc, event)
+    }
+
+    /// After so many rounds of so many milliseconds all that was sent before them is due to go again, or has waited out its timeout, at both
+    /// sides. None where `ms` is 0, or the clocks have gone on for so long that the 32 bits of one may have wrapped.
+    pub(crate) fn over_in(&self, ms: u32) -> Option<u64>
+        ensures { IfSome result (λ rounds. AreOverIn rounds ms self.now.world) }
+    {
+        // The field is looked at, so that what holds of every world is known here.
+        let _ = &self.hosts;
+        if ms == 0 || self.passed >= LATEST {
+            return None;
+        }
+        Some(rounds_of_a_wait(ms))
     }
 
     /// The packets of a side's user that were accepted on a channel of a connection, in order; empty where there is no such connection

@@ -5,4 +5,4 @@ use Rattle.enet_world.proofs.Delivering.{reached-delivered}
 use Rattle.enet_world.proofs.world.World.delivered.Goals as goal
 
 pub returns : goal.returns
-returns c = subst (λ (w : Begun). HasDelivered w.world) c.self.view_is (reached-delivered c.self.inside.joined c.self.inside.hosts c.self.invariant)
+returns c = subst (λ (w : Begun). HasDelivered w.world) c.self.view_is (reached-delivered c.self.inside.joined c.self.inside.hosts c.self.invariant.reached)

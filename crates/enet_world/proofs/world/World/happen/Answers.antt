@@ -2,11 +2,13 @@ use Rattle.std.proofs.Common.{true, sym, subst}
 use Rattle.law_network.specs.Headline.{AreEnds}
 use Rattle.law_network.specs.World.{site_of}
 use Rattle.enet_world.specs.Worlds.{Begun}
-use Rattle.enet_world.proofs.Reaching.{reached-step}
+use Rattle.enet_world.proofs.Reaching.{reached-on}
 use Rattle.enet_world.proofs.world.World.happen.Goals as goal
 
 pub invariant_of-self : goal.invariant_of-self
-invariant_of-self c = reached-step c.self.inside.joined c.self.inside.hosts c.happen.new.self c.args.event.now c.happen.result c.self.invariant c.happen.ensures
+invariant_of-self c =
+    reached-on c.self.inside.passed c.passes.result c.saturating_add-passed.result c.self.inside.joined c.self.inside.hosts c.happen.new.self c.args.event.now c.happen.result c.self.invariant c.happen.ensures c.passes.ensures
+    c.saturating_add-passed.ensures
 
 pub happen-requires : goal.happen-requires
 happen-requires c = record {

@@ -4,4 +4,4 @@ use Rattle.enet_world.specs.Private.Worlds.{IsReached}
 use Rattle.enet_world.proofs.world.World.is_reached.Goals as goal
 
 pub returns : goal.returns
-returns c = subst (λ (w : Begun). IsReached w.joined w.world) c.self.view_is c.self.invariant
+returns c = subst (λ (w : Begun). IsReached w.joined w.world) c.self.view_is c.self.invariant.reached

@@ -1,4 +1,4 @@
-use Rattle.std.proofs.Common.{◌≡◌, ◌&&◌, true, false, [], ap, rules}
+use Rattle.std.proofs.Common.{refl, ◌≡◌, ◌&&◌, true, false, [], ap, rules}
 use Rattle.enet_codec.specs.Config.{is_in_range}
 use Rattle.law_network.specs.World.{World}
 use Rattle.enet_world.proofs.world.World.open.Goals as goal
@@ -9,4 +9,9 @@ returns-clause-fresh c = ap (λ (w : World). record { joined = false; world = w 
 pub invariant_of-result : goal.invariant_of-result
 invariant_of-result c =
     let in_range : is_in_range c.args.cfg_a && is_in_range c.args.cfg_b ≡ true = search rules in
-    record { a = c.args.cfg_a; b = c.args.cfg_b; in_range = in_range; events = []; answers = []; runs = c.in_ok-open.ensures.fresh }
+    record {
+      reached = record { a = c.args.cfg_a; b = c.args.cfg_b; in_range = in_range; events = []; answers = []; runs = c.in_ok-open.ensures.fresh };
+      counted = refl;
+      clock_a = search rules;
+      clock_b = search rules;
+    }

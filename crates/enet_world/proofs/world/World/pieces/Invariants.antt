@@ -1,0 +1,12 @@
+use Rattle.std.proofs.Common.{◌≡◌, ◌≤◌, ◌-◌}
+use Rattle.enet_world.specs.Private.Enough.{pieces_below}
+use Rattle.enet_world.proofs.world.World.pieces.Given as goal
+
+abbrev pub invariant-channels : goal.invariant-channels
+invariant-channels l = record {
+  counted : l.pieces ≡ pieces_below l.self.world l.conn l.side l.channel;
+  end : l.channel ≤ 255;
+}
+
+abbrev pub decreases-channels : goal.decreases-channels
+decreases-channels l = 255 - l.channel
