@@ -53,3 +53,8 @@ share_text s = codes "sent " ++ decimal s.sent ++ codes " refused " ++ decimal s
 
 abbrev pub calm_text : Calm → List ℕ
 calm_text told = codes "A " ++ share_text told.a ++ codes " B " ++ share_text told.b
+
+-- How many rounds are enough, where that is known.
+abbrev pub rounds_text : Option ℕ → List ℕ
+rounds_text None = codes "none"
+rounds_text (Some rounds) = decimal rounds

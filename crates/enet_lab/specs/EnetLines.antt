@@ -13,7 +13,7 @@ use Rattle.enet_text.specs.Words.{words, number_below, peer_of, ip_of, bytes_of,
 use Rattle.enet_lab.specs.declared.host.Host.{Host}
 use Rattle.enet_lab.specs.declared.host.Host.TheVariants.{OfWorld, OfFleet}
 use Rattle.enet_lab.specs.declared.line.Line.{Line}
-use Rattle.enet_lab.specs.declared.line.Line.TheVariants.{PassedOver, Pair, Open, Fleet, InWorld, InFleet, Calm}
+use Rattle.enet_lab.specs.declared.line.Line.TheVariants.{PassedOver, Pair, Open, Fleet, InWorld, InFleet, Calm, RoundsNeeded}
 use Rattle.enet_lab.specs.Hosts.{side_named, node_named, host_named}
 
 -- How a connection is ended, by the first word of the line.
@@ -49,6 +49,13 @@ calm_of others = of_two (λ rounds ms. do
   rounds ← number_below (2 ^ 16) rounds
   ms ← number_below (2 ^ 32) ms
   Some (Calm rounds ms)) others
+
+-- `rounds <connection> <ms>`
+abbrev pub rounds_of : List (List ℕ) → Option Line
+rounds_of others = of_two (λ connection ms. do
+  connection ← number_below (2 ^ 64) connection
+  ms ← number_below (2 ^ 32) ms
+  Some (RoundsNeeded connection ms)) others
 
 -- `connect <host> <channels> <data> <id>`: in a fleet a client asks, the server doesn't.
 abbrev pub connect_at : Host → ℕ → ℕ → ℕ → Option Line
@@ -164,7 +171,8 @@ line_of (form ∷ others) =
     else (if bytes_eq form (codes "open") then open_of others
     else (if bytes_eq form (codes "fleet") then fleet_of others
     else (if bytes_eq form (codes "calm") then calm_of others
-    else event_of form others)))
+    else (if bytes_eq form (codes "rounds") then rounds_of others
+    else event_of form others))))
 
 -- What a line spells. One that begins with `#` is passed over, as one without words is.
 unfoldable pub spells : List ℕ → Option Line

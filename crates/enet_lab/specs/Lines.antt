@@ -1,5 +1,5 @@
 -- What a line of a script does to what the lines so far have made.
-use Rattle.std.specs.Prelude.{◌≡◌, ℕ, ◌&&◌, Bool, true, false, List, [], codes, Option, Some, None, Result, Ok, Err, length, replicate, slice_get}
+use Rattle.std.specs.Prelude.{◌≡◌, ℕ, ◌&&◌, Bool, true, false, List, [], codes, Option, Some, None, Result, Ok, Err, IfSome, length, replicate, slice_get}
 use Rattle.enet_codec.specs.declared.address.Addr.{Addr}
 use Rattle.enet_codec.specs.declared.config.Config.{Config}
 use Rattle.enet_codec.specs.declared.refusal.Refusal.{Refusal}
@@ -15,6 +15,7 @@ use Rattle.law_network.specs.World.{World, site_of, side_of}
 use Rattle.law_network.specs.World as world
 use Rattle.enet_world.specs.Worlds.{Begun, begun}
 use Rattle.enet_world.specs.Calm.{Rounds}
+use Rattle.enet_world.specs.Progress.{AreEnough}
 use Rattle.enet_world.specs.declared.calm.Calm.{Calm}
 use Rattle.enet_fleet.specs.declared.answer.Answer.{Answer as FleetAnswer}
 use Rattle.enet_fleet.specs.declared.event.FleetEvent.{FleetEvent}
@@ -25,7 +26,7 @@ use Rattle.enet_fleet.specs.Reached.{fit}
 use Rattle.enet_lab.specs.declared.host.Host.TheVariants.{OfWorld, OfFleet}
 use Rattle.enet_lab.specs.declared.line.Line.{Line}
 use Rattle.enet_lab.specs.declared.line.Line.TheVariants as spelled
-use Rattle.enet_lab.specs.Answers.{outcome_shown, outcome_text, calm_text}
+use Rattle.enet_lab.specs.Answers.{outcome_shown, outcome_text, calm_text, rounds_text}
 use Rattle.enet_lab.specs.Hosts.{recipient_at}
 use Rattle.enet_lab.specs.EnetLines.{spells}
 use Rattle.enet_lab.specs.declared.stage.Stage.{Stage}
@@ -79,6 +80,12 @@ pub record StaysCalm (old : Begun) (rounds ms : ℕ) (text : List ℕ) (new : Be
   pub joined : new.joined ≡ old.joined
   pub text_is : text ≡ calm_text told
 
+-- How many rounds are enough for a connection, of which that is told.
+pub record TellsRounds (now : Begun) (connection ms : ℕ) (text : List ℕ) : Type 0 where
+  pub needed : Option ℕ
+  pub enough : IfSome needed (λ rounds. AreEnough ms rounds now.world connection)
+  pub text_is : text ≡ rounds_text needed
+
 -- The network that a first line makes: E8 exactly where a number is out of its range, else memory may be wanting.
 abbrev pub Makes : Bool → Stage → Result Stage Refusal → Type 0
 Makes in_range fresh (Ok made) = (in_range ≡ true) × (made ≡ fresh)
@@ -118,6 +125,8 @@ Does old (spelled.InWorld event) text new = ⊥
 Does (InWorld old) (spelled.Calm rounds ms) text new =
     (w : Begun) × (bytes : List ℕ) × StaysCalm old rounds ms bytes w × (text ≡ Some bytes) × (new ≡ InWorld w)
 Does old (spelled.Calm rounds ms) text new = ⊥
+Does (InWorld old) (spelled.RoundsNeeded connection ms) text new = (bytes : List ℕ) × TellsRounds old connection ms bytes × (text ≡ Some bytes) × (new ≡ InWorld old)
+Does old (spelled.RoundsNeeded connection ms) text new = ⊥
 Does (InFleet old) (spelled.InFleet event) text new =
     (f : Fleet) × (bytes : List ℕ) × StepsTo (FleetSteps old event) (fleet_text event) bytes f × (text ≡ Some bytes) × (new ≡ InFleet f)
 Does old (spelled.InFleet event) text new = ⊥
@@ -134,6 +143,8 @@ can_do (InWorld w) (spelled.InWorld event) = true
 can_do stage (spelled.InWorld event) = false
 can_do (InWorld w) (spelled.Calm rounds ms) = true
 can_do stage (spelled.Calm rounds ms) = false
+can_do (InWorld w) (spelled.RoundsNeeded connection ms) = true
+can_do stage (spelled.RoundsNeeded connection ms) = false
 can_do (InFleet f) (spelled.InFleet event) = true
 can_do stage (spelled.InFleet event) = false
 can_do stage line = is_empty stage

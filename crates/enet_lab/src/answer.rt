@@ -4,7 +4,7 @@ ghost use Rattle.std.specs.Prelude.{◌≡◌, ◌++◌, codes, IfOk};
 ghost use Rattle.std.specs.Fmt.{decimal};
 ghost use Rattle.std.specs.String.{string_bytes};
 ghost use Rattle.enet_text.specs.Texts.{bytes_text, peer_text};
-ghost use Rattle.enet_lab.specs.Answers.{to_text, text_of, shown_of, outcome_shown, outcome_text, share_text, calm_text};
+ghost use Rattle.enet_lab.specs.Answers.{to_text, text_of, shown_of, outcome_shown, outcome_text, share_text, calm_text, rounds_text};
 ghost use Rattle.enet_lab.specs.Hosts.{host_text};
 
 use crate::host::{Host, Recipient, host_text, recipient_text};
@@ -87,6 +87,16 @@ pub fn calm_text(alloc: Global, told: Calm) -> Result<String, AllocError>
     let a = share_text(alloc, told.a)?;
     let b = share_text(alloc, told.b)?;
     format!(in alloc; "A {a} B {b}")
+}
+
+/// The text of how many rounds are enough, where that is known.
+pub fn rounds_text(alloc: Global, needed: Option<u64>) -> Result<String, AllocError>
+    ensures { IfOk result (λ text. string_bytes text ≡ rounds_text needed) }
+{
+    match needed {
+        Some(rounds) => format!(in alloc; "{rounds}"),
+        None => String::from_str(alloc, "none"),
+    }
 }
 
 fn share_text(alloc: Global, share: Share) -> Result<String, AllocError>

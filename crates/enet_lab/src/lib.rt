@@ -22,7 +22,7 @@ mod script;
 mod stage;
 mod step;
 
-pub use answer::{answer_text, calm_text, outcome_text};
+pub use answer::{answer_text, calm_text, outcome_text, rounds_text};
 pub use fault::LabFault;
 pub use host::{Host, Recipient};
 pub use line::{Line, read_line};

@@ -2,7 +2,7 @@
 
 ghost use Rattle.std.specs.Prelude.{◌≡◌, ◌∷◌, IfOk};
 ghost use Rattle.enet_text.specs.Words.{words};
-ghost use Rattle.enet_lab.specs.EnetLines.{mode_named, pair_of, open_of, fleet_of, calm_of, connect_of, submit_of, deliver_of, deliver_side_of, deliver_from_of, stranger_of, turn_of, tick_of, take_of, disconnect_of, event_of, line_of, spells};
+ghost use Rattle.enet_lab.specs.EnetLines.{mode_named, pair_of, open_of, fleet_of, calm_of, rounds_of, connect_of, submit_of, deliver_of, deliver_side_of, deliver_from_of, stranger_of, turn_of, tick_of, take_of, disconnect_of, event_of, line_of, spells};
 
 use crate::host::{host_named, is, node_named, side_named};
 use enet_codec::{Addr, DisconnectMode};
@@ -53,6 +53,13 @@ pub enum Line {
         /// By how many milliseconds both clocks go on in each.
         ms: u32,
     },
+    /// It is told how many rounds are enough for a connection of it.
+    RoundsNeeded {
+        /// The number of the connection.
+        connection: u64,
+        /// By how many milliseconds both clocks go on in each.
+        ms: u32,
+    },
     /// Something happens in a fleet.
     InFleet(FleetEvent),
 }
@@ -86,6 +93,9 @@ fn read_form(alloc: Global, form: &[u8], rest: &[u8]) -> Result<Option<Line>, Al
     }
     if is(form, b"calm") {
         return Ok(calm(rest));
+    }
+    if is(form, b"rounds") {
+        return Ok(rounds(rest));
     }
     read_event(alloc, form, rest)
 }
@@ -135,6 +145,15 @@ fn calm(text: &[u8]) -> Option<Line>
     let rounds = u16_of(rounds)?;
     let ms = u32_of(ms)?;
     Some(Line::Calm { rounds, ms })
+}
+
+fn rounds(text: &[u8]) -> Option<Line>
+    ensures { result ≡ rounds_of (words text.now) }
+{
+    let (connection, ms) = two(text)?;
+    let connection = u64_of(connection)?;
+    let ms = u32_of(ms)?;
+    Some(Line::RoundsNeeded { connection, ms })
 }
 
 // How a network goes on that a line of this form spells with these words behind it.

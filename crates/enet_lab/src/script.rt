@@ -11,7 +11,7 @@ ghost use Rattle.enet_lab.specs.Private.Lines.{IsRefused};
 
 use crate::fault::LabFault;
 use crate::stage::Stage;
-use crate::step::{fleet_step, world_calm, world_step};
+use crate::step::{fleet_step, world_calm, world_rounds, world_step};
 use crate::{Line, read_line};
 use enet_codec::{Config, Refusal};
 use enet_fleet::FleetEvent;
@@ -65,6 +65,7 @@ impl Script {
             Line::InWorld(event) => self.step_world(event),
             Line::InFleet(event) => self.step_fleet(event),
             Line::Calm { rounds, ms } => self.calm(rounds, ms),
+            Line::RoundsNeeded { connection, ms } => self.rounds_needed(connection, ms),
             Line::Pair { channels } => self.pair(Config::standard(1, channels)),
             Line::Open {
                 peers_a,
@@ -178,6 +179,18 @@ impl Script {
             return Err(LabFault::BadScript(self.lines));
         };
         Ok(Some(world_calm(self.alloc, world, rounds, ms)?))
+    }
+
+    /// Tells how many rounds are enough for a connection of the world.
+    fn rounds_needed(&mut self, connection: u64, ms: u32) -> Result<Option<String>, LabFault>
+        ensures lines { self.new.lines ≡ self.old.lines }
+        ensures does { IfOk result (λ answer. Does self.old.stage (spelled.RoundsNeeded connection ms) (option_map string_bytes answer) self.new.stage) }
+        ensures unreadable { IfErr result (IsRefused self.old.lines (can_do self.old.stage (spelled.RoundsNeeded connection ms))) }
+    {
+        let Stage::InWorld(world) = &self.stage else {
+            return Err(LabFault::BadScript(self.lines));
+        };
+        Ok(Some(world_rounds(self.alloc, world, connection, ms)?))
     }
 
     /// Makes an event happen in the fleet.

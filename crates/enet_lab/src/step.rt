@@ -3,10 +3,10 @@
 ghost use Rattle.std.specs.Prelude.{◌≡◌, IfOk};
 ghost use Rattle.std.specs.Option.{option_map};
 ghost use Rattle.std.specs.String.{string_bytes};
-ghost use Rattle.enet_lab.specs.Lines.{FleetSteps, StaysCalm, StepsTo, WorldSteps, bytes_shown, fleet_text, sent_shown, world_text};
+ghost use Rattle.enet_lab.specs.Lines.{FleetSteps, StaysCalm, StepsTo, TellsRounds, WorldSteps, bytes_shown, fleet_text, sent_shown, world_text};
 
 use crate::answer::outcome_shown;
-use crate::{Host, Recipient, calm_text, outcome_text};
+use crate::{Host, Recipient, calm_text, outcome_text, rounds_text};
 use enet_codec::{Addr, Refusal};
 use enet_fleet::{Fleet, FleetEvent, Node, node_of};
 use enet_world::{World, side_of};
@@ -48,6 +48,19 @@ pub(crate) fn world_calm(
 {
     let told = world.calm(rounds, ms);
     calm_text(alloc, told)
+}
+
+/// Tells how many rounds are enough for a connection of a world.
+pub(crate) fn world_rounds(
+    alloc: Global,
+    world: &World,
+    connection: u64,
+    ms: u32,
+) -> Result<String, AllocError>
+    ensures { IfOk result (λ text. TellsRounds world.now connection ms (string_bytes text)) }
+{
+    let needed = world.rounds_needed(connection, ms);
+    rounds_text(alloc, needed)
 }
 
 /// Makes one event happen in a fleet, and gives the text of its answer.

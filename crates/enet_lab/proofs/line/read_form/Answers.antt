@@ -19,6 +19,10 @@ pub returns-then-is-4 : goal.returns-then-is-4
 unfolding line_of
 returns-then-is-4 c = search rules
 
+pub returns-then-is-5 : goal.returns-then-is-5
+unfolding line_of
+returns-then-is-5 c = search rules
+
 pub returns : goal.returns
 unfolding line_of
 returns c =
