@@ -100,18 +100,12 @@ impl House {
     // A host asks the server at this address for a connection; it is forgotten once the server tells that it is connected.
     fn let_in(&mut self, from: Addr, channels: u8) -> Result<Guest> {
         let mut host = HostCore::open(self.alloc, Config::standard(1, channels))?;
-        let word = self.draw.word();
-        host.connect(address(0), channels, 0, word)?;
-        self.bring(&mut host, from)?;
-        self.give(&mut host, from);
-        let header = self.bring(&mut host, from)?;
-        let Some(event) = self.server.next_event() else {
-            bail!("nobody is connected");
-        };
-        self.digest.event(&event);
-        let Event::Connect { peer, .. } = event else {
-            bail!("not a connection");
-        };
+        self.connect(&mut host, from, channels)
+    }
+
+    fn connect(&mut self, host: &mut HostCore, from: Addr, channels: u8) -> Result<Guest> {
+        let header = self.shake_hands(host, from, channels)?;
+        let peer = self.who_connected()?;
         self.server.set_ping_interval(peer, NEVER)?;
         Ok(Guest {
             peer,
@@ -119,6 +113,27 @@ impl House {
             slot: header.peer,
             session: header.session,
         })
+    }
+
+    // The host asks, is answered, and acknowledges that. The header of its acknowledgement.
+    fn shake_hands(&mut self, host: &mut HostCore, from: Addr, channels: u8) -> Result<Header> {
+        let word = self.draw.word();
+        host.connect(address(0), channels, 0, word)?;
+        self.bring(host, from)?;
+        self.give(host, from);
+        self.bring(host, from)
+    }
+
+    // The peer of which the server tells that it is connected.
+    fn who_connected(&mut self) -> Result<PeerRef> {
+        let Some(event) = self.server.next_event() else {
+            bail!("nobody is connected");
+        };
+        self.digest.event(&event);
+        match event {
+            Event::Connect { peer, .. } => Ok(peer),
+            _ => bail!("not a connection"),
+        }
     }
 
     // The host's datagram goes to the server. Its header.

@@ -58,15 +58,17 @@ pub struct World {
 impl World {
     /// A server with no client.
     pub fn open(alloc: Global, plan: Plan, seed: u64) -> Result<World> {
+        let network = Network::new(alloc, plan.line, seed.wrapping_add(1))?;
         let mut config = Config::standard(plan.slots, plan.channels);
         config.clock = 5;
+        let server = HostCore::open(alloc, config)?;
         Ok(World {
             alloc,
             plan,
-            server: HostCore::open(alloc, config)?,
+            server,
             clients: Vec::new(alloc),
             peers: Vec::new(alloc),
-            network: Network::new(alloc, plan.line, seed.wrapping_add(1))?,
+            network,
             buf: [0; 4096],
             turn: 0,
             taken: 0,
