@@ -35,14 +35,20 @@ pub fn struggle(alloc: Global, seed: u64, steps: u32, asks: bool) -> Result<Dige
         },
         seed,
     )?;
+    struggle_in(alloc, &mut world, steps)?;
+    Ok(world.digest)
+}
+
+// All clients come, and then so many steps go by.
+fn struggle_in(alloc: Global, world: &mut World, steps: u32) -> Result<()> {
     for client in 0..CLIENTS {
         world.join(CHANNELS[usize::from(client % 4)])?;
     }
     for step in 0..steps {
-        happen(alloc, &mut world, step)?;
+        happen(alloc, world, step)?;
         world.step()?;
     }
-    Ok(world.digest)
+    Ok(())
 }
 
 // What is submitted in a step: every 33 ms a client's inputs and the server's view of the world, and every four seconds

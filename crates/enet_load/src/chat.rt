@@ -56,6 +56,16 @@ fn take_turns<R: Wait + Clock>(
     for _ in 0..clients {
         room.join()?;
     }
+    take_turns_in(rt, &mut room, bound, turns)?;
+    Ok(room.digest)
+}
+
+fn take_turns_in<R: Wait + Clock>(
+    rt: &R,
+    room: &mut Room,
+    bound: &mut BoundService<MemoryWire>,
+    turns: u32,
+) -> Result<()> {
     for turn in 0..turns {
         room.speak()?;
         room.turn(rt, bound)?;
@@ -64,7 +74,7 @@ fn take_turns<R: Wait + Clock>(
             bound.show(Report::nothing(), &mut Unwatched);
         }
     }
-    Ok(room.digest)
+    Ok(())
 }
 
 /// The relay, the clients and the network between them and the service.
@@ -82,6 +92,7 @@ struct Room {
 
 impl Room {
     fn open(alloc: Global, seed: u64) -> Result<Room> {
+        let network = Network::new(alloc, LINE, seed.wrapping_add(1))?;
         let gauge = Gauge::new();
         let relay = LoneRelay::new(
             alloc,
@@ -95,7 +106,7 @@ impl Room {
             relay,
             gauge,
             clients: Vec::new(alloc),
-            network: Network::new(alloc, LINE, seed.wrapping_add(1))?,
+            network,
             buf: [0; 4096],
             draw: Draw::new(seed),
             digest: Digest::new(),

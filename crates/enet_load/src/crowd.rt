@@ -36,17 +36,28 @@ pub fn gather(alloc: Global, seed: u64, steps: u32, asks: bool) -> Result<Digest
         },
         seed,
     )?;
+    gather_in(alloc, &mut world, steps)?;
+    Ok(world.digest)
+}
+
+fn gather_in(alloc: Global, world: &mut World, steps: u32) -> Result<()> {
     for step in 0..steps {
-        for _ in 0..40 {
-            if step < CLIENTS / 40 {
-                world.join(2)?;
-            }
+        if step < CLIENTS / 40 {
+            join_some(world)?;
         }
-        speak(alloc, &mut world)?;
-        intrude(alloc, &mut world, step)?;
+        speak(alloc, world)?;
+        intrude(alloc, world, step)?;
         world.step()?;
     }
-    Ok(world.digest)
+    Ok(())
+}
+
+// 40 clients more.
+fn join_some(world: &mut World) -> Result<()> {
+    for _ in 0..40 {
+        world.join(2)?;
+    }
+    Ok(())
 }
 
 // Some of those who talk do.
@@ -81,6 +92,10 @@ fn intrude(alloc: Global, world: &mut World, step: u32) -> Result<()> {
 
 fn ask(alloc: Global, world: &mut World) -> Result<()> {
     let mut host = HostCore::open(alloc, Config::standard(1, 2))?;
+    ask_as(&mut host, world)
+}
+
+fn ask_as(host: &mut HostCore, world: &mut World) -> Result<()> {
     let word = world.draw.word();
     let from = stranger(world.draw.word());
     host.connect(address(0), 2, 0, word)?;

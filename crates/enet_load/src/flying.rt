@@ -16,40 +16,55 @@ const ALL: u8 = 255;
 /// milliseconds of 1 ms. Nobody asks when something is due.
 pub fn take_oldest(alloc: Global, seed: u64, size: Size) -> Result<Digest> {
     let mut house = fill(alloc, seed, size)?;
+    take_oldest_in(&mut house, size)?;
+    Ok(house.digest)
+}
+
+fn take_oldest_in(house: &mut House, size: Size) -> Result<()> {
     let sent = house.clock;
     for ms in 0..size.count {
         house.tick(1);
         if ms % size.pace.max(1) == 0 {
-            acknowledge_all(&mut house, ms / size.pace.max(1), sent)?;
+            acknowledge_all(house, ms / size.pace.max(1), sent)?;
         }
         house.send_all();
     }
-    Ok(house.digest)
+    Ok(())
 }
 
 /// The same with the newest one, COUNT times: every PACE milliseconds, or where PACE is 0 with no time between.
 pub fn take_newest(alloc: Global, seed: u64, size: Size) -> Result<Digest> {
     let mut house = fill(alloc, seed, size)?;
+    take_newest_in(&mut house, size)?;
+    Ok(house.digest)
+}
+
+fn take_newest_in(house: &mut House, size: Size) -> Result<()> {
     let sent = house.clock;
     for round in 0..size.count {
         let place = size.commands.saturating_sub(1).saturating_sub(round);
-        acknowledge_all(&mut house, place, sent)?;
+        acknowledge_all(house, place, sent)?;
         house.send_all();
-        rest(&mut house, size.pace);
+        rest(house, size.pace);
     }
-    Ok(house.digest)
+    Ok(())
 }
 
 // All slots have a peer with so many commands in flight.
 fn fill(alloc: Global, seed: u64, size: Size) -> Result<House> {
     let mut house = House::open(alloc, seed, size.slots, CHANNELS)?;
+    fill_all(&mut house, size)?;
+    Ok(house)
+}
+
+fn fill_all(house: &mut House, size: Size) -> Result<()> {
     house.invite(size.slots, CHANNELS)?;
     house.delay(CHANNELS)?;
     for number in 0..house.len() {
-        tell_many(&mut house, number, size.commands)?;
+        tell_many(house, number, size.commands)?;
     }
     house.send_all();
-    Ok(house)
+    Ok(())
 }
 
 fn tell_many(house: &mut House, number: usize, commands: u32) -> Result<()> {
@@ -78,20 +93,30 @@ fn channel_of(command: u32) -> u8 {
 /// acknowledged every PACE milliseconds, for COUNT milliseconds of 1 ms.
 pub fn block(alloc: Global, seed: u64, size: Size) -> Result<Digest> {
     let mut house = House::open(alloc, seed, size.slots, ALL)?;
+    fill_channels(&mut house, size)?;
+    release_by_turns(&mut house, size)?;
+    Ok(house.digest)
+}
+
+fn fill_channels(house: &mut House, size: Size) -> Result<()> {
     house.invite(size.slots, ALL)?;
     house.delay(ALL)?;
     for round in 0..size.commands.saturating_mul(u32::from(ALL)) {
-        tell_each(&mut house, (round % u32::from(ALL)) as u8)?;
+        tell_each(house, (round % u32::from(ALL)) as u8)?;
     }
     house.send_all();
+    Ok(())
+}
+
+fn release_by_turns(house: &mut House, size: Size) -> Result<()> {
     for ms in 0..size.count {
         house.tick(1);
         if ms % size.pace.max(1) == 0 {
-            release(&mut house, ms / size.pace.max(1))?;
+            release(house, ms / size.pace.max(1))?;
         }
         house.send_all();
     }
-    Ok(house.digest)
+    Ok(())
 }
 
 fn tell_each(house: &mut House, channel: u8) -> Result<()> {

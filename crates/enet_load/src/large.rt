@@ -35,6 +35,12 @@ pub fn carry(alloc: Global, seed: u64, times: u32, asks: bool) -> Result<Digest>
         },
         seed,
     )?;
+    carry_in(alloc, &mut world, times)?;
+    Ok(world.digest)
+}
+
+// All clients come, and then large packets go so many times.
+fn carry_in(alloc: Global, world: &mut World, times: u32) -> Result<()> {
     for _ in 0..CLIENTS {
         world.join(4)?;
     }
@@ -42,9 +48,9 @@ pub fn carry(alloc: Global, seed: u64, times: u32, asks: bool) -> Result<Digest>
         world.step()?;
     }
     for _ in 0..times {
-        give(alloc, &mut world)?;
+        give(alloc, world)?;
     }
-    Ok(world.digest)
+    Ok(())
 }
 
 // A length of 20,000 bytes to 4 MB, short ones more often.

@@ -32,34 +32,48 @@ use std::sync::Wait;
 fn main(rt: HostRuntime) -> Result<()> {
     let alloc = rt.alloc();
     let mut args = env::args(&rt)?.skip(1);
-    let Some(word) = args.next() else {
-        return run_all(&rt, alloc);
-    };
-    if word.as_str() == "worst" {
-        let Some(row) = args.next() else {
-            bail!("a row is missing");
-        };
-        let seed = number(args.next())?;
-        let size = Size {
-            count: number(args.next())?,
-            slots: u16::try_from(number(args.next())?)?,
-            commands: number(args.next())?,
-            pace: number(args.next())?,
-        };
-        let digest = run_row(alloc, row.as_str(), u64::from(seed), size)?;
-        return print(&rt, row.as_str(), digest);
+    match args.next() {
+        None => run_all(&rt, alloc),
+        Some(word) if word.as_str() == "worst" => run_worst(&rt, alloc, &mut args),
+        Some(word) => run_word(&rt, alloc, word.as_str(), &mut args),
     }
+}
+
+// The row that the next words name.
+fn run_worst<R: Print, I: Iterator<Item = String>>(
+    rt: &R,
+    alloc: Global,
+    args: &mut I,
+) -> Result<()> {
+    let Some(row) = args.next() else {
+        bail!("a row is missing");
+    };
+    let seed = number(args.next())?;
+    let size = size_of(args)?;
+    let digest = run_row(alloc, row.as_str(), u64::from(seed), size)?;
+    print(rt, row.as_str(), digest)
+}
+
+fn size_of<I: Iterator<Item = String>>(args: &mut I) -> Result<Size> {
+    Ok(Size {
+        count: number(args.next())?,
+        slots: u16::try_from(number(args.next())?)?,
+        commands: number(args.next())?,
+        pace: number(args.next())?,
+    })
+}
+
+// The job of this word, as the next words say.
+fn run_word<R: Print + Wait + Clock, I: Iterator<Item = String>>(
+    rt: &R,
+    alloc: Global,
+    word: &str,
+    args: &mut I,
+) -> Result<()> {
     let seed = number(args.next())?;
     let count = number(args.next())?;
-    let digest = run(
-        &rt,
-        alloc,
-        word.as_str(),
-        u64::from(seed),
-        count,
-        args.next(),
-    )?;
-    print(&rt, word.as_str(), digest)
+    let digest = run(rt, alloc, word, u64::from(seed), count, args.next())?;
+    print(rt, word, digest)
 }
 
 fn number(word: Option<String>) -> Result<u32> {

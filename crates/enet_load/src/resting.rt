@@ -12,15 +12,20 @@ const TALKERS: u16 = 8;
 /// All slots have something in flight and rest; then each is woken, the highest first. COUNT times.
 pub fn wake(alloc: Global, seed: u64, size: Size, waking: Waking) -> Result<Digest> {
     let mut house = House::open(alloc, seed, size.slots, 2)?;
+    wake_in(&mut house, size, waking)?;
+    Ok(house.digest)
+}
+
+fn wake_in(house: &mut House, size: Size, waking: Waking) -> Result<()> {
     house.invite(size.slots, 2)?;
     house.delay(1)?;
-    tell_all(&mut house)?;
+    tell_all(house)?;
     for _ in 0..size.count {
-        rest(&mut house, 3);
-        wake_all(&mut house, waking)?;
+        rest(house, 3);
+        wake_all(house, waking)?;
         house.send_all();
     }
-    Ok(house.digest)
+    Ok(())
 }
 
 fn tell_all(house: &mut House) -> Result<()> {
@@ -46,19 +51,23 @@ fn wake_all(house: &mut House, waking: Waking) -> Result<()> {
 /// All slots have something in flight, the first one since longest. That one is woken, and it is asked COUNT times when something is due.
 pub fn ask(alloc: Global, seed: u64, size: Size) -> Result<Digest> {
     let mut house = House::open(alloc, seed, size.slots, 2)?;
+    wake_first(&mut house, size)?;
+    for _ in 0..size.count {
+        house.digest.number(u64::from(house.server.due_in()));
+    }
+    Ok(house.digest)
+}
+
+fn wake_first(house: &mut House, size: Size) -> Result<()> {
     house.invite(size.slots, 2)?;
     house.delay(1)?;
     let first = house.guest(0)?;
     house.tell(first, 0, RELIABLE, 12)?;
     house.send_all();
     house.tick(10);
-    tell_all(&mut house)?;
-    rest(&mut house, 4);
-    house.knock(first)?;
-    for _ in 0..size.count {
-        house.digest.number(u64::from(house.server.due_in()));
-    }
-    Ok(house.digest)
+    tell_all(house)?;
+    rest(house, 4);
+    house.knock(first)
 }
 
 /// The last eight slots talk, and all others are free again: each talker says something every 16 ms and gets an answer, for COUNT ms.
@@ -67,20 +76,31 @@ pub fn talk_behind(alloc: Global, seed: u64, size: Size) -> Result<Digest> {
     let mut house = House::open(alloc, seed, size.slots, 2)?;
     house.invite(size.slots, 2)?;
     let first = size.slots.saturating_sub(TALKERS);
-    for number in 0..first {
+    let_go(&mut house, first)?;
+    speak_by_turns(&mut house, first, size.count)?;
+    Ok(house.digest)
+}
+
+// The guests of so many slots are let go.
+fn let_go(house: &mut House, slots: u16) -> Result<()> {
+    for number in 0..slots {
         let guest = house.guest(usize::from(number))?;
         house.server.disconnect_now(guest.peer, 0)?;
     }
     house.send_all();
-    for ms in 0..size.count {
+    Ok(())
+}
+
+fn speak_by_turns(house: &mut House, first: u16, count: u32) -> Result<()> {
+    for ms in 0..count {
         house.tick(1);
         if ms % 2 == 0 {
             let talker = (ms / 2 % u32::from(TALKERS)) as u16;
-            speak(&mut house, first.wrapping_add(talker), ms / 16)?;
+            speak(house, first.wrapping_add(talker), ms / 16)?;
         }
         house.send_all();
     }
-    Ok(house.digest)
+    Ok(())
 }
 
 // The talker of this number says something; it acknowledges what it got for the last one, and gets an answer.
@@ -98,19 +118,24 @@ fn speak(house: &mut House, talker: u16, round: u32) -> Result<()> {
 /// COUNT seconds go by, in each of which all slots are looked at.
 pub fn share_out(alloc: Global, seed: u64, size: Size, seconds: Seconds) -> Result<Digest> {
     let mut house = House::open(alloc, seed, size.slots, 2)?;
+    go_by(&mut house, size, seconds)?;
+    house.digest.number(u64::from(house.server.due_in()));
+    Ok(house.digest)
+}
+
+fn go_by(house: &mut House, size: Size, seconds: Seconds) -> Result<()> {
     match seconds {
         Seconds::Free => {}
         Seconds::Used | Seconds::AfterSettings => house.invite(size.slots, 2)?,
     }
     for second in 0..size.count {
         if let Seconds::AfterSettings = seconds {
-            limit(&mut house, second)?;
+            limit(house, second)?;
         }
         house.tick(1000);
         house.send_all();
     }
-    house.digest.number(u64::from(house.server.due_in()));
-    Ok(house.digest)
+    Ok(())
 }
 
 // The server's bandwidth is set anew, and each guest acknowledges that. Command 1 of channel 0xFF let it in.

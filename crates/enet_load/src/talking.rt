@@ -38,6 +38,12 @@ pub fn talk(alloc: Global, seed: u64, frames: u32, channels: u8, asks: bool) -> 
         },
         seed,
     )?;
+    talk_in(alloc, &mut world, frames, channels)?;
+    Ok(world.digest)
+}
+
+// All clients come, and then they talk for so many frames.
+fn talk_in(alloc: Global, world: &mut World, frames: u32, channels: u8) -> Result<()> {
     for _ in 0..CLIENTS {
         world.join(channels)?;
         world.step()?;
@@ -46,9 +52,9 @@ pub fn talk(alloc: Global, seed: u64, frames: u32, channels: u8, asks: bool) -> 
         world.step()?;
     }
     for _ in 0..frames {
-        frame(alloc, &mut world, channels)?;
+        frame(alloc, world, channels)?;
     }
-    Ok(world.digest)
+    Ok(())
 }
 
 fn frame(alloc: Global, world: &mut World, channels: u8) -> Result<()> {

@@ -55,6 +55,11 @@ pub fn run_row(alloc: Global, row: &str, seed: u64, size: Size) -> Result<Digest
 // A peer that is let go comes back from its address at once: COUNT times, one in each millisecond.
 fn come_back(alloc: Global, seed: u64, size: Size) -> Result<Digest> {
     let mut house = House::open(alloc, seed, size.slots, 2)?;
+    come_back_in(&mut house, size)?;
+    Ok(house.digest)
+}
+
+fn come_back_in(house: &mut House, size: Size) -> Result<()> {
     house.invite(size.slots, 2)?;
     house.tick(20);
     for round in 0..size.count {
@@ -62,5 +67,5 @@ fn come_back(alloc: Global, seed: u64, size: Size) -> Result<Digest> {
         house.come_again(number, 2)?;
         house.tick(1);
     }
-    Ok(house.digest)
+    Ok(())
 }
