@@ -1,16 +1,22 @@
 #!/usr/bin/env bash
-# Refuses growths inside drawn lists of `check_lists`, at drawn places, and prints what came of it: `check-memory-lists.sh [CASES]`,
-# 40 cases where none is given, five of each list. The program is built once, by `rt try`, in which the growth number LAST fails; a
-# case is told on standard input which list happens, and to make so many growths before it that the refused one is a growth of
-# that list. What is refused is passed over, and the rest of the list happens; the program ends with status 1 where the world then tells
-# something else, or where the list breaks the headline. The last line is 'N growths refused: ..'; the status is 0 where no list broke.
-cd "$(dirname "$0")/../crates/check_lists" || exit 1
+# Refuses growths inside drawn lists of `check_lists` (trials/src), at drawn places, and prints what came of it: `check-memory-lists.sh
+# [CASES]`, 40 cases where none is given, five of each list. The program (trials/alone) becomes a crate in a copy of the repository and is
+# built once, by `rt try`, in which the growth number LAST fails; a case is told on standard input which list happens, and to make so many
+# growths before it that the refused one is a growth of that list. What is refused is passed over, and the rest of the list happens; the
+# program ends with status 1 where the world then tells something else, or where the list breaks the headline. The last line is 'N growths
+# refused: ..'; the status is 0 where no list broke.
+cd "$(dirname "$0")/.." || exit 1
 cases=${1:-40}
 last=4000
 most=400
 room=$(mktemp -d) || exit 1
 trap 'rm -rf "$room"' EXIT
-mkdir "$room/cases"
+mkdir -p "$room/cases" "$room/crates/alone/src"
+tar -cf - --exclude='crates/*/out' crates crates.txt HANDLES | tar -xf - -C "$room" || exit 1
+cp -r trials/alone/main.rt.in trials/src/check_lists trials/src/check_lists.rt.in "$room/crates/alone/src" || exit 1
+find "$room/crates/alone/src" -name '*.in' | while IFS= read -r file; do mv "$file" "${file%.in}"; done
+cat trials/alone/line >> "$room/crates.txt"
+cd "$room/crates/alone" || exit 1
 place=1
 for ((i = 0; i < cases; i++)); do
     place=$((place * 16807 % 2147483647))

@@ -26,7 +26,7 @@ cd "$there" || exit 1
 rt fmt > "$room/laid" 2>&1
 failed=$(grep -c '^rt: formatted ' "$room/laid")
 sed -n 's/^rt: formatted \(.*\)/FAILED trials\/\1.in: not as rt fmt lays it out/p' "$room/laid"
-data=(--data peer.txt=peer.txt)
+data=(--data peer.txt=peer.txt --data lists.txt=lists.txt --data fleets.txt=fleets.txt)
 for file in captured/*.txt; do
     data+=(--data "${file#captured/}=$file")
 done
