@@ -12,14 +12,15 @@ begun=$SECONDS
 room=$(mktemp -d) || exit 1
 trap 'kill $(jobs -p) 2> /dev/null; wait; rm -rf "$room"' EXIT
 
-# Runs the commands of the standard input, a line each, one after another in the background. `show` waits for them and shows what they said.
+# Runs the commands of the standard input, a line each, one after another in the background (`<&0`: a job there reads nothing otherwise).
+# `show` waits for them and shows what they said.
 row() {
     local command
     while IFS= read -r command; do
         echo "== $command"
         $command < /dev/null || echo "$command" >> "$room/failed"
         echo "   after $((SECONDS - begun)) seconds"
-    done > "$room/$1" 2>&1 &
+    done <&0 > "$room/$1" 2>&1 &
     eval "$1=$!"
 }
 show() {
