@@ -2,10 +2,12 @@
 # All tests: the gate (every proof from nothing, the must-fail edits, the programs), whether the edits that the gate leaves alone still fit
 # the text, the definitions that documents quote, the names, files and commits that they cite, the trials of the crates, the worked
 # scripts and captured datagrams through the built program, each growth of memory of worked rows refused in turn, the instructions of the
-# benchmark's jobs, clients of the reference library that talk through the program, what its operator's lines do, whom it lets in and what it tells of
-# itself, what deploy/ has, and the library for C. Each but the gate ends with a line 'N passed, M failed'; the status is other than 0 where anything failed.
-# Some run side by side, in rows, so that two processors have something to do to the end: what reads texts and needs no program runs beside
-# the gate, with what that leaves of the processors; then what counts beside what talks through sockets. A row's output is shown once all of it ended.
+# benchmark's jobs, clients of the reference library that talk through the program, what its operator's lines do, whom it lets in and what
+# it tells of itself, what deploy/ has, and the library for C. Each but the gate ends with a line 'N passed, M failed'; the status is other
+# than 0 where anything failed.
+# They run side by side, in rows, so that two processors have something to do to the end: what needs no program runs from the beginning,
+# with what the gate leaves of the processors; once that passed, what counts runs beside what talks through sockets. A row's output is
+# shown once all of it ended.
 set -u
 cd "$(dirname "$0")/.." || exit 1
 begun=$SECONDS
@@ -45,8 +47,10 @@ renice -n 19 "$texts" > "$room/nice"
 RT_JOBS=${RT_JOBS:-$(nproc)} rt ci
 gate=$?
 echo "rt ci ended with status $gate after $((SECONDS - begun)) seconds"
-show texts
-[ "$gate" = 0 ] || exit 1
+if [ "$gate" != 0 ]; then
+    show texts
+    exit 1
+fi
 row counts << 'END'
 bash scripts/check-rows.sh
 bash scripts/check-inspect.sh
@@ -61,6 +65,7 @@ bash scripts/check-admission.sh
 bash scripts/check-metrics.sh
 bash scripts/check-deploy.sh
 END
+show texts
 show counts
 show talks
 echo "all tests ended after $((SECONDS - begun)) seconds"
