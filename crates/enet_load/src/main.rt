@@ -25,7 +25,8 @@ use crate::worst::{Size, run_row};
 use anyhow::{Context, Result, bail};
 use enet_testbed::Digest;
 use std::alloc::Global;
-use std::env;
+use std::env::{self, Args};
+use std::iter::Skip;
 use std::rt::{Clock, Env};
 use std::sync::Wait;
 
@@ -40,11 +41,7 @@ fn main(rt: HostRuntime) -> Result<()> {
 }
 
 // The row that the next words name.
-fn run_worst<R: Print, I: Iterator<Item = String>>(
-    rt: &R,
-    alloc: Global,
-    args: &mut I,
-) -> Result<()> {
+fn run_worst<R: Print>(rt: &R, alloc: Global, args: &mut Skip<Args>) -> Result<()> {
     let Some(row) = args.next() else {
         bail!("a row is missing");
     };
@@ -54,7 +51,7 @@ fn run_worst<R: Print, I: Iterator<Item = String>>(
     print(rt, row.as_str(), digest)
 }
 
-fn size_of<I: Iterator<Item = String>>(args: &mut I) -> Result<Size> {
+fn size_of(args: &mut Skip<Args>) -> Result<Size> {
     Ok(Size {
         count: number(args.next())?,
         slots: u16::try_from(number(args.next())?)?,
@@ -64,11 +61,11 @@ fn size_of<I: Iterator<Item = String>>(args: &mut I) -> Result<Size> {
 }
 
 // The job of this word, as the next words say.
-fn run_word<R: Print + Wait + Clock, I: Iterator<Item = String>>(
+fn run_word<R: Print + Wait + Clock>(
     rt: &R,
     alloc: Global,
     word: &str,
-    args: &mut I,
+    args: &mut Skip<Args>,
 ) -> Result<()> {
     let seed = number(args.next())?;
     let count = number(args.next())?;
