@@ -18,7 +18,7 @@ const LENGTHS: [usize; 7] = [0, 1, 100, 1_363, 1_364, 1_365, 20_000];
 /// How many packets are said.
 pub const SAID: u32 = 7;
 
-/// A client, from its asking for a connection to its end.
+/// A client of one connection.
 #[derive(Drop)]
 pub struct Visit {
     alloc: Global,
@@ -28,26 +28,21 @@ pub struct Visit {
 }
 
 impl Visit {
-    /// Asks the server at this address for a connection. E14 where there is no socket, E1 for want of memory.
-    pub fn open<R>(rt: &R, server: Addr) -> Result<Visit, Refusal>
-    where
-        R: Net + Clock + AllocGlobal,
-    {
-        let mut node = Node::open(
-            rt,
-            Addr {
-                ip: server.ip,
-                port: 0,
-            },
-            Config::standard(1, CHANNELS),
-        )?;
-        node.host.connect(server, CHANNELS, 0, connect_id(rt))?;
+    /// A client at this address of the machine that has asked for nothing yet. E14 where there is no socket, E1 for want of memory.
+    pub fn open<R: Net + AllocGlobal>(rt: &R, ip: u32) -> Result<Visit, Refusal> {
+        let node = Node::open(rt, Addr { ip, port: 0 }, Config::standard(1, CHANNELS))?;
         Ok(Visit {
             alloc: rt.alloc(),
             node,
             came_back: 0,
             ended: false,
         })
+    }
+
+    /// Asks the server at this address for a connection. E1 for want of memory.
+    pub fn ask<R: Clock>(&mut self, rt: &R, server: Addr) -> Result<(), Refusal> {
+        self.node.host.connect(server, CHANNELS, 0, connect_id(rt))?;
+        Ok(())
     }
 
     /// How many packets came back as they were said, in order.

@@ -37,6 +37,10 @@ enum Task {
 
 fn task_of<R: Env + AllocGlobal>(rt: &R) -> Option<Task> {
     let words: Vec<String> = env::args(rt).ok()?.collect(rt.alloc()).ok()?;
+    task_in(&words)
+}
+
+fn task_in(words: &[String]) -> Option<Task> {
     let port = words.get(2)?.parse::<u16>().ok()?;
     let at = Addr {
         ip: LOCALHOST,
@@ -55,18 +59,33 @@ fn task_of<R: Env + AllocGlobal>(rt: &R) -> Option<Task> {
 
 fn serve<R: Net + Wait + Clock + AllocGlobal>(rt: &R, at: Addr, turns: u32) -> Result<(), Refusal> {
     let mut server = Server::open(rt, at)?;
+    take_turns(rt, &mut server, turns)
+}
+
+fn take_turns<R: Wait + Clock>(rt: &R, server: &mut Server, turns: u32) -> Result<(), Refusal> {
     for _ in 0..turns {
         server.turn(rt)?;
     }
     Ok(())
 }
 
-/// Visits the server at this address, beside one of this process where it is given, until all came back and the connection ended.
-fn visit<R>(rt: &R, at: Addr, mut server: Option<Server>) -> Result<u32, Refusal>
+/// Visits the server at this address, beside one of this process where it is given. How many packets came back.
+fn visit<R>(rt: &R, at: Addr, server: Option<&mut Server>) -> Result<u32, Refusal>
 where
     R: Net + Wait + Clock + AllocGlobal,
 {
-    let mut visit = Visit::open(rt, at)?;
+    let mut visit = Visit::open(rt, at.ip)?;
+    go_through(rt, &mut visit, at, server)
+}
+
+/// Asks the server at this address for a connection, and takes turns until all came back and the connection ended.
+fn go_through<R: Wait + Clock>(
+    rt: &R,
+    visit: &mut Visit,
+    at: Addr,
+    mut server: Option<&mut Server>,
+) -> Result<u32, Refusal> {
+    visit.ask(rt, at)?;
     for _ in 0..MOST_TURNS {
         if let Some(server) = &mut server {
             server.turn(rt)?;
@@ -90,8 +109,8 @@ where
         }
         Task::Visit { at } => visit(rt, at, None).map(Some),
         Task::Both { at } => {
-            let server = Server::open(rt, at)?;
-            visit(rt, at, Some(server)).map(Some)
+            let mut server = Server::open(rt, at)?;
+            visit(rt, at, Some(&mut server)).map(Some)
         }
     }
 }

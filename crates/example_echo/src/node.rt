@@ -18,13 +18,12 @@ pub struct Node {
 }
 
 impl Node {
-    /// Listens at this address; at port 0, at a port that the system chooses. E8 where a number of the settings is out of its range, E14
-    /// where the address can't be had, E1 for want of memory.
+    /// Listens at this address; at port 0, at a port that the system chooses. E14 where the address can't be had, E8 where a number of the
+    /// settings is out of its range, E1 for want of memory.
     pub fn open<R: Net + AllocGlobal>(rt: &R, at: Addr, config: Config) -> Result<Node, Refusal> {
-        Ok(Node {
-            host: HostCore::open(rt.alloc(), config)?,
-            wire: MioWire::bind(rt, at)?,
-        })
+        let wire = MioWire::bind(rt, at)?;
+        let host = HostCore::open(rt.alloc(), config)?;
+        Ok(Node { host, wire })
     }
 
     /// Sleeps until a datagram comes, at most 5 ms, tells the host how much time passed, and hands it what came.
