@@ -17,7 +17,7 @@ mod rule;
 
 use enet_codec::{Addr, Config, Refusal};
 use enet_service::{
-    BoundService, Ends, EventReceiver, MioWire, OrderSender, QueueSink, QueueSource, Queues,
+    Bell, BoundService, Ends, EventReceiver, MioWire, OrderSender, QueueSink, QueueSource, Queues,
     RunLength, Shared, Signals, Unwatched, beside_turns,
 };
 use game::Game;
@@ -50,6 +50,10 @@ struct Settings {
 
 fn settings_of<R: Env + AllocGlobal>(rt: &R) -> Option<Settings> {
     let words: Vec<String> = env::args(rt).ok()?.collect(rt.alloc()).ok()?;
+    settings_in(&words)
+}
+
+fn settings_in(words: &[String]) -> Option<Settings> {
     Some(Settings {
         at: Addr {
             ip: LOCALHOST,
@@ -66,24 +70,33 @@ fn serve<R>(rt: &R, settings: Settings) -> Result<u32, Refusal>
 where
     R: Threads + Wait + Net + Clock + Sync + AllocGlobal,
 {
-    let alloc = rt.alloc();
     let wire = MioWire::bind(rt, settings.at)?;
     let bell = wire.bell()?;
+    let mut bound = BoundService::open(rt.alloc(), wire, Config::standard(CLIENTS, CHANNELS))?;
+    let won = begin(rt, &mut bound, &bell, settings);
+    bound.close();
+    won
+}
+
+/// Opens the queues between the service and the game, and plays it.
+fn begin<R: Threads + Wait + Clock + Sync + AllocGlobal>(
+    rt: &R,
+    bound: &mut BoundService<MioWire>,
+    bell: &Bell,
+    settings: Settings,
+) -> Result<u32, Refusal> {
     let Queues {
         orders,
         events,
         ends,
-    } = Queues::open(alloc, CAPACITY)?;
+    } = Queues::open(rt.alloc(), CAPACITY)?;
     let shared = Shared {
         queue: &orders,
         events: &events,
-        bell: &bell,
+        bell,
         signals: &Signals::new(),
     };
-    let mut bound = BoundService::open(alloc, wire, Config::standard(CLIENTS, CHANNELS))?;
-    let won = play(rt, &mut bound, shared, ends, settings);
-    bound.close();
-    won
+    play(rt, bound, shared, ends, settings)
 }
 
 /// Plays the game beside the service, between these queues.
@@ -117,8 +130,7 @@ fn play<R: Threads + Wait + Clock + Sync + AllocGlobal>(
         &mut Unwatched,
         &mut || -> Result<(), Refusal> { game.play(rt, signals, settings.wins) },
     );
-    served?;
-    played?;
+    served.and(played)?;
     Ok(game.wins())
 }
 
