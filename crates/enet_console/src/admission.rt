@@ -1,6 +1,6 @@
 //! What `serve` can be told of its socket and of whom it lets in.
 
-use clap::{Arg, ArgAction, ArgMatches, value_parser};
+use clap::{Arg, ArgAction, ArgMatches, Command, value_parser};
 use std::alloc::{AllocError, Global};
 use std::net::Ipv4Addr;
 
@@ -21,21 +21,23 @@ pub struct Admission {
     pub banned: Vec<u32>,
 }
 
-/// Adds these options to those of a command.
-pub fn add_admission<'a>(alloc: Global, args: &mut Vec<Arg<'a>>) -> Result<(), AllocError> {
-    args.push(mtu(alloc))?;
-    args.push(receive_buffer(alloc))?;
-    args.push(per_address(alloc))?;
-    args.push(connects_per_second(alloc))?;
-    args.push(connects_per_address(alloc))?;
-    args.push(ban(alloc))?;
-    Ok(())
+/// The command with these options.
+pub fn with_admission<'a>(alloc: Global, command: Command<'a>) -> Result<Command<'a>, AllocError> {
+    command
+        .arg(mtu(alloc)?)?
+        .arg(receive_buffer(alloc))?
+        .arg(per_address(alloc))?
+        .arg(connects_per_second(alloc))?
+        .arg(connects_per_address(alloc))?
+        .arg(ban(alloc))
 }
 
-fn mtu<'a>(alloc: Global) -> Arg<'a> {
-    number(alloc, "mtu", 576, 4_096)
-        .help("The greatest length of a datagram in bytes, without the 28 of its headers")
-        .default_value("1392")
+fn mtu<'a>(alloc: Global) -> Result<Arg<'a>, AllocError> {
+    Ok(
+        number(alloc, "mtu", 576, 4_096)
+            .help("The greatest length of a datagram in bytes, without the 28 of its headers")
+            .default_value("1392"),
+    )
 }
 
 fn receive_buffer<'a>(alloc: Global) -> Arg<'a> {

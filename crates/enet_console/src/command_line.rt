@@ -1,6 +1,6 @@
 //! What the program can be told.
 
-use crate::admission::{Admission, add_admission, read_admission};
+use crate::admission::{Admission, read_admission, with_admission};
 use clap::error::ErrorKind;
 use clap::{Arg, ArgAction, ArgMatches, Command, Error, value_parser};
 use enet_codec::Addr;
@@ -106,18 +106,10 @@ impl From<AllocError> for Unread {
 /// Reads the command line. `--help` is answered here.
 pub fn read_task<R: Env + Print + Eprint + AllocGlobal>(rt: &R) -> Result<Task, Unread> {
     let words = words_of(rt)?;
-    read_words(rt, words.as_slice())
-}
-
-fn read_words<R: Print + Eprint + AllocGlobal>(rt: &R, words: &[String]) -> Result<Task, Unread> {
-    match command(rt.alloc())?.try_get_matches_from(words) {
-        Ok(found) => task_in(rt.alloc(), &found),
+    match command(rt.alloc())?.try_get_matches_from(words.as_slice()) {
+        Ok(found) => task_of(rt.alloc(), &found)?.ok_or(Unread::Refused),
         Err(error) => answer(rt, &error),
     }
-}
-
-fn task_in(alloc: Global, found: &ArgMatches<'_>) -> Result<Task, Unread> {
-    task_of(alloc, found)?.ok_or(Unread::Refused)
 }
 
 // The words of the command line. A word that isn't text is refused.
@@ -141,32 +133,19 @@ fn answer<R: Print + Eprint>(rt: &R, error: &Error) -> Result<Task, Unread> {
 }
 
 fn command<'a>(alloc: Global) -> Result<Command<'a>, AllocError> {
-    let mut subcommands = Vec::new(alloc);
-    add_subcommands(alloc, &mut subcommands)?;
+    let lab = Command::new(alloc, "lab").about(
+        "Runs a script from standard input and writes one answer per line",
+    );
     Command::new(alloc, "enet_relay")
         .about(
             "Hosts of ENet 1.3: a lab for them, what datagrams say, a server that relays chat, and a demonstration of it",
         )
         .disable_help_subcommand(true)
         .subcommand_required(true)
-        .subcommands(subcommands)
-}
-
-fn add_subcommands<'a>(
-    alloc: Global,
-    subcommands: &mut Vec<Command<'a>>,
-) -> Result<(), AllocError> {
-    subcommands.push(lab_command(alloc))?;
-    subcommands.push(inspect_command(alloc)?)?;
-    subcommands.push(serve_command(alloc)?)?;
-    subcommands.push(demo_command(alloc)?)?;
-    Ok(())
-}
-
-fn lab_command<'a>(alloc: Global) -> Command<'a> {
-    Command::new(alloc, "lab").about(
-        "Runs a script from standard input and writes one answer per line",
-    )
+        .subcommand(lab)?
+        .subcommand(inspect_command(alloc)?)?
+        .subcommand(serve_command(alloc)?)?
+        .subcommand(demo_command(alloc)?)
 }
 
 fn inspect_command<'a>(alloc: Global) -> Result<Command<'a>, AllocError> {
@@ -177,33 +156,20 @@ fn inspect_command<'a>(alloc: Global) -> Result<Command<'a>, AllocError> {
 }
 
 fn serve_command<'a>(alloc: Global) -> Result<Command<'a>, AllocError> {
-    let mut args = Vec::new(alloc);
-    add_service(alloc, &mut args)?;
-    Command::new(alloc, "serve")
+    let serve = Command::new(alloc, "serve")
         .about("Relays chat between the ENet clients that connect")
-        .args(args)
-}
-
-// The options of `serve`, in the order of its help.
-fn add_service<'a>(alloc: Global, args: &mut Vec<Arg<'a>>) -> Result<(), AllocError> {
-    args.push(port(alloc))?;
-    args.push(address(alloc))?;
-    args.push(peers(alloc))?;
-    args.push(channels(alloc))?;
-    args.push(queue_capacity(alloc)?)?;
-    add_run(alloc, args)?;
-    add_admission(alloc, args)
-}
-
-// How long it serves and by which threads, and what it tells whom.
-fn add_run<'a>(alloc: Global, args: &mut Vec<Arg<'a>>) -> Result<(), AllocError> {
-    args.push(turns(alloc))?;
-    args.push(forever(alloc)?)?;
-    args.push(logs(alloc))?;
-    args.push(threads(alloc))?;
-    args.push(control(alloc)?)?;
-    args.push(metrics(alloc)?)?;
-    Ok(())
+        .arg(port(alloc))?
+        .arg(address(alloc))?
+        .arg(peers(alloc))?
+        .arg(channels(alloc))?
+        .arg(queue_capacity(alloc)?)?
+        .arg(turns(alloc))?
+        .arg(forever(alloc)?)?
+        .arg(logs(alloc))?
+        .arg(threads(alloc))?
+        .arg(control(alloc)?)?
+        .arg(metrics(alloc)?)?;
+    with_admission(alloc, serve)
 }
 
 fn demo_command<'a>(alloc: Global) -> Result<Command<'a>, AllocError> {
