@@ -1,7 +1,7 @@
 //! What `inspect --timeline` draws.
 
 use crate::failure::Failure;
-use enet_captured::{Timeline, read_timeline};
+use enet_captured::read_timeline;
 use enet_text::InspectFault;
 use enet_timeline::{draw, summarize};
 use std::io::{ErrorKind, Read, Write};
@@ -16,31 +16,15 @@ where
 {
     let input = read_input(rt, file)?;
     let timeline = read_timeline(rt.alloc(), input.as_slice()).map_err(Failure::Timeline)?;
-    draw_timeline(rt, &timeline, picture)
-}
-
-fn draw_timeline<R>(rt: &R, timeline: &Timeline, picture: &str) -> Result<(), Failure>
-where
-    R: Files + Print + AllocGlobal,
-{
-    let words = summarize(rt.alloc(), timeline)?;
-    let drawn = draw(rt.alloc(), timeline)?;
-    put_out(rt, picture, drawn.as_str(), words.as_str())?;
+    let words = summarize(rt.alloc(), &timeline)?;
+    let drawn = draw(rt.alloc(), &timeline)?;
+    fs::write(rt, picture, drawn.as_str()).map_err(Failure::File)?;
+    write_words(rt, words.as_str())?;
     if timeline.is_cut {
         let packets = timeline.datagrams.saturating_add(timeline.others);
         return Err(Failure::Inspect(InspectFault::CutShort(packets)));
     }
     Ok(())
-}
-
-fn put_out<R: Files + Print>(
-    rt: &R,
-    picture: &str,
-    drawn: &str,
-    words: &str,
-) -> Result<(), Failure> {
-    fs::write(rt, picture, drawn).map_err(Failure::File)?;
-    write_words(rt, words)
 }
 
 fn read_input<R>(rt: &R, file: Option<String>) -> Result<Vec<u8>, Failure>

@@ -52,7 +52,10 @@ where
         Task::Lab => {
             lab(rt.alloc(), &mut rt.reader(), &mut io::writer(rt)).map_err(Failure::Lab)?;
         }
-        Task::Inspect(options) => inspect(rt, options)?,
+        Task::Inspect(InspectOptions { file, picture }) => match picture {
+            None => inspect_input(rt, file)?,
+            Some(picture) => draw_capture(rt, file, picture.as_str())?,
+        },
         Task::Serve(options) => serve(rt, options)?,
         Task::Demo(options) => {
             if !demonstrate(rt, options)? {
@@ -61,17 +64,6 @@ where
         }
     }
     Ok(ExitCode::SUCCESS)
-}
-
-fn inspect<R>(rt: &R, options: InspectOptions) -> Result<(), Failure>
-where
-    R: Files + Input + Print + AllocGlobal,
-{
-    let InspectOptions { file, picture } = options;
-    match picture {
-        None => inspect_input(rt, file),
-        Some(picture) => draw_capture(rt, file, picture.as_str()),
-    }
 }
 
 fn main(rt: HostRuntime) -> ExitCode {

@@ -91,44 +91,22 @@ where
         options.logs,
         options.is_controlled,
     )?;
-    match options.metrics {
-        None => serve_watched(rt, server, options, &gauge, &mut operator),
-        Some(address) => {
-            let mut pages = Pages::open(rt, SocketAddr::from(address)).map_err(Failure::Metrics)?;
-            serve_told(rt, server, options, &gauge, &mut operator, &mut pages)
-        }
-    }
-}
-
-// Serves, and tells figures on these pages meanwhile.
-fn serve_told<R>(
-    rt: &R,
-    server: &mut ChatServer,
-    options: &ServeOptions,
-    gauge: &Gauge,
-    operator: &mut Operator<'_, R>,
-    pages: &mut Pages,
-) -> Result<(), Failure>
-where
-    R: Threads + Wait + Net + Clock + Sync + Print + Eprint + AllocGlobal,
-{
+    let Some(address) = options.metrics else {
+        return serve_watched(rt, server, options, &gauge, &mut operator);
+    };
     let figures = shared(Figures::new(rt, rt.alloc())?, rt.alloc())?;
-    operator.tell(monitor_of(server, &figures)?);
+    operator.tell(Monitor::new(another(&figures)?, server.register()?));
+    let mut pages = Pages::open(rt, SocketAddr::from(address)).map_err(Failure::Metrics)?;
     let (served, _pages) = join_mut(
         rt,
         &mut || -> Result<(), Failure> {
-            let served = serve_watched(rt, server, options, gauge, operator);
+            let served = serve_watched(rt, server, options, &gauge, &mut operator);
             figures.end();
             served
         },
         &mut || pages.serve(rt, &figures),
     );
     served
-}
-
-fn monitor_of(server: &ChatServer, figures: &Arc<Figures, Global>) -> Result<Monitor, Refusal> {
-    let figures = another(figures)?;
-    Ok(Monitor::new(figures, server.register()?))
 }
 
 // Figures that the watch and the pages share.
