@@ -83,7 +83,7 @@ static void show_peer(const ENetHost *host, const ENetPeer *peer, enet_uint16 po
     if (strcmp(moment, "connected")) COUNT(peer, incomingDataTotal), COUNT(peer, outgoingDataTotal); /* else it depends on the second */
     TIME(peer, lastSendTime), TIME(peer, lastReceiveTime);
     TIME(peer, nextTimeout), TIME(peer, earliestTimeout), TIME(peer, packetLossEpoch), COUNT(peer, packetsSent);
-    NUMBER(peer, packetsLost), NUMBER(peer, packetLoss), NUMBER(peer, packetLossVariance);
+    NUMBER(peer, packetLoss), NUMBER(peer, packetLossVariance); /* packetsLost: c/tests/alike.c, since on a busy machine a command goes twice */
     COUNT(peer, packetThrottle), NUMBER(peer, packetThrottleLimit), NUMBER(peer, packetThrottleCounter), TIME(peer, packetThrottleEpoch);
     NUMBER(peer, packetThrottleAcceleration), NUMBER(peer, packetThrottleDeceleration), NUMBER(peer, packetThrottleInterval);
     NUMBER(peer, pingInterval), NUMBER(peer, timeoutLimit), NUMBER(peer, timeoutMinimum), NUMBER(peer, timeoutMaximum);
