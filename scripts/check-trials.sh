@@ -30,7 +30,7 @@ data=(--data peer.txt=peer.txt --data lists.txt=lists.txt --data fleets.txt=flee
 for file in captured/*.txt; do
     data+=(--data "${file#captured/}=$file")
 done
-rt try --test --seconds 600 "${data[@]}" > "$room/said" 2>&1
+rt try --test --seconds 1800 "${data[@]}" > "$room/said" 2>&1
 grep -vE '^(test .* \.\.\. ok|tests: [0-9]+|test result: .*|races: .*|run=ended status=0 .*)$' "$room/said"
 passed=$(sed -nE 's/^test result: [A-Za-z]+\. ([0-9]+) passed; ([0-9]+) failed.*/\1/p' "$room/said")
 lost=$(sed -nE 's/^test result: [A-Za-z]+\. ([0-9]+) passed; ([0-9]+) failed.*/\2/p' "$room/said")

@@ -5,9 +5,8 @@
 # benchmark's jobs, clients of the reference library that talk through the program, what its operator's lines do, whom it lets in and what
 # it tells of itself, what deploy/ has, and the library for C. Each but the gate ends with a line 'N passed, M failed'; the status is other
 # than 0 where anything failed.
-# They run side by side, in rows, so that two processors have something to do to the end: what needs no program runs from the beginning,
-# with what the gate leaves of the processors; once that passed, what counts runs beside what talks through sockets. A row's output is
-# shown once all of it ended.
+# They run side by side, in rows, so that two processors have something to do to the end: what needs no program runs beside the gate; once
+# that passed, what counts runs beside what talks through sockets. A row's output is shown once all of it ended.
 set -u
 cd "$(dirname "$0")/.." || exit 1
 begun=$SECONDS
@@ -42,7 +41,6 @@ python3 scripts/quotes.py
 python3 scripts/check-documents.py
 bash scripts/check-trials.sh
 END
-renice -n 19 "$texts" > "$room/nice"
 # One check a processor: several processors on one check take twice the processor time for the same proof.
 RT_JOBS=${RT_JOBS:-$(nproc)} rt ci
 gate=$?
