@@ -1,46 +1,45 @@
 #!/usr/bin/env bash
-# Refuses each growth of memory in turn while worked rows run: of hosts (the scripts that stand in crates/check_hosts), of two hosts with a
-# network between them, of a fleet, and of the making of both queues. The fleet's row is run with calls behind it, too, that take no memory: it
-# may have no more growths then. Before that each row runs with ample memory, where no call may be refused.
+# Refuses each growth of memory in turn while worked rows run: of hosts (trials/hosts), of two hosts with a network between them, of a fleet,
+# and of the making of both queues. The fleet's row is run with calls behind it, too, that take no memory: it may have no more growths then.
+# Before that each row runs with ample memory, where no call may be refused.
 # Then hosts are filled with each kind of thing as far as it goes (scripts/filled.awk), over an allocator that counts (measure/counted.c):
 # what it gave may be no more than the definitions say (specs/Memory of enet_host).
-# The programs are those that `rt ci`, or `rt run` in crates/check_memory and crates/check_hosts, leaves. clients/faults.c, loaded into them,
-# refuses growth k of run k, until the one that is refused stands behind the row: that run ends with status 4. A refused call has to be
-# answered by a refusal and to change nothing that reading calls tell, and the row goes on by repeating it once (check_memory and check_hosts
-# compare). Prints for each row how many growths were refused; the last line is 'N passed, M failed', in rows, and the status 1 where one failed.
+# The program is out/scarce, which build-scarce.sh makes of trials/scarce; where it isn't there, it is built first. clients/faults.c, loaded
+# into it, refuses growth k of run k, until the one that is refused stands behind the row: that run ends with status 4. A refused call has to be
+# answered by a refusal and to change nothing that reading calls tell, and the row goes on by repeating it once (the program compares).
+# Prints for each row how many growths were refused; the last line is 'N passed, M failed', in rows, and the status 1 where one failed.
 # It ends within a minute. A row has at most so many growths as the argument says, 1,000 where none is given.
 cd "$(dirname "$0")/.." || exit 1
 . scripts/clients.sh
 . scripts/tally.sh
 most=${1:-1000}
 
-# Runs the program $1 with growth $2 refused (none where that is 0), and the standard input $room/input.
+# Runs the program with growth $1 refused (none where that is 0), and the standard input $room/input.
 run_with() {
-    FAULTS_AT=$2 LD_PRELOAD=$room/faults.so timeout 60 "crates/$1/out/$1" < "$room/input" > "$room/out" 2>&1
+    FAULTS_AT=$1 LD_PRELOAD=$room/faults.so timeout 60 out/scarce < "$room/input" > "$room/out" 2>&1
 }
 
-# Whether the program said of $1 scripts that they went as expected, of which one or none met a refusal.
+# Whether the program said that all went as expected.
 is_as_expected() {
-    [ "$(grep -c 'as expected, [0-9]* growths refused$' "$room/out")" -eq "$1" ] && [ "$(wc -l < "$room/out")" -eq "$1" ] &&
-        [ "$(grep -c 'as expected, [1-9][0-9]* growths refused$' "$room/out")" -le 1 ]
+    [[ $(<"$room/out") =~ ^as\ expected,\ [0-9]+\ growths\ refused$ ]]
 }
 
-# Runs the program $2, which has $3 scripts, with each of its growths refused in turn. The row is told as $1.
+# Runs the program with each of its growths refused in turn. The row is told as $1.
 row() {
     local k status answered=0 own=0 silent=0
-    run_with "$2" 0
+    run_with 0
     status=$?
-    if [ "$status" -ne 0 ] || ! is_as_expected "$3" || grep -q '[1-9][0-9]* growths refused$' "$room/out"; then
+    if [ "$status" -ne 0 ] || [ "$(<"$room/out")" != 'as expected, 0 growths refused' ]; then
         fail "$1" "with ample memory it ends with status $status: $(head -c 400 "$room/out")"
         return
     fi
     for ((k = 1; k <= most; k++)); do
-        run_with "$2" "$k"
+        run_with "$k"
         status=$?
         [ "$status" -ne 4 ] || break
         if [ "$status" -eq 2 ]; then
             own=$((own + 1))
-        elif [ "$status" -ne 0 ] || ! is_as_expected "$3"; then
+        elif [ "$status" -ne 0 ] || ! is_as_expected; then
             fail "$1" "growth $k refused: status $status: $(head -c 400 "$room/out")"
             return
         elif grep -q '[1-9][0-9]* growths refused$' "$room/out"; then
@@ -61,7 +60,7 @@ row() {
 # The same of a script of the lab.
 lab_row() {
     { echo 0; cat "scripts/rows/$1.lab"; echo =; cat "scripts/rows/$1.out"; } > "$room/input"
-    row "$1" check_memory 1
+    row "$1"
 }
 
 # A host that is filled with the kind $1, as scripts/filled.awk says, with $2 channels, of whose packets $3 bytes may wait. It prints what it
@@ -70,7 +69,7 @@ fill() {
     local name="$1 on $2 channels, where $3 bytes may wait" commands bytes
     awk -v kind="$1" -v channels="$2" -v waiting="$3" -f scripts/filled.awk > "$room/filled.hosts"
     read -r _ _ commands bytes < "$room/filled.hosts"
-    if ! (cd "$room" && COUNTED=held LD_PRELOAD=$room/counted.so timeout 60 "$OLDPWD/crates/check_hosts/out/check_hosts" filled \
+    if ! (cd "$room" && COUNTED=held LD_PRELOAD=$room/counted.so timeout 60 "$OLDPWD/out/scarce" filled \
         "$((commands * command + bytes))" < /dev/null > "$room/out" 2>&1); then
         fail "$name" "$(tail -c 400 "$room/out")"
         return
@@ -103,8 +102,8 @@ filled() {
 room=$(mktemp -d) || exit 1
 trap 'rm -rf "$room"' EXIT
 declare -A growths
-if ! [ -x crates/check_memory/out/check_memory -a -x crates/check_hosts/out/check_hosts ]; then
-    fail 'check_memory or check_hosts' "it isn't there: run 'rt ci', or 'rt run' in its folder"
+if ! [ -x out/scarce ] && ! bash scripts/build-scarce.sh; then
+    fail scarce "it can't be built"
 elif ! build_clients "$room"; then
     fail clients "the C programs can't be built"
 else
@@ -114,11 +113,13 @@ else
     done
     for name in fleet 'fleet and on' queues; do
         printf '0\n%s' "$name" > "$room/input"
-        row "$name" check_memory 1
+        row "$name"
     done
     [ "${growths[fleet]}" = "${growths['fleet and on']}" ] || fail fleet 'calls of it that take no memory have growths'
-    echo 0 > "$room/input"
-    row hosts check_hosts 5
+    for name in connect-offer connect-handshake connect-refusals disconnect-now-and-connect-again bandwidth-and-throttle-commands; do
+        { echo 0; echo hosts; cat "trials/hosts/$name.hosts"; } > "$room/input"
+        row "$name of hosts"
+    done
     filled
 fi
 echo "$passed passed, $failed failed"

@@ -3,8 +3,8 @@
 # the text, the definitions that documents quote, the names, files and commits that they cite, the trials of the crates, the worked
 # scripts and captured datagrams through the built program, each growth of memory of worked rows refused in turn, the instructions of the
 # benchmark's jobs, clients of the reference library that talk through the program, what its operator's lines do, whom it lets in and what
-# it tells of itself, what deploy/ has, and the library for C. Each but the gate ends with a line 'N passed, M failed'; the status is other
-# than 0 where anything failed.
+# it tells of itself, what deploy/ has, and the library for C. Each test but the gate ends with a line 'N passed, M failed'; the status is
+# other than 0 where anything failed.
 # They run side by side, in rows, so that two processors have something to do to the end: what needs no program runs beside the gate; once
 # that passed, what counts runs beside what talks through sockets. A row's output is shown once all of it ended.
 set -u
@@ -33,9 +33,10 @@ library() {
     if bash scripts/archive-c.sh > /dev/null; then bash scripts/check-c.sh; else echo '0 passed, 1 failed'; false; fi
 }
 
-# What the crates' folders have of built libraries goes first, so that those that stand there afterwards are the gate's.
-rm -rf crates/*/out/rlib crates/enet_c/out/libenet_c.a
+# What the crates' folders have of built libraries goes first, so that those that stand there afterwards are the gate's; out/scarce, too.
+rm -rf crates/*/out/rlib crates/enet_c/out/libenet_c.a out/scarce
 row texts << 'END'
+bash scripts/build-scarce.sh
 bash scripts/check-edits.sh --read
 python3 scripts/quotes.py
 python3 scripts/check-documents.py
