@@ -2,7 +2,7 @@
 
 use anyhow::Result;
 use enet_codec::{RELIABLE, UNRELIABLE_FRAGMENT, UNSEQUENCED};
-use enet_testbed::{Digest, Line, Plan, Rule, World};
+use enet_testbed::{Line, Plan, Rule, World};
 use std::alloc::Global;
 
 /// How many clients there are.
@@ -19,28 +19,22 @@ const LINE: Line = Line {
     spread: 110,
 };
 
-/// 12 clients talk for so many steps of 1 ms over a bad line, some with 255 channels. The server tells each of them where all
-/// things are, and of many things at once that have changed.
-pub fn struggle(alloc: Global, seed: u64, steps: u32, asks: bool) -> Result<Digest> {
-    let mut world = World::open(
-        alloc,
-        Plan {
-            slots: 20,
-            channels: 255,
-            line: LINE,
-            rule: Rule::Keep,
-            ms: 1,
-            every: 1,
-            asks,
-        },
-        seed,
-    )?;
-    struggle_in(alloc, &mut world, steps)?;
-    Ok(world.digest)
+/// A server of 20 slots and 255 channels that keeps what comes.
+pub fn plan(asks: bool) -> Plan {
+    Plan {
+        slots: 20,
+        channels: 255,
+        line: LINE,
+        rule: Rule::Keep,
+        ms: 1,
+        every: 1,
+        asks,
+    }
 }
 
-// All clients come, and then so many steps go by.
-fn struggle_in(alloc: Global, world: &mut World, steps: u32) -> Result<()> {
+/// 12 clients come and talk for so many steps of 1 ms over a bad line, some with 255 channels. The server tells each of them where all
+/// things are, and of many things at once that have changed.
+pub fn struggle(alloc: Global, world: &mut World, steps: u32) -> Result<()> {
     for client in 0..CLIENTS {
         world.join(CHANNELS[usize::from(client % 4)])?;
     }

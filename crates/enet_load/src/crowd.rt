@@ -3,7 +3,7 @@
 use anyhow::Result;
 use enet_codec::{Addr, Config, RELIABLE};
 use enet_host::HostCore;
-use enet_testbed::{Digest, Line, Plan, Rule, World, address};
+use enet_testbed::{Line, Plan, Rule, World, address};
 use std::alloc::Global;
 
 /// How many clients there are in the end.
@@ -20,27 +20,22 @@ const LINE: Line = Line {
     spread: 4,
 };
 
-/// For so many steps of 10 ms clients come to a host of 4,095 slots, 40 a step until there are 3,500. 300 of them talk, each to
-/// eight others; strangers ask for connections and send what nobody can read.
-pub fn gather(alloc: Global, seed: u64, steps: u32, asks: bool) -> Result<Digest> {
-    let mut world = World::open(
-        alloc,
-        Plan {
-            slots: 4095,
-            channels: 2,
-            line: LINE,
-            rule: Rule::Next(8),
-            ms: 10,
-            every: 16,
-            asks,
-        },
-        seed,
-    )?;
-    gather_in(alloc, &mut world, steps)?;
-    Ok(world.digest)
+/// A host of 4,095 slots that hands each packet to eight others.
+pub fn plan(asks: bool) -> Plan {
+    Plan {
+        slots: 4095,
+        channels: 2,
+        line: LINE,
+        rule: Rule::Next(8),
+        ms: 10,
+        every: 16,
+        asks,
+    }
 }
 
-fn gather_in(alloc: Global, world: &mut World, steps: u32) -> Result<()> {
+/// For so many steps of 10 ms clients come, 40 a step until there are 3,500. 300 of them talk, each to eight others; strangers ask for
+/// connections and send what nobody can read.
+pub fn gather(alloc: Global, world: &mut World, steps: u32) -> Result<()> {
     for step in 0..steps {
         if step < CLIENTS / 40 {
             join_some(world)?;

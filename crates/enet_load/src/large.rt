@@ -2,7 +2,7 @@
 
 use anyhow::{Result, bail};
 use enet_codec::{RELIABLE, UNRELIABLE_FRAGMENT};
-use enet_testbed::{Digest, Line, Plan, Rule, World};
+use enet_testbed::{Line, Plan, Rule, World};
 use std::alloc::Global;
 
 /// How many clients there are.
@@ -19,28 +19,22 @@ const LINE: Line = Line {
     spread: 0,
 };
 
-/// So many times each of six clients gets a reliable packet of 20,000 bytes to 4 MB, and one of them sends such a packet; beside it the
-/// server sends unreliable ones of 5,000 bytes.
-pub fn carry(alloc: Global, seed: u64, times: u32, asks: bool) -> Result<Digest> {
-    let mut world = World::open(
-        alloc,
-        Plan {
-            slots: 16,
-            channels: 4,
-            line: LINE,
-            rule: Rule::Keep,
-            ms: 2,
-            every: 1,
-            asks,
-        },
-        seed,
-    )?;
-    carry_in(alloc, &mut world, times)?;
-    Ok(world.digest)
+/// A server of 16 slots that keeps what comes.
+pub fn plan(asks: bool) -> Plan {
+    Plan {
+        slots: 16,
+        channels: 4,
+        line: LINE,
+        rule: Rule::Keep,
+        ms: 2,
+        every: 1,
+        asks,
+    }
 }
 
-// All clients come, and then large packets go so many times.
-fn carry_in(alloc: Global, world: &mut World, times: u32) -> Result<()> {
+/// Six clients come. So many times each gets a reliable packet of 20,000 bytes to 4 MB, and one of them sends such a packet; beside it the
+/// server sends unreliable ones of 5,000 bytes.
+pub fn carry(alloc: Global, world: &mut World, times: u32) -> Result<()> {
     for _ in 0..CLIENTS {
         world.join(4)?;
     }

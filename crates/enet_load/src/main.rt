@@ -23,7 +23,7 @@ mod worst;
 
 use crate::worst::{Size, run_row};
 use anyhow::{Context, Result, bail};
-use enet_testbed::Digest;
+use enet_testbed::{Digest, Plan, World};
 use std::alloc::Global;
 use std::env::{self, Args};
 use std::iter::Skip;
@@ -101,14 +101,34 @@ fn run<R: Wait + Clock>(
 }
 
 fn run_job(alloc: Global, word: &str, seed: u64, count: u32, asks: bool) -> Result<Digest> {
+    if word == "capture" {
+        return capture::tell(alloc, seed, count);
+    }
+    let mut world = World::open(alloc, plan_of(word, asks)?, seed)?;
+    play(alloc, &mut world, word, count)?;
+    Ok(world.digest)
+}
+
+// The world of a job.
+fn plan_of(word: &str, asks: bool) -> Result<Plan> {
     match word {
-        "talk" => talking::talk(alloc, seed, count, 4, asks),
-        "channels" => talking::talk(alloc, seed, count, 255, asks),
-        "large" => large::carry(alloc, seed, count, asks),
-        "bad-line" => bad_line::struggle(alloc, seed, count, asks),
-        "crowd" => crowd::gather(alloc, seed, count, asks),
-        "capture" => capture::tell(alloc, seed, count),
+        "talk" => Ok(talking::plan(4, asks)),
+        "channels" => Ok(talking::plan(255, asks)),
+        "large" => Ok(large::plan(asks)),
+        "bad-line" => Ok(bad_line::plan(asks)),
+        "crowd" => Ok(crowd::plan(asks)),
         _ => bail!("no such word"),
+    }
+}
+
+// What happens in that world.
+fn play(alloc: Global, world: &mut World, word: &str, count: u32) -> Result<()> {
+    match word {
+        "talk" => talking::talk(alloc, world, count, 4),
+        "channels" => talking::talk(alloc, world, count, 255),
+        "large" => large::carry(alloc, world, count),
+        "bad-line" => bad_line::struggle(alloc, world, count),
+        _ => crowd::gather(alloc, world, count),
     }
 }
 

@@ -2,7 +2,7 @@
 
 use anyhow::Result;
 use enet_codec::{RELIABLE, UNSEQUENCED};
-use enet_testbed::{Digest, Line, Plan, Rule, World};
+use enet_testbed::{Line, Plan, Rule, World};
 use std::alloc::Global;
 
 /// How many clients there are.
@@ -22,28 +22,22 @@ const LINE: Line = Line {
     spread: 2,
 };
 
-/// 32 clients of a server of 40 slots talk for so many frames of 16 ms, over so many open channels, of which four are used: each
-/// submits a packet 40 times a second, of 12 to 60 bytes, or of 1,000, and all others get it.
-pub fn talk(alloc: Global, seed: u64, frames: u32, channels: u8, asks: bool) -> Result<Digest> {
-    let mut world = World::open(
-        alloc,
-        Plan {
-            slots: 40,
-            channels,
-            line: LINE,
-            rule: Rule::All,
-            ms: 4,
-            every: 1,
-            asks,
-        },
-        seed,
-    )?;
-    talk_in(alloc, &mut world, frames, channels)?;
-    Ok(world.digest)
+/// A server of 40 slots that hands each packet to all others.
+pub fn plan(channels: u8, asks: bool) -> Plan {
+    Plan {
+        slots: 40,
+        channels,
+        line: LINE,
+        rule: Rule::All,
+        ms: 4,
+        every: 1,
+        asks,
+    }
 }
 
-// All clients come, and then they talk for so many frames.
-fn talk_in(alloc: Global, world: &mut World, frames: u32, channels: u8) -> Result<()> {
+/// 32 clients come and talk for so many frames of 16 ms, over so many open channels, of which four are used: each submits a packet 40
+/// times a second, of 12 to 60 bytes, or of 1,000, and all others get it.
+pub fn talk(alloc: Global, world: &mut World, frames: u32, channels: u8) -> Result<()> {
     for _ in 0..CLIENTS {
         world.join(channels)?;
         world.step()?;
