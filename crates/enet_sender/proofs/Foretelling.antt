@@ -15,7 +15,7 @@ use Rattle.enet_sender.specs.declared.sent.Sent.{Sent}
 use Rattle.enet_sender.specs.Sender.{is_late, ends, marked}
 use Rattle.enet_sender.specs.Foretold.{IsForetold, AreForetold, IsLateIn, KeepsTime}
 use Rattle.enet_sender.specs.Pending.{vacant}
-use Rattle.enet_sender.specs.Private.Foretold.{IsLateAt}
+use Rattle.enet_sender.specs.Private.Foretold.{IsLateAt, IsOvertaken}
 use Rattle.enet_sender.specs.Private.Rounds.{test_at}
 
 -- the clock that wraps shows no more than has passed
@@ -245,6 +245,84 @@ at-low moments key moment few noted =
       | inl inside ↦ omega arith
       | inr past ↦ absurd (let f = get_or_past moments key None past in cc)
     ]
+
+-- what isn't late has its moment to come, as it is reckoned anew
+pub anew-ahead : (clock now key moment : ℕ) (at : ℕ → Option Sent) → IsLateAt at key clock now moment → test_at (is_late now) (at key) ≡ false → clock < moment
+anew-ahead clock now key moment at l early =
+    let p = l.command in
+    let waits : is_late now p ≡ false = sym (ap (test_at (is_late now)) l.there) ∙ early in
+    let is = l.is in
+    elim (cases_lt (elapsed_time now p.transmission.last) p.transmission.timeout) [
+      | inl less ↦ omega arith
+      | inr more ↦ absurd (let f = waits-late now p l.waits more in cc)
+    ]
+
+-- so has its key then
+pub noted-ahead : (clock now key moment : ℕ) (at : ℕ → Option Sent) (moments : List (Option ℕ)) → key < length moments → IsLateAt at key clock now moment → test_at (is_late now) (at key) ≡ false
+    → IsNotDue clock (set moments key (Some moment)) key
+noted-ahead clock now key moment at moments inside l early = λ m noted.
+    let is : Some moment ≡ Some m = sym (get_or-set_same moments key (Some moment) None inside) ∙ noted in
+    let same : moment ≡ m = same_Some moment m is in
+    let more = anew-ahead clock now key moment at l early in
+    omega arith
+
+-- a key has no moment where nothing waits under it
+pub unnoted-ahead : (clock key : ℕ) (at : ℕ → Option Sent) (moments : List (Option ℕ)) → AreForetold clock at moments → ((p : Sent) → at key ≡ Some p → p.transmission.due ≡ true) → IsNotDue clock moments key
+unnoted-ahead clock key at moments h none = λ m noted.
+    let f = h.only key m noted in
+    absurd (let g = none f.0 f.1.0 in let w = f.1.1 in cc)
+
+-- nor where its moment is taken away
+pub cleared-ahead : (clock key : ℕ) (moments : List (Option ℕ)) → key < length moments → IsNotDue clock (set moments key None) key
+cleared-ahead clock key moments inside = λ m noted. absurd (let f = noted in let g = get_or-set_same moments key None None inside in cc)
+
+-- up to one key more no moment is past
+pub none_past-more : (clock from key : ℕ) (moments new : List (Option ℕ)) → ((k : ℕ) → k < from → IsNotDue clock moments k) → ((k : ℕ) → from ≤ k → k < key → IsNotDue clock moments k)
+    → ((k : ℕ) → k ≢ key → get_or new k None ≡ get_or moments k None) → IsNotDue clock new key → (k : ℕ) → k < key + 1 → IsNotDue clock new k
+none_past-more clock from key moments new before ahead others here k low =
+    elim (cases_eq k key) [
+      | inl same ↦ λ m noted. here m (ap (λ (i : ℕ). get_or new i None) (sym same) ∙ noted)
+      | inr other ↦ elim (cases_lt k from) [
+        | inl less ↦ λ m noted. before k less m (sym (others k other) ∙ noted)
+        | inr more ↦ λ m noted. ahead k more (omega (arith, other)) m (sym (others k other) ∙ noted)
+      ]
+    ]
+
+-- where a moment is past and its command isn't late, that went long ago
+pub overtaken : (clock now key moment : ℕ) (at : ℕ → Option Sent) (moments : List (Option ℕ)) → clock % 2 ^ 32 ≡ now → AreForetold clock at moments → IsAt moments key moment → moment ≤ clock
+    → test_at (is_late now) (at key) ≡ false → IsOvertaken clock at moments
+overtaken clock now key moment at moments shown h noted past early =
+    let one = h.only key moment noted in
+    let p = one.0 in
+    let f = h.each key p one.1.0 one.1.1 in
+    let both : Some (f.went + p.transmission.timeout) ≡ Some moment = sym f.noted ∙ noted in
+    let sum : f.went + p.transmission.timeout ≡ moment = same_Some (f.went + p.transmission.timeout) moment both in
+    let waits : is_late now p ≡ false = sym (ap (test_at (is_late now)) one.1.0) ∙ early in
+    let begun = f.begun in
+    let went = f.shown in
+    record {
+      key = key;
+      command = p;
+      there = one.1.0;
+      went = f.went;
+      noted = f.noted;
+      long = elim (cases_lt (elapsed_time now p.transmission.last) p.transmission.timeout) [
+        | inl less ↦ omega arith
+        | inr more ↦ absurd (let l = waits-late now p one.1.1 more in cc)
+      ];
+    }
+
+-- the least moment is at most a timeout away
+pub least-near : (clock key moment : ℕ) (at : ℕ → Option Sent) (moments : List (Option ℕ)) → AreForetold clock at moments → IsAt moments key moment → moment < clock + 2 ^ 32
+least-near clock key moment at moments h noted =
+    let one = h.only key moment noted in
+    let p = one.0 in
+    let f = h.each key p one.1.0 one.1.1 in
+    let both : Some (f.went + p.transmission.timeout) ≡ Some moment = sym f.noted ∙ noted in
+    let sum : f.went + p.transmission.timeout ≡ moment = same_Some (f.went + p.transmission.timeout) moment both in
+    let begun = f.begun in
+    let fits = f.fits in
+    omega arith
 
 -- none is late up to the least of the moments
 pub late-after : (clock now moment : ℕ) (at : ℕ → Option Sent) (moments : List (Option ℕ)) → length moments ≤ vacant → clock % 2 ^ 32 ≡ now → AreForetold clock at moments → clock < moment

@@ -1,16 +1,18 @@
 //! Which commands are late, by the moments that are noted for them.
 //!
-//! A moment is as early as its command's timeout has passed, and stays where 2^32 milliseconds more have passed, so that the clock doesn't
-//! show it any more: so what is due by its moment is asked itself whether it is late.
+//! A moment is as early as its command's timeout has passed, and stays where 2^32 milliseconds have passed since the command went, so that
+//! the clock doesn't show it any more: so what is due by its moment is asked itself whether it is late. Whenever all is asked, such a moment
+//! is noted anew. So none is past after that (`NonePast`), and a reading finds one only where nobody asked for nearly 2^32 milliseconds.
 
-ghost use Rattle.std.specs.Prelude.{◌≡◌, ℕ, ◌+◌, ◌-◌, ◌%◌, ◌<◌, ◌≤◌, ◌^◌, Some, true, false, IsTrue, IfNone, IfSome, length};
+ghost use Rattle.std.specs.Prelude.{◌≡◌, ◌≢◌, ℕ, ◌+◌, ◌-◌, ◌%◌, ◌<◌, ◌≤◌, ◌^◌, None, Some, true, false, IsTrue, IfNone, IfSome, length, slice_index_or};
 ghost use Rattle.slab.specs.Slab.{get, Updates};
 ghost use Rattle.std.specs.Option.{option_map};
 ghost use Rattle.enet_rtt.specs.Clock.{elapsed_time};
 ghost use Rattle.enet_sender.specs.declared.sent.Sent.{Sent};
 ghost use Rattle.enet_sender.specs.Foretold.{AreForetold, IsLateIn, KeepsTime, NonePasses, SomePasses};
 ghost use Rattle.enet_sender.specs.Pending.{vacant};
-ghost use Rattle.enet_sender.specs.Private.Foretold.{IsLateAt};
+ghost use Rattle.enet_deadlines.specs.Moments.{IsNotDue};
+ghost use Rattle.enet_sender.specs.Private.Foretold.{IsLateAt, IsOvertaken, NonePast};
 ghost use Rattle.enet_sender.specs.Private.Rounds.{test_at};
 ghost use Rattle.enet_sender.specs.Sender.{ends, is_late, marked};
 
@@ -91,7 +93,25 @@ pub(crate) fn advance(clock: u64, slab: &Slab<Sent>, deadlines: &mut Deadlines, 
     anew
 }
 
-/// Whether a command is late. Where the moment of one is past and it isn't, its moment is set anew.
+/// The moment under a key is noted anew, where it is past and the command isn't late.
+fn note_anew(slab: &Slab<Sent>, deadlines: &mut Deadlines, key: usize, clock: u64, now: u32)
+    requires begun { 2 ^ 32 ≤ clock }
+    requires small { clock < 2 ^ 63 }
+    requires shown { clock % 2 ^ 32 ≡ now }
+    requires within { key < length deadlines.old }
+    requires waits { test_at (is_late now) (get slab.now key) ≡ false }
+    requires foretold { AreForetold clock (get slab.now) deadlines.old }
+    ensures ahead { IsNotDue clock deadlines.new key }
+    ensures others { (k : ℕ) → k ≢ key → slice_index_or deadlines.new k None ≡ slice_index_or deadlines.old k None }
+    ensures foretold { AreForetold clock (get slab.now) deadlines.new }
+    ensures len { length deadlines.new ≡ length deadlines.old }
+{
+    if let Some(moment) = moment_under(slab, key, clock, now) {
+        deadlines.set(key, moment);
+    }
+}
+
+/// Whether a command is late. Where the moment of one is past and it isn't, its moment is noted anew.
 pub(crate) fn any_late(slab: &Slab<Sent>, deadlines: &mut Deadlines, clock: u64, now: u32) -> bool
     requires begun { 2 ^ 32 ≤ clock }
     requires small { clock < 2 ^ 63 }
@@ -100,6 +120,7 @@ pub(crate) fn any_late(slab: &Slab<Sent>, deadlines: &mut Deadlines, clock: u64,
     requires foretold { AreForetold clock (get slab.now) deadlines.old }
     ensures some { IsTrue result → SomePasses (is_late now) (get slab.now) }
     ensures none { result ≡ false → NonePasses (is_late now) (get slab.now) }
+    ensures ahead { result ≡ false → NonePast clock deadlines.new }
     ensures foretold { AreForetold clock (get slab.now) deadlines.new }
     ensures len { length deadlines.new ≡ length deadlines.old }
 {
@@ -108,9 +129,7 @@ pub(crate) fn any_late(slab: &Slab<Sent>, deadlines: &mut Deadlines, clock: u64,
         if is_late(slab, key, now) {
             return true;
         }
-        if let Some(moment) = moment_under(slab, key, clock, now) {
-            deadlines.set(key, moment);
-        }
+        note_anew(slab, deadlines, key, clock, now);
         from = key + 1;
     }
     false
@@ -141,8 +160,8 @@ pub(crate) fn any_ends(
     false
 }
 
-/// In how many milliseconds after the time `now` a command is late first, 4,294,967,295 where none waits. None where a moment is past at
-/// which its command isn't late: only where 2^32 milliseconds have passed since it went and nobody asked which is late.
+/// In how many milliseconds after the time `now` a command is late first, 4,294,967,295 where none waits. None where a moment is past and its
+/// command isn't late: only where that went 2^32 milliseconds ago or more.
 pub(crate) fn first_late(
     slab: &Slab<Sent>,
     deadlines: &Deadlines,
@@ -152,18 +171,15 @@ pub(crate) fn first_late(
     requires shown { clock % 2 ^ 32 ≡ now }
     requires few { length deadlines.now ≤ vacant }
     requires foretold { AreForetold clock (get slab.now) deadlines.now }
-    ensures { IfSome result (IsLateIn (get slab.now) now) }
+    ensures some { IfSome result (IsLateIn (get slab.now) now) }
+    ensures none { IfNone result (IsOvertaken clock (get slab.now) deadlines.now) }
 {
     let Some(moment) = deadlines.least() else {
         return Some(u32::MAX);
     };
     if clock < moment {
         let wait = moment - clock;
-        return if wait < BEGINNING {
-            Some(wait as u32)
-        } else {
-            None
-        };
+        return Some(wait as u32);
     }
     let key = deadlines.first_due(clock)?;
     if is_late(slab, key, now) {
@@ -189,7 +205,7 @@ pub(crate) fn mark_under(slab: &mut Slab<Sent>, key: usize, now: u32, bound: u32
     }
 }
 
-/// Marks all that is late as due to go again.
+/// Marks all that is late as due to go again. Where the moment of a command is past and it isn't late, its moment is noted anew.
 pub(crate) fn mark_all(
     slab: &mut Slab<Sent>,
     deadlines: &mut Deadlines,
@@ -197,10 +213,13 @@ pub(crate) fn mark_all(
     now: u32,
     bound: u32,
 )
+    requires begun { 2 ^ 32 ≤ clock }
+    requires small { clock < 2 ^ 63 }
     requires shown { clock % 2 ^ 32 ≡ now }
     requires few { length deadlines.old ≤ vacant }
     requires foretold { AreForetold clock (get slab.old) deadlines.old }
     ensures marked { (key : ℕ) → get slab.new key ≡ option_map (marked bound now) (get slab.old key) }
+    ensures ahead { NonePast clock deadlines.new }
     ensures foretold { AreForetold clock (get slab.new) deadlines.new }
     ensures len { length deadlines.new ≡ length deadlines.old }
 {
@@ -208,6 +227,8 @@ pub(crate) fn mark_all(
     'due: while let Some(key) = deadlines.next_due(from, clock) {
         if mark_under(slab, key, now, bound) {
             deadlines.clear(key);
+        } else {
+            note_anew(slab, deadlines, key, clock, now);
         }
         from = key + 1;
     }

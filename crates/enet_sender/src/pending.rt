@@ -182,7 +182,7 @@ impl Pending {
 
     /// In how many milliseconds after the moment `now` a command of any channel has waited out its timeout first, of those that are not due
     /// to go again already: 0 where one has, and 4,294,967,295 where none waits. It is a reading. None where that doesn't tell: only where
-    /// one went 2^32 milliseconds ago, and `any_late` was not asked since its timeout passed.
+    /// one went 2^32 milliseconds ago or more, and since then neither `any_late` answered false nor `mark_all` was called.
     pub fn first_late(&self, now: u32) -> Option<u32>
         ensures { IfSome result (IsLateIn (get self.now.slab) now) }
     {

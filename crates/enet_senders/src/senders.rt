@@ -437,7 +437,8 @@ impl Senders {
     /// In how many milliseconds after the moment `now` a sent command of a channel has waited out its timeout first, of those
     /// that are not due to go again already: 0 where one has, and 4,294,967,295 where none waits.
     ///
-    /// It looks at no command, unless one went 2^32 milliseconds ago and nobody asked since whether it is late.
+    /// It looks at one command at most, unless one went 2^32 milliseconds ago. Then it looks at all that is sent, until it is asked again what
+    /// is late (`any_late`, and `mark` where something is), as each tick does.
     pub fn next_late(&self, now: u32) -> u32
         ensures { HappensIn (λ (later : ℕ). list_any (λ (s : SendingEnd). list_any (is_late later) s.sender.sent) self.now) now result }
     {

@@ -1,11 +1,12 @@
-use Rattle.std.proofs.Common.{◌≡◌, ◌+◌, ◌<◌, ◌≤◌, inl, inr, ℕ, None, Option, List, length, sym, ap, subst, ◌∙◌, arith}
+use Rattle.std.proofs.Common.{◌≡◌, ◌+◌, ◌<◌, ◌≤◌, ◌≢◌, inl, inr, ℕ, None, Option, List, length, get_or, set, sym, ap, subst, ◌∙◌, arith}
 use Rattle.std.specs.Option.{option_map}
 use Rattle.std.proofs.lemmas.Bool.{cases_eq, cases_lt}
-use Rattle.std.proofs.lemmas.List.{length-set}
+use Rattle.std.proofs.lemmas.List.{length-set, get_or-set_other}
 use Rattle.slab.specs.Slab.{get}
+use Rattle.enet_deadlines.specs.Moments.{IsNotDue}
 use Rattle.enet_sender.specs.Sender.{marked}
 use Rattle.enet_sender.specs.Foretold.{AreForetold}
-use Rattle.enet_sender.proofs.Foretelling.{quiet, unmarked, foretold-marked, foretold-unmarked}
+use Rattle.enet_sender.proofs.Foretelling.{quiet, unmarked, foretold-marked, none_past-more, cleared-ahead}
 use Rattle.enet_sender.proofs.lateness.mark_all.Goals.{then-mark_under, else-mark_under}
 use Rattle.enet_sender.proofs.lateness.mark_all.Goals as goal
 
@@ -35,21 +36,26 @@ due-preserved c =
       ]
     ] in
     let ahead : (k : ℕ) → key + 1 ≤ k → get c.mark_under.new.slab k ≡ get c.args.slab.now k = λ k more. updates.others k (λ same. omega arith) ∙ inv.ahead k (omega (arith, due.0)) in
+    let clock = c.args.clock in
     elim c.if-mark_under.branch [
       | then-mark_under w ↦
           let is = w.deadlines-is ∙ w.clear.ensures in
+          let others : (k : ℕ) → k ≢ key → get_or (set moments key None) k None ≡ get_or moments k None = λ k other. get_or-set_other moments key k None None other in
           record {
-            foretold = subst (λ (ms : List (Option ℕ)). AreForetold c.args.clock after ms) (sym is)
-                (foretold-marked c.args.clock bound now key at after moments inv.foretold due.1 (sym c.mark_under.ensures.late ∙ w.if-mark_under.true) updates.changed updates.others);
+            foretold = subst (λ (ms : List (Option ℕ)). AreForetold clock after ms) (sym is)
+                (foretold-marked clock bound now key at after moments inv.foretold due.1 (sym c.mark_under.ensures.late ∙ w.if-mark_under.true) updates.changed updates.others);
             len = ap (λ (ms : List (Option ℕ)). length ms) is ∙ length-set moments key None ∙ inv.len;
             done = done;
+            past = subst (λ (ms : List (Option ℕ)). (k : ℕ) → k < key + 1 → IsNotDue clock ms k) (sym is)
+                (none_past-more clock c.due.from key moments (set moments key None) inv.past due.3 others (cleared-ahead clock key moments due.1));
             ahead = ahead;
           }
       | else-mark_under w ↦ record {
-        foretold = subst (λ (ms : List (Option ℕ)). AreForetold c.args.clock after ms) (sym w.deadlines-is)
-            (foretold-unmarked c.args.clock bound now key at after moments inv.foretold (sym c.mark_under.ensures.late ∙ w.if-mark_under.false) updates.changed updates.others);
-        len = ap (λ (ms : List (Option ℕ)). length ms) w.deadlines-is ∙ inv.len;
+        foretold = subst (λ (ms : List (Option ℕ)). AreForetold clock after ms) (sym w.deadlines-is) w.note_anew.ensures.foretold;
+        len = ap (λ (ms : List (Option ℕ)). length ms) w.deadlines-is ∙ w.note_anew.ensures.len ∙ inv.len;
         done = done;
+        past = subst (λ (ms : List (Option ℕ)). (k : ℕ) → k < key + 1 → IsNotDue clock ms k) (sym w.deadlines-is)
+            (none_past-more clock c.due.from key moments w.note_anew.new.deadlines inv.past due.3 w.note_anew.ensures.others w.note_anew.ensures.ahead);
         ahead = ahead;
       }
     ]
@@ -62,4 +68,11 @@ returns-clause-marked c = λ key.
       | inr more ↦
           let same = inv.ahead key more in
           same ∙ sym (unmarked c.args.bound c.args.now (get c.args.slab.now key) (λ p there. quiet c.args.clock c.args.now key (get c.due.slab) c.due.deadlines c.requires.shown inv.foretold (c.in_default.ensures key more) p (same ∙ there)))
+    ]
+
+pub returns-clause-ahead : goal.returns-clause-ahead
+returns-clause-ahead c = λ key.
+    elim (cases_lt key c.due.from) [
+      | inl less ↦ c.due.invariant.past key less
+      | inr more ↦ c.in_default.ensures key more
     ]

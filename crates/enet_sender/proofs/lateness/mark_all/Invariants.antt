@@ -1,6 +1,7 @@
 use Rattle.std.proofs.Common.{◌≡◌, ℕ, ◌-◌, ◌<◌, ◌≤◌, length}
 use Rattle.std.specs.Option.{option_map}
 use Rattle.slab.specs.Slab.{get}
+use Rattle.enet_deadlines.specs.Moments.{IsNotDue}
 use Rattle.enet_sender.specs.Sender.{marked}
 use Rattle.enet_sender.specs.Foretold.{AreForetold}
 use Rattle.enet_sender.proofs.lateness.mark_all.Given as goal
@@ -10,6 +11,7 @@ invariant-due l = record {
   foretold : AreForetold l.clock (get l.slab) l.deadlines;
   len : length l.deadlines ≡ length l.initial.deadlines;
   done : (key : ℕ) → key < l.from → get l.slab key ≡ option_map (marked l.bound l.now) (get l.initial.slab key);
+  past : (key : ℕ) → key < l.from → IsNotDue l.clock l.deadlines key;
   ahead : (key : ℕ) → l.from ≤ key → get l.slab key ≡ get l.initial.slab key;
 }
 
