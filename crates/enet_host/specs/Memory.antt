@@ -1,7 +1,7 @@
 -- How many bytes a host holds, and how many at most: for what others sent, and for what is queued or unacknowledged. What one of each kind
 -- takes is at least what the allocator gave for it, as scripts/check-memory.sh counts it. Lists keep the room that they had, which counts
--- only as far as the bound has it for what others sent: of commands until an acknowledgement leaves none, of unsequenced packets (up to
--- 160 bytes each), and of the queue of a channel whose packets ask for no acknowledgement (8), until the slot is free.
+-- only as far as the bound has it for what others sent: of commands until none is queued or unacknowledged, and of unsequenced packets (up
+-- to 160 bytes each) until none waits.
 use Rattle.std.specs.Prelude.{◌≡◌, ℕ, ◌+◌, ◌*◌, ◌==◌, ◌&&◌, Bool, false, not, if◌then◌else◌, Option, Some, None, List, [], ◌∷◌, length, map, sum_by}
 use Rattle.enet_codec.specs.declared.command.Fragment.{Fragment}
 use Rattle.enet_codec.specs.declared.config.Config.{Config}
@@ -23,7 +23,7 @@ abbrev pub host_takes : ℕ
 host_takes = 4096
 
 -- a slot, free or not: its peer's numbers, the marks of 1,024 unsequenced groups, the lists of channel 0xFF, its part in the host's lists,
--- and the room for 64 commands that it keeps where there are none
+-- and the room for 64 commands and for 8 unsequenced packets that it keeps where there are none
 abbrev pub slot_takes : ℕ
 slot_takes = 9216
 

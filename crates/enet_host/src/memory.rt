@@ -64,7 +64,7 @@ impl HostCore {
     /// How many bytes it holds at most, but for what is queued or unacknowledged: each thing counts as many as one of its kind takes
     /// (specs/Memory). Whatever datagrams came, from whomever and in whatever order, and whether or not the user takes, that is no more
     /// than the settings allow; and all that the host holds is no more than that and what is queued or unacknowledged. Lists may have more
-    /// room than what is in them needs, for as much as ever was in them at once; of commands, until an acknowledgement leaves none. Each slot
+    /// room than what is in them needs, for as much as ever was in them at once; of what was submitted, until none of it is left. Each slot
     /// is looked at.
     pub fn memory_held(&self) -> u64
         ensures value { result ≡ memory_with (length self.now.slots) (held_by self.now.slots) }

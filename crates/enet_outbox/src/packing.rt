@@ -15,7 +15,7 @@ ghost use Rattle.enet_outbox.specs.Emission.{acknowledgement_of, unsequenced_of,
 ghost use Rattle.enet_outbox.specs.Invariant.{HasNothing};
 ghost use Rattle.enet_outbox.specs.Resting.{IsAtRest};
 ghost use Rattle.enet_senders.specs.Senders.{IsStill};
-ghost use Rattle.enet_outbox.specs.Private.Packing.{header_asking, Leads, taken_in, place_in, asked_for, refuses, GoesIn, PacksAcknowledgements, PacksControls, PacksUnsequenced, PacksChannel, PacksChannels};
+ghost use Rattle.enet_outbox.specs.Private.Packing.{header_asking, most_unused, Leads, taken_in, place_in, asked_for, refuses, GoesIn, PacksAcknowledgements, PacksControls, PacksUnsequenced, PacksChannel, PacksChannels};
 
 use crate::{Acknowledgement, Destination, Outbox, Pace, Unsequenced, lists};
 use enet_codec::{Command, Head, Header, NO_PEER, write_acknowledge, write_command, write_header};
@@ -23,6 +23,9 @@ use enet_sender::{Due, Kind, Occasion};
 use enet_senders::{ControlChannel, Senders, Written};
 use enet_throttle::Throttle;
 use std::collections::VecDeque;
+
+/// For no more than so many unsequenced packets room is kept where none waits.
+const MOST_UNUSED: usize = 8;
 
 /// Where a datagram stands that is being filled.
 #[derive(Clone, Copy)]
@@ -211,6 +214,17 @@ fn drop_first(unsequenced: &mut VecDeque<Unsequenced>)
     let _ = unsequenced.pop_front();
 }
 
+/// Gives most of the room back of a list in which nothing is.
+#[inline(always)]
+fn give_unused_back(unsequenced: &mut VecDeque<Unsequenced>)
+    ensures same { unsequenced.new.items ≡ unsequenced.old.items }
+    ensures room { deque_len unsequenced.new ≡ 0 → deque_capacity unsequenced.new ≤ most_unused }
+{
+    if unsequenced.is_empty() && unsequenced.capacity() > MOST_UNUSED {
+        unsequenced.shrink_to_fit();
+    }
+}
+
 /// Puts the unsequenced packets into the datagram in the order of their submission, as far as they fit, and tells the channel
 /// of the last one. The throttle is asked of each that fits, and may drop it. A closed datagram stays as it is.
 pub(crate) fn pack_unsequenced(
@@ -238,6 +252,7 @@ pub(crate) fn pack_unsequenced(
         }
         drop_first(unsequenced);
     }
+    give_unused_back(unsequenced);
     progress
 }
 

@@ -15,8 +15,8 @@
 //! - Of all channels at once, by specs/Foretold: `Pending::any_late`, `any_ends`, `first_late` and `mark_all`. They look only at commands
 //!   whose timeout has passed, since when each is late is noted by its key from its sending until it is acknowledged or found late
 //!   (`KeepsTime`, which no contract shows).
-//! - An acknowledgement after which a channel has nothing unacknowledged gives room back: of its rings, if nothing is queued, and of the
-//!   commands, if there is none. Room for 64 stays at most (`most_unused`).
+//! - An acknowledgement after which a channel has nothing unacknowledged gives room back, and so does a call of `next_due` that finds nothing
+//!   queued or unacknowledged: of the channel's rings, and of the commands, if there is none. Room for 64 stays at most (`most_unused`).
 //!
 //! Where it matters each asks that rings and slab fit (`KeepsIn`, specs/Rings), and leaves that so, and what stands under other keys
 //! (`PassesIn`; specs/Pending). They fit if:

@@ -142,6 +142,7 @@ impl Outgoing {
     /// Gives most room of the rings back, where nothing is in them, and most of the commands' where there is none.
     #[inline(always)]
     fn give_unused_back(&mut self, pending: &mut Pending)
+        ensures end { end_in pending.new self.new ≡ end_in pending.old self.old }
         ensures commands { SameValues pending.old.slab pending.new.slab }
         ensures rings { rings_of self.new ≡ rings_of self.old }
         ensures channel { self.new.channel ≡ self.old.channel }
@@ -287,6 +288,7 @@ impl Outgoing {
         ensures room { HasRoom self.new }
     {
         let Some(key) = first(&self.queued) else {
+            self.give_unused_back(pending);
             return Due::Nothing;
         };
         let Some(head) = pending.get(key) else {

@@ -17,6 +17,10 @@ use Rattle.enet_sender.specs.declared.outgoing.Kind.TheVariants.{Begins}
 use Rattle.enet_outbox.specs.Outbox.{Outbox, transit_of}
 use Rattle.enet_outbox.specs.Emission.{Filling, asks, fits, with_command, with_acknowledgements, with_controls, with_unsequenced, with_channel, with_channels}
 
+-- for no more than so many unsequenced packets room is kept where none waits
+abbrev pub most_unused : ℕ
+most_unused = 8
+
 -- the commands of the filling stand in the buffer from 4 on, and the progress shows how much more it takes
 pub record Holds (f : Filling) (p : Progress) (buf : List ℕ) : Type 0 where
   pub begins : 4 ≤ p.at

@@ -71,4 +71,5 @@ returns c = λ f h e1 e2 e3.
     let i = c.packets.invariant f h e1 e2 e3 in
     let xs = c.packets.unsequenced.items in
     let none : length xs ≤ 0 = grind arith in
-    leads-by (i.4 ∙ unsequenced-end xs i.0 (slice_get_past xs 0 none)) i.1 i.3
+    leads-by (i.4 ∙ unsequenced-end xs i.0 (slice_get_past xs 0 none)) i.1
+    (i.3 ∙ ap (λ (us : List Unsequenced). record f.outbox { unsequenced = us; throttle = c.packets.throttle; last = c.packets.last }) (sym c.give_unused_back.ensures.same))

@@ -69,8 +69,8 @@ returns-in_default-clause-did c =
     let e : SendingEnd = end_of c.args.pending.now.slab c.args.self.now in
     let none : r.queued ≡ [] = by_none r.queued (sym c.in_default.ensures) in
     let next = next_queued-empty c.args.occasion (sender_of at r) (ap (λ keys. length (commands_at at keys)) none) in
-    let P : Option Next → Type 0 = λ n. Did n due.Nothing e e (record { old = c.args.buf.now; at = c.args.at; new = c.args.buf.now }) in
-    subst P (sym next) (refl, refl)
+    let P : Option Next → Type 0 = λ n. Did n due.Nothing e (end_of c.give_unused_back.new.pending.slab c.give_unused_back.new.self) (record { old = c.args.buf.now; at = c.args.at; new = c.args.buf.now }) in
+    subst P (sym next) (c.give_unused_back.ensures.end, refl)
 
 pub returns-then-not-may_go-clause-did : goal.returns-then-not-may_go-clause-did
 returns-then-not-may_go-clause-did c =
