@@ -4,7 +4,7 @@
 # Before that each row runs with ample memory, where no call may be refused.
 # Then hosts are filled with each kind of thing as far as it goes (scripts/filled.awk), over an allocator that counts (measure/counted.c):
 # what it gave may be no more than the definitions say (specs/Memory of enet_host).
-# The program is out/scarce, which build-scarce.sh makes of trials/scarce; where it isn't there, it is built first. clients/faults.c, loaded
+# The program is out/probe, which build-probe.sh makes of trials/probe; where it isn't there, it is built first. clients/faults.c, loaded
 # into it, refuses growth k of run k, until the one that is refused stands behind the row: that run ends with status 4. A refused call has to be
 # answered by a refusal and to change nothing that reading calls tell, and the row goes on by repeating it once (the program compares).
 # Prints for each row how many growths were refused; the last line is 'N passed, M failed', in rows, and the status 1 where one failed.
@@ -16,7 +16,7 @@ most=${1:-1000}
 
 # Runs the program with growth $1 refused (none where that is 0), and the standard input $room/input.
 run_with() {
-    FAULTS_AT=$1 LD_PRELOAD=$room/faults.so timeout 60 out/scarce < "$room/input" > "$room/out" 2>&1
+    FAULTS_AT=$1 LD_PRELOAD=$room/faults.so timeout 60 out/probe < "$room/input" > "$room/out" 2>&1
 }
 
 # Whether the program said that all went as expected.
@@ -69,7 +69,7 @@ fill() {
     local name="$1 on $2 channels, where $3 bytes may wait" commands bytes
     awk -v kind="$1" -v channels="$2" -v waiting="$3" -f scripts/filled.awk > "$room/filled.hosts"
     read -r _ _ commands bytes < "$room/filled.hosts"
-    if ! (cd "$room" && COUNTED=held LD_PRELOAD=$room/counted.so timeout 60 "$OLDPWD/out/scarce" filled \
+    if ! (cd "$room" && COUNTED=held LD_PRELOAD=$room/counted.so timeout 60 "$OLDPWD/out/probe" filled \
         "$((commands * command + bytes))" < /dev/null > "$room/out" 2>&1); then
         fail "$name" "$(tail -c 400 "$room/out")"
         return
@@ -102,8 +102,8 @@ filled() {
 room=$(mktemp -d) || exit 1
 trap 'rm -rf "$room"' EXIT
 declare -A growths
-if ! [ -x out/scarce ] && ! bash scripts/build-scarce.sh; then
-    fail scarce "it can't be built"
+if ! [ -x out/probe ] && ! bash scripts/build-probe.sh; then
+    fail probe "it can't be built"
 elif ! build_clients "$room"; then
     fail clients "the C programs can't be built"
 else

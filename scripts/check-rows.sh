@@ -4,13 +4,13 @@
 # (no such file: 0). A long script and its output are made by NAME.awk. A script that is listed and missing fails. Each line of
 # unreadable-lines.txt and of unreadable-lines-of-a-fleet.txt, whose escapes are printf's, is the second of a script for a pair or a
 # fleet, and the first that can't be read. Each short script that makes two hosts, without `calm`, and the first of a fleet, is also run by
-# out/scarce (build-scarce.sh) as one list of events, in one call. The lines that README shows are a script, too, with their answers. Command lines are
+# out/probe (build-probe.sh) as one list of events, in one call. The lines that README shows are a script, too, with their answers. Command lines are
 # tried too; those of `demo` take port 47100, which no other socket may have. The last line is
 # 'N passed, M failed'; the status is 1 where one fails. The program is the one that `rt ci`, or `rt run` in crates/enet_relay,
 # leaves; another can be named as argument.
 cd "$(dirname "$0")/.." || exit 1
 program=${1:-crates/enet_relay/out/enet_relay}
-lists=out/scarce
+lists=out/probe
 rows=scripts/rows
 . scripts/clients.sh
 . scripts/tally.sh
@@ -332,7 +332,7 @@ first=
 trap 'kill $first 2> /dev/null; rm -rf "$room"' EXIT
 if [ ! -x "$program" ]; then
     fail "$program" "it isn't there: run 'rt ci', or 'rt run' in crates/enet_relay"
-elif [ ! -x "$lists" ] && ! bash scripts/build-scarce.sh; then
+elif [ ! -x "$lists" ] && ! bash scripts/build-probe.sh; then
     fail "$lists" "it can't be built"
 elif [ ! -r "$rows/list.txt" ] || [ ! -r "$rows/unreadable-lines.txt" ] || [ ! -r "$rows/unreadable-lines-of-a-fleet.txt" ]; then
     fail "$rows" "list.txt, unreadable-lines.txt or unreadable-lines-of-a-fleet.txt is missing"

@@ -1,6 +1,6 @@
 #!/usr/bin/env bash
 # Runs the trials of the crates, which stand in trials/: worked values, trials of a peer, captured datagrams of the reference library byte
-# for byte, scripts over hosts, strangers' datagrams, states of two hosts after losses, queues, wires and a service with a real host, from
+# for byte, scripts over hosts, states of two hosts after losses, queues, wires and a service with a real host, from
 # several threads and through sockets. Their files end in .in, which no check reads: here they become a crate in a copy of the repository, and
 # `rt try` builds all tests at once, with all that they stand on. That build isn't proved; it stops at each overflow and each index or access
 # out of range. Its files must be as `rt fmt` lays them out. Takes three minutes of a processor, and two more for those states. Prints each
@@ -26,7 +26,7 @@ cd "$there" || exit 1
 rt fmt > "$room/laid" 2>&1
 failed=$(grep -c '^rt: formatted ' "$room/laid")
 sed -n 's/^rt: formatted \(.*\)/FAILED trials\/\1.in: not as rt fmt lays it out/p' "$room/laid"
-data=(--data peer.txt=peer.txt --data lists.txt=lists.txt --data fleets.txt=fleets.txt --data datagrams.txt=datagrams.txt --data hosts.txt=hosts.txt)
+data=(--data peer.txt=peer.txt --data lists.txt=lists.txt --data fleets.txt=fleets.txt --data hosts.txt=hosts.txt)
 for file in captured/*.txt hosts/*.hosts; do
     data+=(--data "${file#*/}=$file")
 done

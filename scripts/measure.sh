@@ -18,7 +18,7 @@ trap 'rm -rf "$room"' EXIT
 tar -cf - --exclude='crates/*/out' crates crates.txt HANDLES | tar -xf - -C "$room"
 cp -r "measure/$program" "$room/crates/"
 if [ "$program" = crowd_calls ]; then
-    cp trials/src/check_foreign/{call,crowd,fault}.rt.in "$room/crates/$program/src/"
+    cp trials/probe/foreign/{call,crowd,fault}.rt.in "$room/crates/$program/src/"
     cp trials/src/check_scripts/client.rt.in "$room/crates/$program/src/check_scripts.rt.in"
 fi
 find "$room/crates/$program" -name '*.in' | while read -r file; do mv "$file" "${file%.in}"; done

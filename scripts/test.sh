@@ -33,10 +33,10 @@ library() {
     if bash scripts/archive-c.sh > /dev/null; then bash scripts/check-c.sh; else echo '0 passed, 1 failed'; false; fi
 }
 
-# What the crates' folders have of built libraries goes first, so that those that stand there afterwards are the gate's; out/scarce, too.
-rm -rf crates/*/out/rlib crates/enet_c/out/libenet_c.a out/scarce
+# What the crates' folders have of built libraries goes first, so that those that stand there afterwards are the gate's; out/probe, too.
+rm -rf crates/*/out/rlib crates/enet_c/out/libenet_c.a out/probe
 row texts << 'END'
-bash scripts/build-scarce.sh
+bash scripts/build-probe.sh
 bash scripts/check-edits.sh --read
 python3 scripts/quotes.py
 python3 scripts/check-documents.py
@@ -54,6 +54,7 @@ row counts << 'END'
 bash scripts/check-rows.sh
 bash scripts/check-inspect.sh
 bash scripts/check-memory.sh
+bash scripts/check-strangers.sh
 bash scripts/check-speed.sh
 library
 END
