@@ -91,7 +91,7 @@ filled() {
         fill "$kind" 255 532480
         fill "$kind" 12 4198400
     done
-    for kind in reliable unreliable unsequenced many-pieces body burst kept front; do
+    for kind in reliable unreliable unsequenced many-pieces body burst kept front gone gone-unsequenced; do
         fill "$kind" 2 33554432
     done
     fill granted 255 33554432

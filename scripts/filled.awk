@@ -13,7 +13,8 @@
 #     pings            pings, which are to be acknowledged
 #
 # And what A's own user fills it with: `reliable`, `unreliable` and `unsequenced` packets, `many-pieces`, a `body` of 200,000 bytes, a
-# `burst` that is acknowledged, one that is no longer than the room that is `kept`, and one of which all but the first packet is (`front`).
+# `burst` that is acknowledged, one that is no longer than the room that is `kept`, and one of which all but the first packet is (`front`);
+# `gone` and `gone-unsequenced`: unreliable and unsequenced packets that all went.
 # `granted`: A asks for 255 channels and gets one. `open`: nothing comes. The first line is a remark: how many commands of A's user, and how
 # many bytes, were queued or unacknowledged at once since none was last. No figure of memory is here: what a thing takes stands in
 # specs/Memory of enet_host.
@@ -88,6 +89,8 @@ BEGIN {
     else if (kind == "body") submit(1, 1, 200000, 147)
     else if (kind == "burst") { submit(1030, 1, 1, 0); acknowledge(1, 1030) }
     else if (kind == "kept") { submit(64, 1, 1, 0); acknowledge(1, 64) }
+    else if (kind == "gone") { submit(1030, 0, 1, 0); line("drain A", "ok") }
+    else if (kind == "gone-unsequenced") { submit(1030, 2, 1, 0); line("drain A", "ok") }
     else if (kind == "front") { submit(8192, 1, 1, 1); acknowledge(2, 8192) }
     else if (kind == "granted") {
         own(0, 0)
