@@ -1,8 +1,11 @@
 -- The false lists are refuted.
-use Rattle.std.proofs.Common.{◌≡◌, ◌⊎◌, inl, inr, ℕ, zero, suc, ◌<◌, ◌≤◌, ◌%◌, ◌==◌, ◌&&◌, arith, Bool, true, false, cond, refl, sym, ap, subst, ◌∙◌, Option, Some, None, List, [], ◌∷◌, ◌++◌, take, slice_get}
+use Rattle.std.proofs.Common.{◌≡◌, inl, inr, ℕ, zero, suc, ◌+◌, ◌<◌, ◌≤◌, ◌%◌, ◌&&◌, arith, Bool, true, false, cond, refl, sym, ap, subst, ◌∙◌, Option, Some, None, List, [], ◌∷◌, ◌++◌, length, take, slice_get}
+use Rattle.std.proofs.lemmas.List.{length-append}
 use Rattle.enet_codec.specs.declared.address.Addr.{Addr}
 use Rattle.enet_codec.specs.declared.event.PeerRef.{PeerRef}
 use Rattle.enet_codec.specs.declared.packet.Packet.{Packet}
+use Rattle.law_unsequenced.specs.Law.{AreDistinct}
+use Rattle.law_unsequenced.specs.Unsequenced.{TakenAs, Each}
 use Rattle.law_network.specs.Network.{is_same_name}
 use Rattle.law_network.proofs.Submitting.{same-some}
 use Rattle.law_headline.specs.declared.node.Node.TheVariants.{Server, Client}
@@ -11,7 +14,7 @@ use Rattle.law_headline.proofs.Kept.{name-slot, name-generation}
 use Rattle.enet_fleet.specs.Fleets.{address_of}
 use Rattle.enet_fleet.specs.Transcript.{Happened, IsOnTranscript, user, asked, placed}
 use Rattle.enet_fleet.specs.Examples.{stranger}
-use Rattle.enet_fleet.specs.Refuted.{first, second, lie, swap, loan, early, slip, cross, NamesAreTied, OwnNamesAlone, LieIsRefuted, SwapIsRefuted, LoanIsRefuted, EarlyIsRefuted, AstrayIsRefuted, MirrorIsRefuted, SlipIsRefuted, CrossIsRefuted}
+use Rattle.enet_fleet.specs.Refuted.{first, second, lie, swap, loan, early, slip, cross, NamesAreTied, OwnNamesAlone, LieIsRefuted, SwapIsRefuted, LoanIsRefuted, EarlyIsRefuted, AstrayIsRefuted, MirrorIsRefuted, SlipIsRefuted, CrossIsRefuted, TwiceIsRefuted}
 
 pub tied : NamesAreTied
 tied clients hs h p k i low told all =
@@ -131,3 +134,19 @@ crossed h = by (o.forth 0 (let l : 0 < 256 = omega arith in l))
     by : Follows (packet 1 ∷ packet 3 ∷ []) ((1 ∷ []) ∷ (2 ∷ []) ∷ []) → ⊥
     by (inl same) = not-first 3 2 [] (λ (e : 3 ≡ 2). (omega arith)) same.1
     by (inr skip) = absurd (let z : 1 % 2 ≡ 0 = skip.0 in omega arith)
+
+-- of one packet none is another than the first
+the-first : (p q : Packet) (n : ℕ) → TakenAs (p ∷ []) n q → n ≡ 1
+the-first p q n t =
+    let long : 1 ≡ length t.before + length (t.packet ∷ t.later) = ap length t.split ∙ length-append t.before (t.packet ∷ t.later) in
+    let number : n ≡ length t.before + 1 = t.number in
+    omega arith
+
+pub taken-twice : TwiceIsRefuted
+taken-twice p q r k = by k.0 k.1 k.2
+  where
+    by : (numbers : List ℕ) → Each (TakenAs (p ∷ [])) numbers (q ∷ r ∷ []) → AreDistinct numbers → ⊥
+    by [] e d = absurd e
+    by (a ∷ []) e d = absurd e.1
+    by (a ∷ b ∷ []) e d = d 0 1 0 (omega arith) (omega arith) (the-first p q a e.0 ∙ sym (the-first p r b e.1.0))
+    by (a ∷ b ∷ c ∷ more) e d = absurd e.1.1

@@ -1,6 +1,5 @@
 -- By one event, and by a list of them, what a fleet keeps is what its transcript tells.
-use Rattle.std.proofs.Common.{◌≡◌, ◌≢◌, ℕ, zero, suc, ◌+◌, ◌<◌, ◌⊎◌, inl, inr, ◌==◌, ◌&&◌, ◌||◌, Bool, true, false, cond, List, [], ◌∷◌, ◌++◌, map, length, refl, sym, ap, subst, ◌∙◌, append-nil, append_assoc, arith, Option, Some, None, Result, Ok, Err, slice_get, slice_set}
-use Rattle.std.specs.Prelude.{zip, flat_map}
+use Rattle.std.proofs.Common.{◌≡◌, ◌≢◌, ℕ, zero, suc, ◌+◌, ◌<◌, ◌⊎◌, inl, inr, ◌==◌, ◌&&◌, ◌||◌, Bool, true, false, cond, List, [], ◌∷◌, ◌++◌, map, length, refl, sym, ap, subst, ◌∙◌, append-nil, arith, Option, Some, None, Result, Ok, Err, slice_get, slice_set}
 use Rattle.std.specs.List.{list_all, list_any}
 use Rattle.std.proofs.lemmas.Bool.Decides.{nat_tests}
 use Rattle.std.proofs.lemmas.List.{map-append, length-set}
@@ -18,25 +17,25 @@ use Rattle.law_network.specs.Calls as call
 use Rattle.enet_fleet.specs.declared.answer.Answer.{Answer}
 use Rattle.enet_fleet.specs.declared.answer.Answer.TheVariants as answers
 use Rattle.law_network.specs.Network.{HostEnd, Site, fresh_end, is_same_name}
-use Rattle.law_network.specs.Steps.{Around, Happening, Calls, Delivers, HappensAmong}
+use Rattle.law_network.specs.Steps.{Around, Happening, Calls, HappensAmong}
 use Rattle.law_network.proofs.Growing.{Grows, grows, more_of, stays-there}
 use Rattle.law_network.proofs.Lists.{same-or, get-set, get-set_other, get-within}
 use Rattle.law_network.proofs.Owned.{are-ends, none-held}
-use Rattle.law_network.proofs.Runs.{few-of, both}
+use Rattle.law_network.proofs.Runs.{few-of}
 use Rattle.law_network.proofs.Submitting.{same-some}
-use Rattle.enet_site.specs.Places.{Place, opened_at, all_opened}
+use Rattle.enet_site.specs.Places.{Place, opened_at}
 use Rattle.law_headline.specs.declared.node.Node.{Node}
 use Rattle.law_headline.specs.declared.node.Node.TheVariants.{Server, Client}
 use Rattle.enet_fleet.specs.declared.event.FleetEvent.{FleetEvent}
 use Rattle.enet_fleet.specs.declared.event.FleetEvent.TheVariants as happen
-use Rattle.enet_fleet.specs.Fleets.{Fleet, place_of, with_place, is_host, address_of, asked_after, node_of, from_of, Makes, Steps, Runs, open_fleet}
+use Rattle.enet_fleet.specs.Fleets.{Fleet, place_of, with_place, is_host, address_of, asked_after, node_of, from_of, Makes, Steps, open_fleet}
 use Rattle.enet_fleet.specs.Private.Around.{around}
 use Rattle.law_headline.specs.Nets as nets
 use Rattle.law_headline.proofs.Net as net
 use Rattle.enet_fleet.proofs.Places.{apart, Sound}
 use Rattle.enet_fleet.proofs.Runs.{sound-step, sound-run}
 use Rattle.law_headline.specs.Page.{is_of}
-use Rattle.law_headline.specs.Kept.{submitted_by, taken_by, is_guest, IsRecorded, IsCovered, and_submitted, and_taken}
+use Rattle.law_headline.specs.Kept.{submitted_by, taken_by, is_guest, IsRecorded, IsCovered}
 use Rattle.law_headline.proofs.Telling as telling
 use Rattle.law_headline.proofs.Telling.{push, runs-on, get-either, length-mapped}
 use Rattle.enet_fleet.specs.Transcript.{Happened, is_node, submits, takes, asks, submitted, taken, asked, brings_guest, guests}
@@ -286,7 +285,7 @@ begun-goes f g hs event answer what from m h k x i name is =
 abbrev Covered : Fleet → Node → List Happened → Site → Type 0
 Covered f n hs s = IsCovered (is_host (length f.clients)) (λ q channel. submitted n q channel hs) (λ q. taken n q hs) s
 
-node-host : (f : Fleet) (n : Node) (p : Place) → place_of f n ≡ Some p → is_host (length f.clients) (address_of n) ≡ true
+pub node-host : (f : Fleet) (n : Node) (p : Place) → place_of f n ≡ Some p → is_host (length f.clients) (address_of n) ≡ true
 node-host f Server p h = net.server-host address_of apart (length f.clients)
 node-host f (Client i) p h = net.client-host address_of apart (length f.clients) i (slice_get_within f.clients i p h)
 

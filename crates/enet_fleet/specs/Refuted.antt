@@ -1,15 +1,17 @@
 -- What the page refuses, where strangers are.
-use Rattle.std.specs.Prelude.{◌≡◌, ◌≢◌, ◌<◌, ℕ, List, [], ◌∷◌, Some, None, Result, Ok, slice_get}
+use Rattle.std.specs.Prelude.{◌≡◌, ◌≢◌, ◌<◌, ℕ, List, [], ◌∷◌, Some, None, Ok, slice_get}
 use Rattle.enet_codec.specs.declared.address.Addr.{Addr}
 use Rattle.enet_codec.specs.declared.event.Event.{Event}
 use Rattle.enet_codec.specs.declared.event.Event.TheVariants as events
 use Rattle.enet_codec.specs.declared.event.PeerRef.{PeerRef}
+use Rattle.enet_codec.specs.declared.packet.Packet.{Packet}
 use Rattle.law_headline.specs.declared.node.Node.{Node}
 use Rattle.law_headline.specs.declared.node.Node.TheVariants.{Server, Client}
 use Rattle.enet_fleet.specs.declared.answer.Answer.TheVariants as answers
 use Rattle.enet_fleet.specs.declared.event.FleetEvent.TheVariants as happen
 use Rattle.enet_fleet.specs.Fleets.{address_of}
 use Rattle.enet_fleet.specs.Examples.{stranger}
+use Rattle.enet_fleet.specs.Once.{AreTakenOnce}
 use Rattle.enet_fleet.specs.Transcript.{Happened, IsOnTranscript, IsOnEachFront, asked, placed}
 
 -- ---- of every list
@@ -121,3 +123,8 @@ cross = asks 0 first ∷ submits (Client 0) first 1 ∷ intrudes Server ∷ begi
 
 abbrev pub CrossIsRefuted : Type 0
 CrossIsRefuted = IsOnEachFront 1 cross → ⊥
+
+-- ---- of packets that go unsequenced
+-- of one that was submitted two are taken
+abbrev pub TwiceIsRefuted : Type 0
+TwiceIsRefuted = (submitted one other : Packet) → AreTakenOnce (submitted ∷ []) (one ∷ other ∷ []) → ⊥

@@ -8,6 +8,7 @@ ghost use Rattle.law_network.specs.Headline.{submitted_at, taken_at, events_at};
 ghost use Rattle.enet_fleet.specs.Transcript.{IsOnEachFront};
 ghost use Rattle.enet_fleet.specs.Fleets.{Fleet as AllHosts, Steps, Runs, open_fleet, place_of, sent_by};
 ghost use Rattle.enet_fleet.specs.Ends.{EachIsOneEnd};
+ghost use Rattle.enet_fleet.specs.Once.{NoneIsTakenTwice};
 ghost use Rattle.enet_fleet.specs.Headline.{HasHeadline, end_at, far_end};
 ghost use Rattle.enet_fleet.specs.Reached.{fit};
 
@@ -119,6 +120,10 @@ impl Fleet {
     /// from the address that the host has for it: the reliable packets have all numbers from 1 on, and each packet is whole. If the other end
     /// keeps the rules of the wire, it follows what that end sent. Each datagram that the host put out for it went there, with commands of what
     /// the user submitted to it, under their numbers (`IsEnd` of `law_one_end`).
+    ///
+    /// `once`: of each connection, each way, no packet that goes unsequenced is taken twice, where none comes late. To those that a user took
+    /// so, different ones belong that the other end's user submitted to go so, each on its channel and with its bytes. Late is one that comes
+    /// once more than 32,768 were submitted so after it (`IsRecent`); the bytes of the datagrams that were brought tell which came.
     pub fn play(
         alloc: Global,
         server: Config,
@@ -130,6 +135,7 @@ impl Fleet {
         ensures steps { IfOk result (λ answers. (f : AllHosts) × Runs (open_fleet server clients.now) events.now answers.items f) }
         ensures headline { IfOk result (λ answers. IsOnEachFront (length clients.now) (zip events.now answers.items)) }
         ensures ends { IfOk result (λ answers. EachIsOneEnd server clients.now events.now answers.items) }
+        ensures once { IfOk result (λ answers. NoneIsTakenTwice server clients.now events.now answers.items) }
     {
         let mut fleet = Fleet::open(alloc, server, clients)?;
         let answers = fleet.run(events);
