@@ -3,8 +3,8 @@
 //!
 //! It speaks of the runs of `law_connection`, whose laws leave unsequenced packets out: of two peers and any list of events at either.
 //! Proved: each unsequenced packet that is taken was submitted, and is taken at most once where none comes over 32,768 late
-//! (`each_was_submitted`); a run in which one is taken does happen (`runs_happen`). Of hosts `law_network` says the former, and nothing
-//! says the latter. Not promised: any order of these packets, or that one comes.
+//! (`each_was_submitted`); a run in which one is taken does happen (`runs_happen`). Of hosts `law_network` says the former, and of a
+//! fleet's `Fleet::play` of `enet_fleet` the latter. Not promised: any order of these packets, or that one comes.
 #![tactic(auto)]
 
 ghost use Rattle.law_connection.specs.Examples.{OfSomeJoined};
