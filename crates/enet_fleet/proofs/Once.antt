@@ -106,7 +106,7 @@ more-numbers qs (u ∷ more) come k recent = (let r = recent u (inl refl) in
       numbers = k.numbers ++ r.0 ∷ [];
       each = each-push qs k.numbers come r.0 u k.each r.1;
       in_time = all_pairs_push (λ earlier later. earlier ≤ later + 32768) k.numbers r.0 k.in_time
-          (λ i d low. let below : get_or k.numbers i d ≤ length qs = numbers-low qs k.numbers come k.each i d low in let last : length qs ≤ r.0 + 32768 = r.2 in omega arith);
+          (λ i d low. let below : get_or k.numbers i d ≤ length qs = numbers-low qs k.numbers come k.each i d low in let last = r.2 in omega arith);
     }) (λ v h. recent v (inr h))))
 
 -- more packets were submitted
