@@ -1,6 +1,6 @@
 -- What a line of a script spells: the words behind its first word have the form that the first names, or it spells nothing. Where a
 -- form is one of a world and of a fleet alike, the name of the host tells of which.
-use Rattle.std.specs.Prelude.{ℕ, ◌^◌, nat_eq, if◌then◌else◌, List, [], ◌∷◌, codes, bytes_eq, Option, Some, None, option_map}
+use Rattle.std.specs.Prelude.{ℕ, ◌^◌, nat_eq, nat_le, if◌then◌else◌, List, [], ◌∷◌, codes, bytes_eq, Option, Some, None, option_map}
 use Rattle.std.specs.List.{starts_with}
 use Rattle.std.specs.Option.{option_or}
 use Rattle.enet_codec.specs.declared.event.DisconnectMode.{DisconnectMode}
@@ -43,12 +43,15 @@ fleet_of others = of_three (λ clients peers channels. do
   channels ← number_below (2 ^ 8) channels
   Some (Fleet clients peers channels)) others
 
--- `calm <rounds> <ms>`
+-- `calm <rounds> <ms>`: no more than 16,777,216 rounds, so that each line ends
+abbrev pub calm_up_to : ℕ → ℕ → Option Line
+calm_up_to rounds ms = if nat_le rounds 16777216 then Some (Calm rounds ms) else None
+
 abbrev pub calm_of : List (List ℕ) → Option Line
 calm_of others = of_two (λ rounds ms. do
-  rounds ← number_below (2 ^ 16) rounds
+  rounds ← number_below (2 ^ 64) rounds
   ms ← number_below (2 ^ 32) ms
-  Some (Calm rounds ms)) others
+  calm_up_to rounds ms) others
 
 -- `rounds <connection> <ms>`
 abbrev pub rounds_of : List (List ℕ) → Option Line

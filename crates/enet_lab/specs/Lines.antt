@@ -13,8 +13,9 @@ use Rattle.law_network.specs.declared.event.WorldEvent.{WorldEvent}
 use Rattle.law_network.specs.Log.{Logged}
 use Rattle.law_network.specs.World.{World, site_of, side_of}
 use Rattle.law_network.specs.World as world
-use Rattle.enet_world.specs.Worlds.{Begun, begun}
+use Rattle.enet_world.specs.Worlds.{Begun, begun, passed_by, passed_by_rounds}
 use Rattle.enet_world.specs.Calm.{Rounds}
+use Rattle.enet_world.specs.Needed.{rounds_needed}
 use Rattle.enet_world.specs.Progress.{AreEnough}
 use Rattle.enet_world.specs.declared.calm.Calm.{Calm}
 use Rattle.enet_fleet.specs.declared.answer.Answer.{Answer as FleetAnswer}
@@ -47,7 +48,7 @@ abbrev pub world_text : WorldEvent → Result Answer Refusal → Begun → List 
 world_text event outcome new = outcome_text (OfWorld (side_of event)) None (bytes_shown new.world (side_of event) outcome) outcome
 
 abbrev pub WorldSteps : Begun → WorldEvent → Result Answer Refusal → Begun → Type 0
-WorldSteps old event outcome new = world.Steps old.world event outcome new.world × (new.joined ≡ old.joined)
+WorldSteps old event outcome new = world.Steps old.world event outcome new.world × (new.joined ≡ old.joined) × (new.passed ≡ passed_by event old.passed)
 
 -- The datagram that an answer of a fleet shows: where it went, and its bytes.
 abbrev pub sent_shown : Fleet → Node → Result Answer Refusal → Option (Addr × List ℕ)
@@ -78,11 +79,13 @@ pub record StaysCalm (old : Begun) (rounds ms : ℕ) (text : List ℕ) (new : Be
   pub told : Calm
   pub played : Rounds ms rounds told old.world new.world
   pub joined : new.joined ≡ old.joined
+  pub passed : new.passed ≡ passed_by_rounds rounds ms old.passed
   pub text_is : text ≡ calm_text told
 
 -- How many rounds are enough for a connection, of which that is told.
 pub record TellsRounds (now : Begun) (connection ms : ℕ) (text : List ℕ) : Type 0 where
   pub needed : Option ℕ
+  pub is : needed ≡ rounds_needed ms now connection
   pub enough : IfSome needed (λ rounds. AreEnough ms rounds now.world connection)
   pub text_is : text ≡ rounds_text needed
 

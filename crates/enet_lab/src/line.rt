@@ -14,6 +14,9 @@ use enet_text::{
 use law_network::WorldEvent;
 use std::alloc::{AllocError, Global};
 
+/// How many rounds a line makes happen at most, so that each line ends within some minutes: a round takes some microseconds at least.
+const MOST_ROUNDS: u64 = 16_777_216;
+
 /// What a line spells.
 #[derive(Drop)]
 pub enum Line {
@@ -48,8 +51,8 @@ pub enum Line {
     InWorld(WorldEvent),
     /// So many rounds happen in it in which the network loses nothing.
     Calm {
-        /// How many rounds.
-        rounds: u16,
+        /// How many rounds, at most 16,777,216.
+        rounds: u64,
         /// By how many milliseconds both clocks go on in each.
         ms: u32,
     },
@@ -142,8 +145,11 @@ fn calm(text: &[u8]) -> Option<Line>
     ensures { result ≡ calm_of (words text.now) }
 {
     let (rounds, ms) = two(text)?;
-    let rounds = u16_of(rounds)?;
+    let rounds = u64_of(rounds)?;
     let ms = u32_of(ms)?;
+    if rounds > MOST_ROUNDS {
+        return None;
+    }
     Some(Line::Calm { rounds, ms })
 }
 

@@ -170,7 +170,7 @@ impl Script {
     }
 
     /// Makes rounds without losses happen in the world.
-    fn calm(&mut self, rounds: u16, ms: u32) -> Result<Option<String>, LabFault>
+    fn calm(&mut self, rounds: u64, ms: u32) -> Result<Option<String>, LabFault>
         ensures lines { self.new.lines ≡ self.old.lines }
         ensures does { IfOk result (λ answer. Does self.old.stage (spelled.Calm rounds ms) (option_map string_bytes answer) self.new.stage) }
         ensures unreadable { IfErr result (IsRefused self.old.lines (can_do self.old.stage (spelled.Calm rounds ms))) }

@@ -41,7 +41,7 @@ fn bytes_shown<'a>(world: &'a World, side: Side, outcome: &Result<Answer, Refusa
 pub(crate) fn world_calm(
     alloc: Global,
     world: &mut World,
-    rounds: u16,
+    rounds: u64,
     ms: u32,
 ) -> Result<String, AllocError>
     ensures { IfOk result (λ text. StaysCalm world.old rounds ms (string_bytes text) world.new) }

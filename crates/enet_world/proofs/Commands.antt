@@ -1,5 +1,5 @@
 -- No more commands are outstanding at a connected peer than its user's packets are cut into; and so rounds are enough.
-use Rattle.std.proofs.Common.{◌≡◌, ℕ, zero, suc, ◌+◌, ◌-◌, ◌*◌, ◌/◌, ◌<◌, ◌≤◌, ◌==◌, ◌&&◌, ◌⊎◌, inl, inr, not, Bool, true, false, cond, List, [], ◌∷◌, ◌++◌, length, refl, sym, ap, subst, ◌∙◌, arith, Option, Some, None, IfSome}
+use Rattle.std.proofs.Common.{◌≡◌, ℕ, zero, suc, ◌+◌, ◌-◌, ◌*◌, ◌/◌, ◌<◌, ◌^◌, ◌≤◌, ◌==◌, ◌&&◌, ◌⊎◌, inl, inr, min, nat_lt, not, Bool, true, false, cond, List, [], ◌∷◌, ◌++◌, length, refl, sym, ap, subst, ◌∙◌, arith, Option, Some, None, IfSome}
 use Rattle.std.proofs.lemmas.Bool.Decides.{nat_tests}
 use Rattle.std.proofs.lemmas.Option.{slice_get_within}
 use Rattle.std.specs.List.{slice_get}
@@ -9,6 +9,7 @@ use Rattle.enet_fragment.specs.Cutting.{piece_count}
 use Rattle.enet_sender.specs.CommandChoice as command_choice
 use Rattle.enet_sender.specs.Due.{SendingEnd}
 use Rattle.enet_outbox.specs.Outbox.{is_unsequenced}
+use Rattle.enet_peer.specs.declared.parts.PeerState.{PeerState}
 use Rattle.enet_peer.specs.declared.parts.PeerState.TheVariants as state
 use Rattle.enet_peer.specs.Peering.{Peering}
 use Rattle.enet_host.specs.Host.{named}
@@ -28,9 +29,10 @@ use Rattle.law_progress.specs.Exchanges.{outstanding_over}
 use Rattle.law_progress.specs.Links.{outstanding_at}
 use Rattle.law_progress.proofs.Exchanges.{Joint, joint-swap}
 use Rattle.law_progress.proofs.Outstanding.{pieces_in, few-runs, fewer-pieces, sum_below, over-few, sum-more}
-use Rattle.enet_site.specs.Standing.{peer_at}
+use Rattle.enet_site.specs.Standing.{peer_at, state_at}
 use Rattle.enet_world.specs.Progress.{AreConnected, AreEnough}
-use Rattle.enet_world.specs.Private.Enough.{pieces_of, pieces_below, AreOverIn}
+use Rattle.enet_world.specs.Needed.{held, is_connected, pieces_of, pieces_below}
+use Rattle.enet_world.specs.Private.Enough.{AreOverIn}
 use Rattle.enet_world.specs.Private.Worlds.{IsReached}
 use Rattle.enet_world.proofs.Through.{Begun, IsConnected, begun, connected-at, shown-end-of}
 use Rattle.enet_world.proofs.TwoEnds.{from_start, sound}
@@ -51,18 +53,30 @@ pub pieces-push : (ps : List Packet) (p : Packet) → pieces_of (ps ++ p ∷ [])
 pieces-push [] p = omega arith
 pieces-push (q ∷ ps) p = let rest = pieces-push ps p in omega arith
 
-pub pieces-next : (w : World) (x : ℕ) (side : Side) (channel so_far more all : ℕ) → so_far ≡ pieces_below w x side channel → more ≡ pieces_of (submitted_at channel (end_at w x side)) → all ≡ so_far + more
-    → all ≡ pieces_below w x side (channel + 1)
+-- of counts that stop at 2^64 - 1
+pub sum-held : (a p d n m s : ℕ) → p ≡ min a 18446744073709551615 → d ≡ n → m ≡ min (p + d) 18446744073709551615 → s ≡ a + n → m ≡ min s 18446744073709551615
+sum-held a p d n m s one two three four = omega arith
+
+pub pieces-next : (w : World) (x : ℕ) (side : Side) (channel so_far more all : ℕ) → so_far ≡ min (pieces_below w x side channel) 18446744073709551615
+    → more ≡ min (pieces_of (submitted_at channel (end_at w x side))) 18446744073709551615 → all ≡ min (so_far + more) 18446744073709551615 → all ≡ min (pieces_below w x side (channel + 1)) 18446744073709551615
 unfolding pieces_below
-pieces-next w x side channel so_far more all a b sum =
-    subst (λ n. all ≡ pieces_below w x side n) (one-more channel) (sum ∙ ap (λ n. n + more) a ∙ ap (λ n. pieces_below w x side channel + n) b)
+pieces-next w x side channel so_far more all a b sum = subst (λ n. all ≡ min (pieces_below w x side n) 18446744073709551615) (one-more channel) (both (pieces_below w x side channel) (pieces_of (submitted_at channel (end_at w x side))) a b)
   where
     one-more : (n : ℕ) → suc n ≡ n + 1
     one-more n = omega arith
 
-pub if-rounds : (o : Option ℕ) (P Q : ℕ → Type 0) → ((n : ℕ) → P n → Q n) → IfSome o P → IfSome o Q
-if-rounds None P Q f h = h
-if-rounds (Some n) P Q f h = f n h
+    both : (m n : ℕ) → so_far ≡ min m 18446744073709551615 → more ≡ min n 18446744073709551615 → all ≡ min (m + n) 18446744073709551615
+    both m n a b = omega arith
+
+-- a number that 64 bits hold is no other where the counts in it stop
+pub held-whole : (w a b m n : ℕ) → m ≡ min a 18446744073709551615 → n ≡ min b 18446744073709551615 → held (w + 2 * (m + n)) ≡ held (w + 2 * (a + b))
+held-whole w a b m n is_m is_n = by (nat_lt (w + 2 * (m + n)) (2 ^ 64)) (nat_lt (w + 2 * (a + b)) (2 ^ 64)) refl refl
+  where
+    by : (s t : Bool) → nat_lt (w + 2 * (m + n)) (2 ^ 64) ≡ s → nat_lt (w + 2 * (a + b)) (2 ^ 64) ≡ t → cond s (Some (w + 2 * (m + n))) None ≡ cond t (Some (w + 2 * (a + b))) None
+    by true true e f = ap (λ k. Some k) (grind (arith, nat_tests))
+    by true false e f = absurd (grind (arith, nat_tests))
+    by false true e f = absurd (grind (arith, nat_tests))
+    by false false e f = refl
 
 -- ---- on one channel
 pub sum-on : (mtu channel : ℕ) (ps : List Packet) → 576 ≤ mtu → pieces_in mtu (of_channel mtu channel ps) ≤ pieces_of (on_channel channel ps)
@@ -205,3 +219,31 @@ enough-rounds joined w x ms waits a b rounds r both over is_a is_b sum = record 
         let all = few-over (from_start joined x) own far p j is on wide in
         let kept = below-shown w x side e own 255 at shows whole in
         subst (λ (y : Peering). outstanding_over y.outbox.senders ≤ pieces_below w x side 255) same (subst (λ n. outstanding_over p.outbox.senders ≤ n) kept all)
+
+-- ---- the number that is told
+if-held : (n : ℕ) (P : ℕ → Type 0) → P n → IfSome (held n) P
+if-held n P h = by (nat_lt n (2 ^ 64))
+  where
+    by : (b : Bool) → IfSome (cond b (Some n) None) P
+    by true = h
+    by false = tt
+
+pub enough-told : (joined : Bool) (w : World) (x ms waits of_a of_b : ℕ) (told : Option ℕ) → IsReached joined w → state_at w.a x ≡ Some state.Connected → state_at w.b x ≡ Some state.Connected → AreOverIn waits ms w
+    → of_a ≡ min (pieces_below w x A 255) 18446744073709551615 → of_b ≡ min (pieces_below w x B 255) 18446744073709551615 → told ≡ held (waits + 2 * (of_a + of_b)) → IfSome told (λ rounds. AreEnough ms rounds w x)
+enough-told joined w x ms waits of_a of_b told r one two over is_a is_b is =
+    let a : ℕ = pieces_below w x A 255 in
+    let b : ℕ = pieces_below w x B 255 in
+    subst (λ (o : Option ℕ). IfSome o (λ rounds. AreEnough ms rounds w x)) (sym (is ∙ held-whole waits a b of_a of_b is_a is_b))
+    (if-held (waits + 2 * (a + b)) (λ rounds. AreEnough ms rounds w x) (enough-rounds joined w x ms waits a b (waits + 2 * (a + b)) r (one, two) over refl refl refl))
+
+pub connected-is : (o : Option PeerState) → is_connected o ≡ true → o ≡ Some state.Connected
+connected-is (Some state.Connected) h = refl
+connected-is (Some state.Connecting) h = absurd (let z : false ≡ true = h in cc)
+connected-is (Some state.Answering) h = absurd (let z : false ≡ true = h in cc)
+connected-is (Some state.DisconnectLater) h = absurd (let z : false ≡ true = h in cc)
+connected-is (Some state.Disconnecting) h = absurd (let z : false ≡ true = h in cc)
+connected-is (Some state.AckDisconnect) h = absurd (let z : false ≡ true = h in cc)
+connected-is (Some state.Ended) h = absurd (let z : false ≡ true = h in cc)
+connected-is (Some state.Parting) h = absurd (let z : false ≡ true = h in cc)
+connected-is (Some state.Free) h = absurd (let z : false ≡ true = h in cc)
+connected-is None h = absurd (let z : false ≡ true = h in cc)

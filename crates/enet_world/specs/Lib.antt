@@ -4,3 +4,4 @@ pub mod Transcript
 pub mod Calm
 pub mod Delivered
 pub mod Progress
+pub mod Needed

@@ -4,6 +4,7 @@ ghost use Rattle.std.specs.Prelude.{◌≡◌, ◌≤◌, ◌&&◌, is_some};
 ghost use Rattle.law_network.specs.Headline.{HasHeadline};
 ghost use Rattle.enet_world.specs.Delivered.{HasDelivered};
 ghost use Rattle.enet_world.specs.Progress.{GetsThrough};
+ghost use Rattle.enet_world.specs.Worlds.{passed_by_rounds};
 ghost use Rattle.enet_world.specs.Calm.{PutsAllOut, Round, Rounds, TakesAll, both, datagram_in, event_in, is_smooth, refusals_in, stops_in};
 
 use crate::world::{World, other};
@@ -139,9 +140,9 @@ impl World {
     /// A puts out all that it may, and then B, and each datagram comes at once to the other side; and then both users take all that
     /// there is. No side puts out more than 65,536 datagrams in a round, and no user takes more events.
     ///
-    /// `rounds`: this is what happens, event by event, each as `step` makes it happen, and it is counted; the counts stop at 2^64 - 1,
-    /// which so few rounds can't reach. A turn or a take that is refused for want of memory counts as one that brought nothing; a
-    /// datagram that the other side refuses, also for want of memory, is counted, and doesn't come again.
+    /// `rounds`: this is what happens, event by event, each as `step` makes it happen, and it is counted; the counts stop at 2^64 - 1.
+    /// A turn or a take that is refused for want of memory counts as one that brought nothing; a datagram that the other side refuses,
+    /// also for want of memory, is counted, and doesn't come again. `passed`: both clocks' time is counted, too.
     ///
     /// `progress`: once the network loses nothing, all comes. Of each connection that is connected at both sides before the rounds and
     /// after them (`World::state`): where nothing stood in the way (`Calm::is_smooth`), and the rounds were enough, each user has taken
@@ -153,9 +154,10 @@ impl World {
     /// `delivered`: what a side has nothing left of has arrived. Where the peer of an end stands, still sends, and has no reliable command
     /// of a channel queued or unacknowledged after the rounds, each reliable packet that its user submitted there, and that went in order,
     /// was dispatched at the other end, in order, if that stands and still dispatches.
-    pub fn calm(&mut self, rounds: u16, ms: u32) -> Calm
+    pub fn calm(&mut self, rounds: u64, ms: u32) -> Calm
         ensures rounds { Rounds ms rounds result self.old.world self.new.world }
         ensures joined { self.new.joined ≡ self.old.joined }
+        ensures passed { self.new.passed ≡ passed_by_rounds rounds ms self.old.passed }
         ensures headline { HasHeadline self.new.joined self.new.world }
         ensures delivered { HasDelivered self.new.world }
         ensures progress { GetsThrough ms rounds result self.old.world self.new.world }
@@ -181,6 +183,7 @@ impl World {
     fn round(&mut self, ms: u32) -> Calm
         ensures round { Round ms result self.old.world self.new.world }
         ensures joined { self.new.joined ≡ self.old.joined }
+        ensures passed { self.new.passed ≡ passed_by_rounds 1 ms self.old.passed }
     {
         let _told_a = self.happen(&WorldEvent::Tick { side: Side::A, ms });
         let _told_b = self.happen(&WorldEvent::Tick { side: Side::B, ms });
@@ -211,6 +214,7 @@ impl World {
         ensures all { PutsAllOut side result.sent result.refused result.stopped result.cut self.old.world self.new.world }
         ensures few { result.cut ≤ 1 }
         ensures joined { self.new.joined ≡ self.old.joined }
+        ensures passed { self.new.passed ≡ self.old.passed }
     {
         let mut sent = 0;
         let mut refused = 0;
@@ -247,6 +251,7 @@ impl World {
         ensures all { TakesAll side result.taken result.cut self.old.world self.new.world }
         ensures few { result.cut ≤ 1 }
         ensures joined { self.new.joined ≡ self.old.joined }
+        ensures passed { self.new.passed ≡ self.old.passed }
     {
         let mut taken = 0;
         'takes: while taken < MOST {

@@ -8,9 +8,9 @@
 //! (`HasHeadline`), and what a host has nothing left to send of was delivered at the other (`HasDelivered`). `calm` is the stated rounds of
 //! such events in which the network loses nothing (`Rounds`), counted; enough of them bring all that was submitted reliably, of a
 //! connection that stands before and after them, where nothing stood in the way (`GetsThrough`). `rounds_needed` tells of how many that is
-//! so (`AreEnough`), which needn't be the least number.
+//! so (`AreEnough`): the stated number, where it is stated to tell one (specs/Needed), which needn't be the least.
 //! Only tested, by scripts/rows, `check_lists` and `check_memory`: that calls succeed with ample memory, worked runs with their
-//! answers and bytes, that `rounds_needed` tells a number where it says so, and that a call which was refused for want of memory is answered as wanted when it is made again.
+//! answers and bytes, and that a call which was refused for want of memory is answered as wanted when it is made again.
 //! Neither: that a datagram arrives, or that memory is there; nor that a connection stands through rounds without losses.
 #![tactic(auto)]
 

@@ -1,6 +1,6 @@
 //! A world of two hosts.
 
-ghost use Rattle.std.specs.Prelude.{◌≡◌, ◌&&◌, true, false, slice_get, zip, Err, IfOk, IfErr, IfSome, OnErr};
+ghost use Rattle.std.specs.Prelude.{◌≡◌, ◌&&◌, true, false, slice_get, zip, Some, None, Err, if◌then◌else◌, IfOk, IfErr, IfSome, OnErr};
 ghost use Rattle.std.specs.Option.{option_copied, option_map};
 ghost use Rattle.enet_codec.specs.Config.{is_in_range};
 ghost use Rattle.law_network.specs.Headline.{HasHeadline, end_at, submitted_at, taken_at, events_at};
@@ -8,9 +8,10 @@ ghost use Rattle.law_network.specs.World.{World as TwoHosts, Steps, Runs, open_w
 ghost use Rattle.enet_site.specs.Standing.{state_at};
 ghost use Rattle.enet_world.specs.Delivered.{HasDelivered};
 ghost use Rattle.enet_world.specs.Transcript.{IsOnEachFront};
-ghost use Rattle.enet_world.specs.Worlds.{begun};
+ghost use Rattle.enet_world.specs.Worlds.{begun, passed_by, passed_in};
+ghost use Rattle.enet_world.specs.Needed.{is_timed, rounds_of_a_wait};
 ghost use Rattle.enet_world.specs.Private.Enough.{AreOverIn};
-ghost use Rattle.enet_world.specs.Private.Worlds.{IsReached, passes};
+ghost use Rattle.enet_world.specs.Private.Worlds.{IsReached};
 
 use crate::enough::rounds_of_a_wait;
 use crate::hosts::Hosts;
@@ -45,7 +46,7 @@ impl Model for World {
 
     ghost coded = { Prim.hlevel (codes, inbox_code) };
 
-    ghost view = { λ w. record { joined = w.joined; world = w.hosts } };
+    ghost view = { λ w. record { joined = w.joined; passed = w.passed; world = w.hosts } };
 
     ghost invariant = { λ w. IsReachedIn w.passed w.joined w.hosts };
 }
@@ -63,13 +64,13 @@ pub(crate) fn other(side: Side) -> Side
 /// For so many milliseconds the clocks can go on before a wait that begins then could outlast their 32 bits.
 const LATEST: u32 = 4_294_500_000;
 
-/// By how many milliseconds an event's clock goes on.
-fn passes(event: &WorldEvent) -> u32
-    ensures { result ≡ passes event.now }
+/// By how many milliseconds both clocks together have gone on, once an event has happened.
+fn passed_by(event: &WorldEvent, passed: u32) -> u32
+    ensures { result ≡ passed_by event.now passed }
 {
     match event {
-        WorldEvent::Tick { ms, .. } => (*ms).min(60_000),
-        _ => 0,
+        WorldEvent::Tick { ms, .. } => passed.saturating_add((*ms).min(60_000)),
+        _ => passed,
     }
 }
 
@@ -174,10 +175,11 @@ impl World {
     }
 
     /// Makes one event happen. An event that is refused changes nothing; `WorldEvent` names the refusals that each can meet, in the
-    /// order in which they are tested.
+    /// order in which they are tested. Of the time that has passed a tick is counted alone (`passed`).
     pub fn step(&mut self, event: WorldEvent) -> Result<Answer, Refusal>
         ensures steps { Steps self.old.world event result self.new.world }
         ensures joined { self.new.joined ≡ self.old.joined }
+        ensures passed { self.new.passed ≡ passed_by event self.old.passed }
         ensures headline { HasHeadline self.new.joined self.new.world }
     {
         let answer = self.happen(&event);
@@ -192,6 +194,7 @@ impl World {
         ensures unchanged { OnErr result (self.new ≡ self.old) }
         ensures steps { IfOk result (λ answers. Runs self.old.world events.now answers.items self.new.world) }
         ensures joined { self.new.joined ≡ self.old.joined }
+        ensures passed { IfOk result (λ answers. self.new.passed ≡ passed_in events.now self.old.passed) }
         ensures headline { HasHeadline self.new.joined self.new.world }
     {
         let answers = self.run_all(events);
@@ -204,6 +207,7 @@ impl World {
         ensures unchanged { OnErr result (self.new ≡ self.old) }
         ensures steps { IfOk result (λ answers. Runs self.old.world events.now answers.items self.new.world) }
         ensures joined { self.new.joined ≡ self.old.joined }
+        ensures passed { IfOk result (λ answers. self.new.passed ≡ passed_in events.now self.old.passed) }
     {
         let Ok(mut answers) = Vec::with_capacity(self.alloc, events.len()) else {
             return Err(Refusal::Memory);
@@ -217,10 +221,11 @@ impl World {
     pub(crate) fn happen(&mut self, event: &WorldEvent) -> Result<Answer, Refusal>
         ensures steps { Steps self.old.world event.now result self.new.world }
         ensures joined { self.new.joined ≡ self.old.joined }
+        ensures passed { self.new.passed ≡ passed_by event.now self.old.passed }
     {
         // A host that puts out a datagram has an end of the peer to which it goes.
         self.headline();
-        let passed = self.passed.saturating_add(passes(event));
+        let passed = passed_by(event, self.passed);
         self.passed = passed;
         self.hosts.happen(self.alloc, event)
     }
@@ -228,7 +233,8 @@ impl World {
     /// After so many rounds of so many milliseconds all that was sent before them is due to go again, or has waited out its timeout, at both
     /// sides. None where `ms` is 0, or the clocks have gone on for so long that the 32 bits of one may have wrapped.
     pub(crate) fn over_in(&self, ms: u32) -> Option<u64>
-        ensures { IfSome result (λ rounds. AreOverIn rounds ms self.now.world) }
+        ensures exact { result ≡ if is_timed ms self.now.passed then Some (rounds_of_a_wait ms) else None }
+        ensures over { IfSome result (λ rounds. AreOverIn rounds ms self.now.world) }
     {
         // The field is looked at, so that what holds of every world is known here.
         let _ = &self.hosts;

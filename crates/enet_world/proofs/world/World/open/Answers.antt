@@ -4,7 +4,7 @@ use Rattle.law_network.specs.World.{World}
 use Rattle.enet_world.proofs.world.World.open.Goals as goal
 
 pub returns-clause-fresh : goal.returns-clause-fresh
-returns-clause-fresh c = ap (λ (w : World). record { joined = false; world = w }) c.in_ok-open.ensures.fresh
+returns-clause-fresh c = ap (λ (w : World). record { joined = false; passed = 0; world = w }) c.in_ok-open.ensures.fresh
 
 pub invariant_of-result : goal.invariant_of-result
 invariant_of-result c =

@@ -1,10 +1,10 @@
-use Rattle.std.proofs.Common.{◌≡◌, ◌≤◌, ◌-◌}
-use Rattle.enet_world.specs.Private.Enough.{pieces_below}
+use Rattle.std.proofs.Common.{◌≡◌, ◌≤◌, ◌-◌, min}
+use Rattle.enet_world.specs.Needed.{pieces_below}
 use Rattle.enet_world.proofs.world.World.pieces.Given as goal
 
 abbrev pub invariant-channels : goal.invariant-channels
 invariant-channels l = record {
-  counted : l.pieces ≡ pieces_below l.self.world l.conn l.side l.channel;
+  counted : l.pieces ≡ min (pieces_below l.self.world l.conn l.side l.channel) 18446744073709551615;
   end : l.channel ≤ 255;
 }
 

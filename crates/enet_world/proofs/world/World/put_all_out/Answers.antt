@@ -16,6 +16,7 @@ turns-preserved c =
       few_stopped = omega arith;
       end = omega (arith, c.turns-test.true);
       joined = c.happen-answer.ensures.joined ∙ c.happen-told.ensures.joined ∙ c.turns.invariant.joined;
+      passed = c.happen-answer.ensures.passed ∙ c.happen-told.ensures.passed ∙ c.turns.invariant.passed;
     }
 
 -- the same where what was told holds an event, of which nothing more is asked
@@ -33,6 +34,7 @@ turns-preserved-in-Some-5 c =
       few_stopped = omega arith;
       end = omega (arith, c.turns-test.true);
       joined = c.happen-answer.ensures.joined ∙ c.happen-told.ensures.joined ∙ c.turns.invariant.joined;
+      passed = c.happen-answer.ensures.passed ∙ c.happen-told.ensures.passed ∙ c.turns.invariant.passed;
     }
 
 pub returns-clause-all : goal.returns-clause-all

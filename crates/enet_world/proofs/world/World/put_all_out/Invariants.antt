@@ -9,6 +9,7 @@ invariant-turns l = record {
   few_stopped : l.stopped ≤ l.sent;
   end : l.sent ≤ 65536;
   joined : l.self.joined ≡ l.fn.self.joined;
+  passed : l.self.passed ≡ l.fn.self.passed;
 }
 
 abbrev pub decreases-turns : goal.decreases-turns

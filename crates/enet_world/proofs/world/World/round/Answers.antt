@@ -1,4 +1,7 @@
-use Rattle.std.proofs.Common.{refl}
+use Rattle.std.proofs.Common.{ap, refl, ◌∙◌}
+use Rattle.law_network.specs.declared.event.Side.TheVariants.{B}
+use Rattle.law_network.specs.declared.event.WorldEvent.TheVariants as happen
+use Rattle.enet_world.specs.Worlds.{passed_by}
 use Rattle.enet_world.proofs.world.World.round.Goals as goal
 
 pub returns-clause-round : goal.returns-clause-round
@@ -21,3 +24,8 @@ returns-clause-round c = record {
   all_a = refl;
   all_b = refl;
 }
+
+pub returns-clause-passed : goal.returns-clause-passed
+returns-clause-passed c =
+    c.take_all-taken_b.ensures.passed ∙ c.take_all-taken_a.ensures.passed ∙ c.put_all_out-out_b.ensures.passed ∙ c.put_all_out-out_a.ensures.passed
+    ∙ c.happen-told_b.ensures.passed ∙ ap (passed_by (happen.Tick B c.args.ms)) c.happen-told_a.ensures.passed

@@ -7,6 +7,7 @@ invariant-takes l = record {
   taken : TakesMany l.side l.taken l.fn.self.world l.self.world;
   end : l.taken ≤ 65536;
   joined : l.self.joined ≡ l.fn.self.joined;
+  passed : l.self.passed ≡ l.fn.self.passed;
 }
 
 abbrev pub decreases-takes : goal.decreases-takes
