@@ -155,10 +155,12 @@ bool layer_undress(Layer *layer, const gofnjerta_address *from, uint8_t **data, 
 
 #pragma GCC visibility pop
 
-/* The length of the command at the front of so many bytes, its payload included; 0 where there is none that is whole. */
+/* The length of the command at the front of so many bytes, at least one, its payload included; 0 where there is none that is whole. */
 static inline size_t command_length(const uint8_t *at, size_t left) {
-    static const uint8_t sizes[16] = {0, 8, 48, 44, 8, 4, 6, 8, 24, 8, 12, 16, 24}, lengths_at[16] = {[6] = 4, [7] = 6, [8] = 6, [9] = 6, [12] = 6};
-    size_t size = left ? sizes[at[0] & 0xF] : 0, place = left ? lengths_at[at[0] & 0xF] : 0;
+    static const struct {
+        uint8_t size, length_at;
+    } shapes[16] = {{0, 0}, {8, 0}, {48, 0}, {44, 0}, {8, 0}, {4, 0}, {6, 4}, {8, 6}, {24, 6}, {8, 6}, {12, 0}, {16, 0}, {24, 6}};
+    size_t size = shapes[at[0] & 0xF].size, place = shapes[at[0] & 0xF].length_at;
     if (!size || size > left) return 0;
     if (place) size += (size_t)at[place] << 8 | at[place + 1];
     return size <= left ? size : 0;

@@ -71,11 +71,16 @@ static int send_anew(Layer *layer, const ENetPeer *peer, enet_uint8 channel, ENe
     return 0;
 }
 
-/* The slot's peer holds a reference until the next service. There is room for it. */
-static void hold(Layer *layer, uint16_t number, ENetPacket *packet) {
-    layer->sent[layer->sent_count++] = (Given){packet, number};
-    packet->referenceCount++;
-    put_mark(&layer->host.peers[number].outgoingCommands, &layer->marks[number].queued);
+/* These peers hold a reference each until the next service. There is room for them. */
+static void hold(Layer *layer, const gofnjerta_peer *names, size_t count, ENetPacket *packet) {
+    Given *sent = layer->sent + layer->sent_count;
+    for (size_t i = 0; i < count; i++) {
+        uint16_t number = names[i].slot;
+        sent[i] = (Given){packet, number};
+        put_mark(&layer->host.peers[number].outgoingCommands, &layer->marks[number].queued);
+    }
+    layer->sent_count += count;
+    packet->referenceCount += count;
 }
 
 int enet_peer_send(ENetPeer *peer, enet_uint8 channel, ENetPacket *packet) {
@@ -83,7 +88,7 @@ int enet_peer_send(ENetPeer *peer, enet_uint8 channel, ENetPacket *packet) {
     if (peer->state != ENET_PEER_STATE_CONNECTED || layer->ends || packet->dataLength > layer->host.maximumPacketSize) return -1;
     if (!make_room_sent(layer, 1)) return -1;
     if (layer->staged != packet ? send_anew(layer, peer, channel, packet) : !share(layer, peer, channel, packet)) return -1;
-    hold(layer, peer->incomingPeerID, packet);
+    hold(layer, &slot_of(peer)->name, 1, packet);
     return 0;
 }
 
@@ -93,7 +98,7 @@ static void give_all(Layer *layer, const gofnjerta_peer *names, size_t count, en
     if (count == 1) enet_peer_send(&layer->host.peers[names[0].slot], channel, packet);
     if (count < 2 || !make_room_sent(layer, count)) return;
     if (gofnjerta_broadcast(&layer->core, names, count, channel, (uint8_t)packet->flags, body, packet->dataLength)) return;
-    for (size_t i = 0; i < count; i++) hold(layer, names[i].slot, packet);
+    hold(layer, names, count, packet);
     layer->given = packet;
     layer->orders = count;
 }

@@ -43,19 +43,12 @@ static void note_reliable(Commands *commands, uint16_t *highest, const uint8_t *
     else commands->again++;
 }
 
-/* The commands of a datagram of the core. */
-static Commands commands_in(uint16_t *highest, const uint8_t *at, size_t length) {
-    static const struct {
-        uint8_t size, length_at;
-    } shapes[16] = {{0, 0}, {8, 0}, {48, 0}, {44, 0}, {8, 0}, {4, 0}, {6, 4}, {8, 6}, {24, 6}, {8, 6}, {12, 0}, {16, 0}, {24, 6}};
+/* The commands of a datagram of the core, which stand from `at` to `end`. */
+static Commands commands_in(uint16_t *highest, const uint8_t *at, const uint8_t *end) {
     Commands commands = {0};
-    for (size_t i = at[0] & 0x80 ? 4 : 2; i + 4 <= length;) {
-        uint8_t kind = at[i] & 0xF, place = shapes[kind].length_at;
-        if (!shapes[kind].size || i + shapes[kind].size > length) break;
-        commands.count += kind != 1;
-        if (at[i] & 0x80) note_reliable(&commands, highest, at + i);
-        if (place) i += (size_t)at[i + place] << 8 | at[i + place + 1];
-        i += shapes[kind].size;
+    for (size_t step; at < end && (step = command_length(at, (size_t)(end - at))); at += step) {
+        commands.count += (at[0] & 0xF) != 1;
+        if (at[0] & 0x80) note_reliable(&commands, highest, at);
     }
     return commands;
 }
@@ -71,12 +64,13 @@ static void count_loss(ENetPeer *peer, uint32_t now) {
     peer->packetsSent = peer->packetsLost = 0;
 }
 
-/* Counts what went to a peer for the program's fields: commands, the bytes of all, and when. */
-static void note_sent(Layer *layer, uint16_t number, const uint8_t *at, uint32_t length) {
+/* Counts what went to a slot's peer for the program's fields: commands, the bytes of all, and when. */
+static void note_sent(Layer *layer, Slot *slot, const uint8_t *at, uint32_t length) {
+    uint16_t number = slot->name.slot;
     ENetPeer *peer = &layer->host.peers[number];
-    Slot *slot = &layer->slots[number];
-    Commands commands = commands_in(slot->highest, at, length);
-    peer->outgoingDataTotal += length - (at[0] & 0x80 ? 4 : 2);
+    uint32_t head = at[0] & 0x80 ? 4 : 2;
+    Commands commands = commands_in(slot->highest, at + head, at + length);
+    peer->outgoingDataTotal += length - head;
     peer->lastSendTime = layer->host.serviceTime;
     peer->packetsSent += commands.count;
     peer->packetsLost += commands.again;
@@ -108,7 +102,7 @@ static void gather(Layer *layer, const gofnjerta_datagram *gave) {
     uint8_t *at = layer->gathered + layer->gathered_bytes;
     uint32_t length = gave->length;
     if (slot->seen.generation != gave->peer.generation) see(layer, slot, gave, at);
-    if (slot->known) note_sent(layer, gave->peer.slot, at, length);
+    if (slot->known) note_sent(layer, slot, at, length);
     lower_mtu(layer, at, length);
     if (layer->host.checksum || layer->host.compressor.context) length = layer_dress(layer, at, length, slot);
     layer->parcels[i] = (Parcel){gave->to, (uint32_t)layer->gathered_bytes, length, gave->peer.slot, 0, !slot->sends};
@@ -120,10 +114,21 @@ static void gather(Layer *layer, const gofnjerta_datagram *gave) {
     layer->host.totalSentPackets++;
 }
 
+static struct sockaddr_in system_address(gofnjerta_address to) {
+    return (struct sockaddr_in){.sin_family = AF_INET, .sin_port = htons(to.port), .sin_addr.s_addr = htonl(to.ip)};
+}
+
+/* Sends a parcel. What the socket has no room for is lost, as by the network; an answer to an earlier datagram is no fault either. */
+static void send_one(Layer *layer, const Parcel *parcel) {
+    struct sockaddr_in to = system_address(parcel->to);
+    const uint8_t *at = layer->gathered + parcel->at;
+    if (sendto(layer->host.socket, at, parcel->length, MSG_NOSIGNAL, (struct sockaddr *)&to, sizeof to) >= 0) return;
+    if (errno != EWOULDBLOCK && errno != EAGAIN && errno != ECONNREFUSED) layer->has_failed = true;
+}
+
 /* Sends some parts of one length, of which the last may be shorter, as a datagram each. */
 static bool send_parts(const Layer *layer, gofnjerta_address to, struct iovec *parts, size_t count) {
-    struct sockaddr_in at = {.sin_family = AF_INET, .sin_port = htons(to.port), .sin_addr.s_addr = htonl(to.ip)};
-    if (count == 1) return sendto(layer->host.socket, parts->iov_base, parts->iov_len, MSG_NOSIGNAL, (struct sockaddr *)&at, sizeof at) >= 0;
+    struct sockaddr_in at = system_address(to);
     union {
         struct cmsghdr head;
         char bytes[CMSG_SPACE(sizeof(uint16_t))];
@@ -141,18 +146,12 @@ static bool may_follow(const Layer *layer, const Parcel *lead, const Parcel *nex
            next->to.ip == lead->to.ip && next->to.port == lead->to.port;
 }
 
-/* Sends one part. What the socket has no room for is lost, as by the network; an answer to an earlier datagram is no fault either. */
-static void send_one(Layer *layer, gofnjerta_address to, struct iovec *part) {
-    if (send_parts(layer, to, part, 1)) return;
-    if (errno != EWOULDBLOCK && errno != EAGAIN && errno != ECONNREFUSED) layer->has_failed = true;
-}
-
 /* Sends a train, from this parcel on, and tells which parcel of its slot comes after it, 0 where none does. Where the system refuses a train,
  * the datagrams go one by one. */
-static size_t send_train(Layer *layer, size_t i) {
+__attribute__((noinline)) static size_t send_train(Layer *layer, size_t first) {
     struct iovec parts[TRAIN];
-    const Parcel *lead = &layer->parcels[i], *next = lead;
-    size_t count = 0, bytes = 0;
+    const Parcel *lead = &layer->parcels[first], *next = lead;
+    size_t count = 0, bytes = 0, i;
     do {
         parts[count++] = (struct iovec){layer->gathered + next->at, next->length};
         bytes += next->length;
@@ -160,19 +159,24 @@ static size_t send_train(Layer *layer, size_t i) {
         if (next->length < lead->length) break;
         next = &layer->parcels[i];
     } while (i && may_follow(layer, lead, next, count, bytes));
-    if (count == 1) send_one(layer, lead->to, parts);
+    if (count == 1) send_one(layer, lead);
     if (count == 1 || send_parts(layer, lead->to, parts, count)) return i;
     /* Any other error is this destination's or this moment's. */
     layer->has_trains = errno != EIO && errno != EINVAL && errno != EOPNOTSUPP;
-    for (size_t k = 0; k < count; k++) send_one(layer, lead->to, &parts[k]);
+    for (size_t k = first; k != i; k = layer->parcels[k].next) send_one(layer, &layer->parcels[k]);
     return i;
 }
 
 /* Sends what was gathered, slot by slot. */
 static void send_gathered(Layer *layer) {
     for (size_t i = 0; i < layer->parcel_count; i++) {
-        if (!layer->parcels[i].leads) continue;
-        layer->slots[layer->parcels[i].slot].sends = false;
+        const Parcel *parcel = &layer->parcels[i];
+        if (!parcel->leads) continue;
+        layer->slots[parcel->slot].sends = false;
+        if (!parcel->next) {
+            send_one(layer, parcel);
+            continue;
+        }
         size_t next = i;
         do next = send_train(layer, next);
         while (next);
@@ -272,9 +276,9 @@ static void note_connect(Layer *layer, const gofnjerta_address *from, const uint
     layer->arrival.awaits = false;
 }
 
-/* Whether a BANDWIDTH_LIMIT may be somewhere in a datagram. */
-static bool has_bandwidths(const uint8_t *data, size_t length) {
-    const uint8_t *end = data + length, *at = data;
+/* Whether a BANDWIDTH_LIMIT, of 12 bytes, may be somewhere behind the header. */
+static bool has_bandwidths(const uint8_t *at, const uint8_t *end) {
+    if (end - at < 12) return false;
     while ((at = memchr(at, 0x8A, (size_t)(end - at))) && ++at < end)
         if (*at == 0xFF) return true;
     return false;
@@ -286,7 +290,7 @@ static void note_handled(Layer *layer, uint16_t id, const uint8_t *data, size_t 
     size_t at = data[0] & 0x80 ? 4 : 2, step;
     peer->incomingDataTotal += (enet_uint32)length + (layer->host.checksum ? 4 : 0);
     if (length > at && (data[at] & 0xF) == 1) peer->lastReceiveTime = ENET_MAX(layer->host.serviceTime, 1);
-    if (peer->state != ENET_PEER_STATE_CONNECTING && !has_bandwidths(data, length)) return;
+    if (peer->state != ENET_PEER_STATE_CONNECTING && !has_bandwidths(data + at, data + length)) return;
     for (uint32_t n = 0; n < handled && at < length && (step = command_length(data + at, length - at)); n++, at += step) {
         uint8_t kind = data[at] & 0xF;
         if (kind == 3 || kind == 10) note_bandwidths(layer, id, data + at + (kind == 3 ? 20 : 4));
@@ -305,9 +309,10 @@ static void hand_in(Layer *layer, const gofnjerta_address *from, uint8_t *data, 
     layer->may_tell = true;
     if (!got.handled) return;
     size_t id = (size_t)(data[0] & 0xF) << 8 | data[1];
-    if (id < slots_in_use(layer) && layer->slots[id].known) note_handled(layer, (uint16_t)id, data, taken, got.handled);
-    const uint8_t *offer = id == ENET_PROTOCOL_MAXIMUM_PEER_ID ? offer_in(data, taken) : NULL;
-    if (offer) note_connect(layer, from, offer + 20);
+    if (id == ENET_PROTOCOL_MAXIMUM_PEER_ID) {
+        const uint8_t *offer = offer_in(data, taken);
+        if (offer) note_connect(layer, from, offer + 20);
+    } else if (layer->slots[id].known) note_handled(layer, (uint16_t)id, data, taken, got.handled);
 }
 
 int layer_take_in(Layer *layer, ENetEvent *event, int *came) {
