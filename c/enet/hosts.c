@@ -2,7 +2,14 @@
 #include "layer.h"
 #include <fcntl.h>
 #include <netinet/udp.h>
+#include <string.h>
 #include <sys/random.h>
+
+static void link_marks(ENetPeer *peer, Marks *marks) {
+    link_mark(&peer->outgoingCommands, &marks->queued);
+    link_mark(&peer->sentReliableCommands, &marks->sent);
+    link_mark(&peer->dispatchedCommands, &marks->kept);
+}
 
 static void show_host(ENetHost *host, const ENetAddress *address, const gofnjerta_config *config) {
     if (address && enet_socket_get_address(host->socket, &host->address) < 0) host->address = *address;
@@ -19,6 +26,7 @@ static void show_host(ENetHost *host, const ENetAddress *address, const gofnjert
         host->peers[i].host = host;
         host->peers[i].incomingPeerID = (enet_uint16)i;
         slot->name.generation = slot->seen.generation = slot->parked = UINT32_MAX;
+        link_marks(&host->peers[i], &layer_of(host)->marks[i]);
         layer_forget(layer_of(host), &host->peers[i]);
     }
 }
@@ -36,8 +44,9 @@ static bool open_socket(ENetHost *host, const ENetAddress *address) {
 
 static bool make_slots(Layer *layer, size_t count) {
     layer->host.peers = calloc(count, sizeof *layer->host.peers);
-    layer->slots = calloc(count, sizeof *layer->slots);
+    layer->slots = aligned_alloc(_Alignof(Slot), count * sizeof *layer->slots);
     layer->marks = calloc(count, sizeof *layer->marks);
+    if (layer->slots) memset(layer->slots, 0, count * sizeof *layer->slots);
     return layer->host.peers && layer->slots && layer->marks;
 }
 

@@ -51,9 +51,15 @@ typedef struct {
     Mark queued, sent, kept;
 } Marks;
 
-/* A slot as the program sees it. */
+/* A slot as the program sees it. What goes with each datagram comes first, in one line of the processor's cache. */
 typedef struct {
-    gofnjerta_peer name; /* its peer's, or that of the last one; of generation UINT32_MAX, which no peer has, before there was one */
+    /* Its peer's, or that of the last one; of generation UINT32_MAX, which no peer has, before there was one. */
+    _Alignas(64) gofnjerta_peer name;
+    gofnjerta_peer seen; /* the last peer of which a datagram went, which the program may not know yet */
+    uint32_t parked;     /* UINT32_MAX before there was one */
+    uint16_t last, behind;
+    uint16_t *highest;   /* of each channel the highest number of a reliable command that went; NULL where memory was missing */
+    size_t kept_bytes;   /* what the packets of its kept events take */
     bool known;          /* the name is a peer's */
     bool told;           /* its Connect event was handed out, and no end */
     bool ended;          /* the core told its end, which isn't handed out yet */
@@ -65,16 +71,11 @@ typedef struct {
     bool sends;          /* some of its datagrams are gathered, up to the parcel `last` */
     bool is_in_line;     /* it stands in line for its kept events, before the slot `behind` where it isn't the last */
     bool is_counted, is_limited; /* in the host's numbers of connected and of limited peers */
-    uint16_t last, behind;
-    uint32_t parked; /* UINT32_MAX before there was one */
-    gofnjerta_peer seen; /* the last peer of which a datagram went, which the program may not know yet */
+    Kept *first, *newest; /* its events that were passed over */
     gofnjerta_address at;
     uint32_t connect_id; /* as it stands on the wire */
     uint32_t incoming, outgoing; /* the other end's bandwidths */
     uint32_t ping, timeouts[3];  /* in milliseconds, as the core has them; and the limit */
-    uint16_t *highest;           /* of each channel the highest number of a reliable command that went; NULL where memory was missing */
-    Kept *first, *newest; /* its events that were passed over */
-    size_t kept_bytes;    /* what their packets take */
 } Slot;
 
 /* A CONNECT that came from an address: which slot's peer answers it. */
@@ -96,7 +97,7 @@ typedef struct {
     Slot *slots;
     uint64_t clock, refreshed; /* milliseconds */
     uint64_t full_at;          /* when no slot was free for a peer that came; UINT64_MAX where one may be */
-    Marks *marks;              /* by slots */
+    Marks *marks;              /* by slots; each one's links stand */
     Given *sent;               /* packets that the program gave away since the last service */
     size_t sent_count, sent_room;
     ENetPacket *given, *staged; /* the last of them, and the one whose bytes the core holds for several peers */
@@ -169,12 +170,9 @@ static inline size_t command_length(const uint8_t *at, size_t left) {
 /* How many slots the program has in use: it may have lowered peerCount. */
 static inline size_t slots_in_use(const Layer *layer) { return ENET_MIN(layer->host.peerCount, layer->config.peers); }
 
-/* A list gets the mark alone, or nothing. */
-static inline void put_mark(ENetList *list, Mark *mark) {
-    mark->node = (ENetListNode){&list->sentinel, &list->sentinel};
-    list->sentinel = (ENetListNode){&mark->node, &mark->node};
-}
-
+/* A list gets the mark alone, or nothing. The mark's own links never change, so that neither touches it. */
+static inline void link_mark(ENetList *list, Mark *mark) { mark->node = (ENetListNode){&list->sentinel, &list->sentinel}; }
+static inline void put_mark(ENetList *list, Mark *mark) { list->sentinel = (ENetListNode){&mark->node, &mark->node}; }
 static inline void take_mark(ENetList *list) { list->sentinel = (ENetListNode){&list->sentinel, &list->sentinel}; }
 
 static inline Layer *layer_of(ENetHost *host) { return (Layer *)host; }

@@ -54,6 +54,7 @@ ssize_t net_getrandom(void *bytes, size_t length, unsigned flags);
 void *net_malloc(size_t size);
 void *net_calloc(size_t count, size_t size);
 void *net_realloc(void *block, size_t size);
+void *net_aligned_alloc(size_t alignment, size_t size);
 
 static void forget(NetDatagram *list, size_t *count, size_t i) {
     free(list[i].bytes);
@@ -261,6 +262,7 @@ static bool is_refused(void) {
 void *net_malloc(size_t size) { return is_refused() ? NULL : malloc(size); }
 void *net_calloc(size_t count, size_t size) { return is_refused() ? NULL : calloc(count, size); }
 void *net_realloc(void *block, size_t size) { return is_refused() ? NULL : realloc(block, size); }
+void *net_aligned_alloc(size_t alignment, size_t size) { return is_refused() ? NULL : aligned_alloc(alignment, size); }
 
 #ifdef REFERENCE
 /* The reference library, a shared object, calls the system by its names: the program has them (-rdynamic). */
