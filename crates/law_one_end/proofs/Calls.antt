@@ -1,9 +1,10 @@
 -- A call of a host, as what it adds to the end of one peer; to one that isn't there it adds nothing.
-use Rattle.std.proofs.Common.{◌≡◌, ◌≢◌, ℕ, Bool, true, false, cond, not, ◌==◌, ◌&&◌, nat_lt, List, [], ◌∷◌, take, refl, sym, ap, subst, ◌∙◌, inl, inr, ◌⊎◌, arith, Option, Some, None, Ok, Err}
+use Rattle.std.proofs.Common.{◌≡◌, ◌≢◌, ℕ, Bool, true, false, cond, not, ◌==◌, ◌&&◌, nat_lt, List, [], ◌∷◌, ◌++◌, take, refl, sym, ap, subst, ◌∙◌, inl, inr, ◌⊎◌, arith, Option, Some, None, Ok, Err}
 use Rattle.std.specs.Prelude.{flat_map}
 use Rattle.std.specs.List.{slice_get}
 use Rattle.std.proofs.lemmas.Bool.{and_parts}
 use Rattle.std.proofs.lemmas.Bool.Decides.{nat_tests}
+use Rattle.std.proofs.lemmas.List.{append-nil, append_assoc}
 use Rattle.enet_codec.specs.declared.address.Addr.{Addr}
 use Rattle.enet_codec.specs.declared.event.Event.{Event}
 use Rattle.enet_codec.specs.declared.event.Event.TheVariants as event
@@ -36,8 +37,8 @@ use Rattle.law_network.proofs.OneCall.{one-call}
 use Rattle.law_network.proofs.Single.{does-named}
 use Rattle.law_network.proofs.Submitting.{same-some}
 use Rattle.law_one_end.specs.Datagrams.{Begins}
-use Rattle.law_one_end.specs.Hosts.{told_by, accepted_by, brought_by, given_by, IsIn}
-use Rattle.law_one_end.proofs.Deeds.{told_in, accepted_in, given_in, message_in}
+use Rattle.law_one_end.specs.Hosts.{told_by, accepted_by, brought_by, given_by, message_in, CameBy}
+use Rattle.law_one_end.proofs.Deeds.{told_in, accepted_in, given_in}
 
 -- two names
 
@@ -168,7 +169,19 @@ pub record Adds (name : PeerRef) (a : Addr) (c : Call) (ds : List Deed) : Type 0
   pub told : flat_map told_in ds ≡ told_by name c
   pub accepted : flat_map accepted_in ds ≡ accepted_by name c
   pub given : flat_map (given_in a) ds ≡ given_by name c
-  pub brought : (m : Message) → Has (flat_map message_in ds) m → IsMessage m × IsIn (brought_by a c) m
+  pub sound : (m : Message) → Has (flat_map message_in ds) m → IsMessage m
+  pub came : CameBy name.slot (brought_by a c) (flat_map message_in ds)
+
+-- no command came by these datagrams
+pub came-none : (slot : ℕ) (datagrams : List (List ℕ)) → CameBy slot datagrams []
+came-none slot [] = refl
+came-none slot (d ∷ ds) = ([], [], inl refl, refl, came-none slot ds)
+
+-- and then more came
+pub came-append : (slot : ℕ) (ds es : List (List ℕ)) (ms ns : List Message) → CameBy slot ds ms → CameBy slot es ns → CameBy slot (ds ++ es) (ms ++ ns)
+came-append slot [] es ms ns h k = subst (λ (l : List Message). CameBy slot es (l ++ ns)) (sym h) k
+came-append slot (d ∷ ds) es ms ns h k =
+    (h.0, h.1 ++ ns, h.2, ap (λ (l : List Message). l ++ ns) h.3 ∙ append_assoc h.0 h.1 ns, came-append slot ds es h.1 ns h.4 k)
 
 -- deeds that add nothing
 record Silent (a : Addr) (ds : List Deed) : Type 0 where
@@ -186,7 +199,8 @@ adds-silent name a c ds n s = record {
   told = s.told ∙ sym n.told;
   accepted = s.accepted ∙ sym n.accepted;
   given = s.given ∙ sym n.given;
-  brought = λ m there. absurd (subst (λ (l : List Message). Has l m) s.brought there);
+  sound = λ m there. absurd (subst (λ (l : List Message). Has l m) s.brought there);
+  came = subst (CameBy name.slot (brought_by a c)) (sym s.brought) (came-none name.slot (brought_by a c));
 }
 
 -- where the deeds are known
@@ -233,9 +247,12 @@ heard-from s from session p e = by (is_deaf p.state) (is_same_address s.address 
 -- a datagram that came
 adds-received : (name : PeerRef) (s : SlotState) (p : Peering) (a : Addr) → s.peer ≡ Some p → s.address ≡ a → (now : ℕ) (from : Addr) (bytes : List ℕ) (answer : Received) (ds : List Deed)
     → Reaches name.slot s (record { now = now; from = from; bytes = bytes; answer = answer }) ds → Adds name a (call.Receive from bytes answer) ds
-adds-received name s p a held at now from bytes answer ds (falling.unreadable why u) = record { told = refl; accepted = refl; given = refl; brought = λ m there. absurd there }
-adds-received name s p a held at now from bytes answer ds (falling.elsewhere header commands read far) = record { told = refl; accepted = refl; given = refl; brought = λ m there. absurd there }
-adds-received name s p a held at now from bytes answer ds (falling.turned_away header commands why read some at' refused is) = record { told = refl; accepted = refl; given = refl; brought = λ m there. absurd there }
+adds-received name s p a held at now from bytes answer ds (falling.unreadable why u) =
+    adds-silent name a (call.Receive from bytes answer) [] (record { told = refl; accepted = refl; given = refl }) (record { told = refl; accepted = refl; given = refl; brought = refl })
+adds-received name s p a held at now from bytes answer ds (falling.elsewhere header commands read far) =
+    adds-silent name a (call.Receive from bytes answer) [] (record { told = refl; accepted = refl; given = refl }) (record { told = refl; accepted = refl; given = refl; brought = refl })
+adds-received name s p a held at now from bytes answer ds (falling.turned_away header commands why read some at' refused is) =
+    adds-silent name a (call.Receive from bytes answer) [] (record { told = refl; accepted = refl; given = refl }) (record { told = refl; accepted = refl; given = refl; brought = refl })
 adds-received name s p a held at now from bytes answer ds (falling.here header commands es read some at' open' falls) =
     let k : Spoken a commands es = spoken a (record { now = now; sent = header.sent }) 0 commands answer es falls in
     let same : is_same_address a from ≡ true = ap (λ (z : Addr). is_same_address z from) (sym at) ∙ heard-from s from header.session p (ap (λ (o : Option Peering). refused_by_peer s from header.session o) (sym held) ∙ open') in
@@ -243,18 +260,13 @@ adds-received name s p a held at now from bytes answer ds (falling.here header c
       told = k.told;
       accepted = k.accepted;
       given = k.given;
-      brought = λ m there. (
-        k.sound m there,
-        record {
-          bytes = bytes;
-          there = subst (λ b. Has (cond b (bytes ∷ []) []) bytes) (sym same) (inl refl);
-          header = header;
-          commands = commands;
-          read = read;
-          messages = flat_map message_in es;
-          begins = k.begins;
-          has = there;
-        },
+      sound = k.sound;
+      came = subst (λ b. CameBy name.slot (cond b (bytes ∷ []) []) (flat_map message_in es)) (sym same) (
+        flat_map message_in es,
+        [],
+        inr (record { header = header; commands = commands; read = read; names = at'; begins = k.begins }),
+        sym (append-nil (flat_map message_in es)),
+        refl,
       );
     }
 
@@ -280,7 +292,7 @@ adds-told old new name n p x a ev t ds acts of is e =
     subst (Adds name a (call.NextEvent (Some ev))) (sym e)
     (adds-in-turn old.slots name n p y.0 x y.1 a (call.NextEvent (Some ev)) (common_of old).event_turn (Take (Some t)) (Take None) (record { told = refl; accepted = refl; given = refl; brought = refl })
     (λ other. record { told = is ∙ if-not (is_same_name name n) t other; accepted = refl; given = refl })
-    (λ same at. record { told = sym (if-so (is_same_name name n) t same) ∙ sym is; accepted = refl; given = refl; brought = λ m there. absurd there }))
+    (λ same at. record { told = sym (if-so (is_same_name name n) t same) ∙ sym is; accepted = refl; given = refl; sound = λ m there. absurd there; came = refl }))
 
 adds-accepted : (name n : PeerRef) (s : SlotState) (a : Addr) (channel : ℕ) (q : choice.Packet) (done : Unit {0}) (b : Bool) → is_same_name name n ≡ b
     → Adds name a (call.Submit n channel q (Ok done)) (deeds_if b (Submit (record { channel = channel; flags = q.flags; body = q.body }) (Ok done)))
@@ -288,13 +300,15 @@ adds-accepted name n s a channel q done true e = record {
   told = refl;
   accepted = sym (if-so (is_same_name name n) _ e);
   given = refl;
-  brought = λ m there. absurd there;
+  sound = λ m there. absurd there;
+  came = refl;
 }
 adds-accepted name n s a channel q done false e = record {
   told = refl;
   accepted = sym (if-not (is_same_name name n) _ e);
   given = refl;
-  brought = λ m there. absurd there;
+  sound = λ m there. absurd there;
+  came = refl;
 }
 
 pub adds : (c : Call) (old new : Host) (name : PeerRef) (p : Peering) (x : IsThere old.slots name p) (a : Addr) (ds : List Deed) → x.slot.address ≡ a → Acts c old new → Fell (common_of old) (record { number = name.slot; slot = x.slot; peer = p }) c ds → Adds name a c ds
@@ -318,7 +332,8 @@ adds (call.Service (Some gave) buf) old new name p x a ds at acts fell =
       told = refl;
       accepted = refl;
       given = ap (λ (z : Addr). (z, text) ∷ []) (sym (y.2 ∙ ap (λ (s : SlotState). s.address) here ∙ at)) ∙ sym (if-so (is_same_name name gave.0) (gave.1, text) same);
-      brought = λ m there. absurd there;
+      sound = λ m there. absurd there;
+      came = refl;
     }))
 adds (call.Tick ms) old new name p x a ds at acts fell =
     subst (Adds name a (call.Tick ms)) (sym fell) (adds-silent name a (call.Tick ms) _ (record { told = refl; accepted = refl; given = refl }) (ticks _ (silent-if a _ _ (record { told = refl; accepted = refl; given = refl; brought = refl }))))

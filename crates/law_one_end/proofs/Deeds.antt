@@ -1,5 +1,5 @@
 -- What a peer alone does is a number of events of its end.
-use Rattle.std.proofs.Common.{◌≡◌, ℕ, Bool, List, [], ◌∷◌, ◌++◌, refl, sym, ap, subst, ◌∙◌, inl, inr, ◌⊎◌, Option, Some, None, Result, Ok, Err}
+use Rattle.std.proofs.Common.{◌≡◌, ℕ, Bool, List, [], ◌∷◌, ◌++◌, refl, sym, ap, subst, ◌∙◌, inl, Option, Some, None, Result, Ok, Err}
 use Rattle.std.specs.Prelude.{flat_map}
 use Rattle.std.proofs.lemmas.List.{append-nil, append_assoc}
 use Rattle.enet_codec.specs.declared.address.Addr.{Addr}
@@ -7,8 +7,6 @@ use Rattle.enet_codec.specs.declared.packet.Packet.{Packet}
 use Rattle.enet_codec.specs.declared.stop.Stop.{Stop}
 use Rattle.enet_codec.specs.declared.stop.Stop.TheVariants as stop
 use Rattle.enet_codec.specs.Message.{Message, IsMessage}
-use Rattle.enet_fragment.specs.declared.data.DataCommand.{DataCommand}
-use Rattle.enet_fragment.specs.DataCommand.{data_of}
 use Rattle.enet_outbox.specs.Emission.{filled, datagram}
 use Rattle.enet_peer.specs.declared.parts.PeerEvent.{PeerEvent}
 use Rattle.enet_peer.specs.Peering.{Peering}
@@ -16,12 +14,11 @@ use Rattle.enet_peer.specs.CommandEffect.{Outcome, Obeys, obeyed, wants_memory}
 use Rattle.enet_peer.specs.Calls.{pace_of, destination_of}
 use Rattle.enet_receiver.specs.Members.{Has}
 use Rattle.law_connection.proofs.CarriageLemmas.{Has-append_left, Has-append_right}
-use Rattle.law_connection.proofs.Lists.{Has-append_cases}
 use Rattle.law_network.specs.Deeds.{Deed, Alone, AllAlone, bytes_of}
 use Rattle.law_network.specs.Deeds as deed
 use Rattle.law_network.proofs.Matching.{was-set, matches}
-use Rattle.law_one_end.specs.OneEnd.{Heard, OneEnd, Event, Submit, Emit, Come, Tick, Take, Disconnect, Set, with_peer, with_submission, with_emission, with_come, heard_as, loose_of, Runs}
-use Rattle.law_one_end.specs.Hosts.{AreOf}
+use Rattle.law_one_end.specs.OneEnd.{OneEnd, Event, Come, Tick, Disconnect, Set, with_peer, with_submission, with_emission, with_come, Runs}
+use Rattle.law_one_end.specs.Hosts.{AreOf, message_in, event_in}
 
 -- what a deed adds to the lists of an end
 abbrev pub told_in : Deed → List PeerEvent
@@ -36,15 +33,8 @@ abbrev pub given_in : Addr → Deed → List (Addr × List ℕ)
 given_in a (deed.Emit now (Some bytes)) = (a, bytes) ∷ []
 given_in a d = []
 
--- and the command that came
-abbrev pub message_in : Deed → List Message
-message_in (deed.Come now sent m answer) = m ∷ []
-message_in d = []
-
--- events lead an end to one with this peer, to which these were told and submitted, which put these out and to which commands came of which
--- this holds
-pub record Led (a : Addr) (e : OneEnd) (told : List PeerEvent) (accepted : List Packet) (given : List (Addr × List ℕ)) (P : Message → Type 0) (q : Peering) : Type 0 where
-  pub events : List Event
+-- these events lead an end to one with this peer, to which these were told and submitted, and which put these out
+pub record Led (a : Addr) (e : OneEnd) (events : List Event) (told : List PeerEvent) (accepted : List Packet) (given : List (Addr × List ℕ)) (q : Peering) : Type 0 where
   pub end : OneEnd
   pub runs : Runs events e end
   pub peer : end.peer ≡ q
@@ -53,13 +43,10 @@ pub record Led (a : Addr) (e : OneEnd) (told : List PeerEvent) (accepted : List 
   pub messages : List Message
   pub puts : AreOf a given messages
   pub put : end.put ≡ e.put ++ messages
-  pub came : (h : Heard) → Has end.came h → Has e.came h ⊎ ((m : Message) × P m × (h.channel ≡ m.head.channel) × (data_of m ≡ Some h.command))
-  pub loose : (x : Packet) → Has end.loose x → Has e.loose x ⊎ ((m : Message) × P m × Has (loose_of m.head.channel m.body) x)
 
 -- nothing happens
-pub led-nothing : (a : Addr) (e : OneEnd) (P : Message → Type 0) (q : Peering) → q ≡ e.peer → Led a e [] [] [] P q
-led-nothing a e P q same = record {
-  events = [];
+pub led-nothing : (a : Addr) (e : OneEnd) (q : Peering) → q ≡ e.peer → Led a e [] [] [] [] q
+led-nothing a e q same = record {
   end = e;
   runs = refl;
   peer = sym same;
@@ -68,14 +55,11 @@ led-nothing a e P q same = record {
   messages = [];
   puts = refl;
   put = sym (append-nil e.put);
-  came = λ h there. inl there;
-  loose = λ x there. inl there;
 }
 
 -- one event that only changes the peer
-one-event : (a : Addr) (e : OneEnd) (P : Message → Type 0) (event : Event) (q : Peering) → Runs (event ∷ []) e (with_peer e q) → Led a e [] [] [] P q
-one-event a e P event q runs = record {
-  events = event ∷ [];
+one-event : (a : Addr) (e : OneEnd) (event : Event) (q : Peering) → Runs (event ∷ []) e (with_peer e q) → Led a e (event ∷ []) [] [] [] q
+one-event a e event q runs = record {
   end = with_peer e q;
   runs = runs;
   peer = refl;
@@ -84,8 +68,6 @@ one-event a e P event q runs = record {
   messages = [];
   puts = refl;
   put = sym (append-nil e.put);
-  came = λ h there. inl there;
-  loose = λ x there. inl there;
 }
 
 runs-append : (es fs : List Event) (a b c : OneEnd) → Runs es a b → Runs fs b c → Runs (es ++ fs) a c
@@ -101,26 +83,17 @@ more-of : {X : Type 0} (a b c d e : List X) → d ≡ a ++ b → e ≡ d ++ c �
 more-of a b c d e f g = g ∙ ap (λ (l : List _). l ++ c) f ∙ append_assoc a b c
 
 -- and then more happens
-pub led-both : (a : Addr) (e : OneEnd) (t u : List PeerEvent) (s r : List Packet) (g k : List (Addr × List ℕ)) (P Q R : Message → Type 0) (q z : Peering) → ((m : Message) → P m → R m) → ((m : Message) → Q m → R m)
-    → (one : Led a e t s g P q) → Led a one.end u r k Q z → Led a e (t ++ u) (s ++ r) (g ++ k) R z
-led-both a e t u s r g k P Q R q z first second one two = record {
-  events = one.events ++ two.events;
+pub led-both : (a : Addr) (e : OneEnd) (es fs : List Event) (t u : List PeerEvent) (s r : List Packet) (g k : List (Addr × List ℕ)) (q z : Peering)
+    → (one : Led a e es t s g q) → Led a one.end fs u r k z → Led a e (es ++ fs) (t ++ u) (s ++ r) (g ++ k) z
+led-both a e es fs t u s r g k q z one two = record {
   end = two.end;
-  runs = runs-append one.events two.events e one.end two.end one.runs two.runs;
+  runs = runs-append es fs e one.end two.end one.runs two.runs;
   peer = two.peer;
   taken = more-of e.taken t u one.end.taken two.end.taken one.taken two.taken;
   submitted = more-of e.submitted s r one.end.submitted two.end.submitted one.submitted two.submitted;
   messages = one.messages ++ two.messages;
   puts = are-append a g k one.messages two.messages one.puts two.puts;
   put = more-of e.put one.messages two.messages one.end.put two.end.put one.put two.put;
-  came = λ h there. elim (two.came h there) [
-    | inr new ↦ inr (new.0, second new.0 new.1, new.2, new.3)
-    | inl old ↦ elim (one.came h old) [ inl was ↦ inl was | inr new ↦ inr (new.0, first new.0 new.1, new.2, new.3) ]
-  ];
-  loose = λ x there. elim (two.loose x there) [
-    | inr new ↦ inr (new.0, second new.0 new.1, new.2)
-    | inl old ↦ elim (one.loose x old) [ inl was ↦ inl was | inr new ↦ inr (new.0, first new.0 new.1, new.2) ]
-  ];
 }
 
 -- what a datagram that was put out says
@@ -132,17 +105,11 @@ some-put : (p : Peering) (now : ℕ) (ms : List Message) (bytes : List ℕ) → 
 some-put p now [] bytes e = absurd (cc)
 some-put p now (m ∷ ms) bytes e = cc
 
-heard-is : (channel front : ℕ) (o : Option DataCommand) (h : Heard) → Has (heard_as channel front o) h → (h.channel ≡ channel) × (o ≡ Some h.command)
-heard-is channel front None h there = absurd there
-heard-is channel front (Some c) h (inl e) = (ap (λ (x : Heard). x.channel) (sym e), ap (λ (x : Heard). Some x.command) e)
-heard-is channel front (Some c) h (inr f) = absurd f
-
 -- a command comes
-led-come : (a : Addr) (e : OneEnd) (now : ℕ) (sent : Option ℕ) (m : Message) (P : Message → Type 0) (q : Peering) → IsMessage m → P m → q ≡ (obeyed e.peer now sent m).after → Led a e [] [] [] P q
-led-come a e now sent m P q is holds after =
+led-come : (a : Addr) (e : OneEnd) (now : ℕ) (sent : Option ℕ) (m : Message) (q : Peering) → IsMessage m → q ≡ (obeyed e.peer now sent m).after → Led a e (Come m now sent ∷ []) [] [] [] q
+led-come a e now sent m q is after =
     let p : Peering = (obeyed e.peer now sent m).after in
     record {
-      events = Come m now sent ∷ [];
       end = with_come e m p;
       runs = (with_come e m p, (is, refl), refl);
       peer = sym after;
@@ -151,17 +118,12 @@ led-come a e now sent m P q is holds after =
       messages = [];
       puts = refl;
       put = sym (append-nil e.put);
-      came = λ h there. elim (Has-append_cases e.came (heard_as m.head.channel (e.fronts m.head.channel) (data_of m)) h there) [
-        | inl old ↦ inl old
-        | inr new ↦ (let k = heard-is m.head.channel (e.fronts m.head.channel) (data_of m) h new in inr (m, holds, k.0, k.1))
-      ];
-      loose = λ x there. elim (Has-append_cases e.loose (loose_of m.head.channel m.body) x there) [ inl old ↦ inl old | inr new ↦ inr (m, holds, new) ];
     }
 
 -- or it is refused for want of memory alone
-led-answered : (a : Addr) (e : OneEnd) (now : ℕ) (sent : Option ℕ) (m : Message) (P : Message → Type 0) (q : Peering) → IsMessage m → P m → (answer : Result (Unit {0}) Stop)
-    → Obeys answer (wants_memory e.peer now sent m) (obeyed e.peer now sent m) e.peer q → Led a e [] [] [] P q
-led-answered a e now sent m P q is holds answer h = by answer h
+led-answered : (a : Addr) (e : OneEnd) (now : ℕ) (sent : Option ℕ) (m : Message) (q : Peering) → IsMessage m → (answer : Result (Unit {0}) Stop)
+    → Obeys answer (wants_memory e.peer now sent m) (obeyed e.peer now sent m) e.peer q → Led a e (event_in (deed.Come now sent m answer)) [] [] [] q
+led-answered a e now sent m q is answer h = by answer h
   where
     wants : Bool
     wants = wants_memory e.peer now sent m
@@ -169,12 +131,12 @@ led-answered a e now sent m P q is holds answer h = by answer h
     o : Outcome
     o = obeyed e.peer now sent m
 
-    came : q ≡ o.after → Led a e [] [] [] P q
-    came after = led-come a e now sent m P q is holds after
+    came : q ≡ o.after → Led a e (Come m now sent ∷ []) [] [] [] q
+    came after = led-come a e now sent m q is after
 
-    by : (answer : Result (Unit {0}) Stop) → Obeys answer wants o e.peer q → Led a e [] [] [] P q
+    by : (answer : Result (Unit {0}) Stop) → Obeys answer wants o e.peer q → Led a e (event_in (deed.Come now sent m answer)) [] [] [] q
     by (Ok done) h = came h.1
-    by (Err stop.Memory) h = led-nothing a e P q h.2
+    by (Err stop.Memory) h = led-nothing a e q h.2
     by (Err stop.Short) h = came h.1
     by (Err stop.Compressed) h = came h.1
     by (Err stop.UnknownPeer) h = came h.1
@@ -189,9 +151,8 @@ led-answered a e now sent m P q is holds answer h = by answer h
     by (Err stop.NoSlot) h = came h.1
 
 -- one deed
-pub led-deed : (a : Addr) (e : OneEnd) (d : Deed) (P : Message → Type 0) (q : Peering) → Alone d e.peer q → ((m : Message) → Has (message_in d) m → IsMessage m × P m) → Led a e (told_in d) (accepted_in d) (given_in a d) P q
-led-deed a e (deed.Submit x (Ok done)) P q alone is = record {
-  events = Submit x ∷ [];
+pub led-deed : (a : Addr) (e : OneEnd) (d : Deed) (q : Peering) → Alone d e.peer q → ((m : Message) → Has (message_in d) m → IsMessage m) → Led a e (event_in d) (told_in d) (accepted_in d) (given_in a d) q
+led-deed a e (deed.Submit x (Ok done)) q alone is = record {
   end = with_submission e x;
   runs = (with_submission e x, (alone.0, refl), refl);
   peer = sym alone.1;
@@ -200,12 +161,9 @@ led-deed a e (deed.Submit x (Ok done)) P q alone is = record {
   messages = [];
   puts = refl;
   put = sym (append-nil e.put);
-  came = λ h there. inl there;
-  loose = λ y there. inl there;
 }
-led-deed a e (deed.Submit x (Err why)) P q alone is = led-nothing a e P q alone.1
-led-deed a e (deed.Emit now None) P q alone is = record {
-  events = Emit now ∷ [];
+led-deed a e (deed.Submit x (Err why)) q alone is = led-nothing a e q alone.1
+led-deed a e (deed.Emit now None) q alone is = record {
   end = with_emission e now;
   runs = (with_emission e now, refl, refl);
   peer = sym alone.1;
@@ -214,13 +172,10 @@ led-deed a e (deed.Emit now None) P q alone is = record {
   messages = (filled (pace_of e.peer now) e.peer.outbox).messages;
   puts = none-put e.peer now (filled (pace_of e.peer now) e.peer.outbox).messages alone.0;
   put = refl;
-  came = λ h there. inl there;
-  loose = λ x there. inl there;
 }
-led-deed a e (deed.Emit now (Some bytes)) P q alone is =
+led-deed a e (deed.Emit now (Some bytes)) q alone is =
     let ms : List Message = (filled (pace_of e.peer now) e.peer.outbox).messages in
     record {
-      events = Emit now ∷ [];
       end = with_emission e now;
       runs = (with_emission e now, refl, refl);
       peer = sym alone.1;
@@ -229,14 +184,11 @@ led-deed a e (deed.Emit now (Some bytes)) P q alone is =
       messages = ms;
       puts = (now, destination_of e.peer, ms, [], ap (λ (l : List ℕ). (a, l)) (some-put e.peer now ms bytes alone.0), sym (append-nil ms), refl);
       put = refl;
-      came = λ h there. inl there;
-      loose = λ x there. inl there;
     }
-led-deed a e (deed.Come now sent m answer) P q alone is = (let k = is m (inl refl) in led-answered a e now sent m P q k.0 k.1 answer alone)
-led-deed a e (deed.Tick now) P q alone is = one-event a e P (Tick now) q (with_peer e q, ap (λ (x : Peering). with_peer e x) alone, refl)
-led-deed a e (deed.Take None) P q alone is = led-nothing a e P q alone.1
-led-deed a e (deed.Take (Some t)) P q alone is = record {
-  events = Take ∷ [];
+led-deed a e (deed.Come now sent m answer) q alone is = led-answered a e now sent m q (is m (inl refl)) answer alone
+led-deed a e (deed.Tick now) q alone is = one-event a e (Tick now) q (with_peer e q, ap (λ (x : Peering). with_peer e x) alone, refl)
+led-deed a e (deed.Take None) q alone is = led-nothing a e q alone.1
+led-deed a e (deed.Take (Some t)) q alone is = record {
   end = record e { peer = q; taken = e.taken ++ t ∷ [] };
   runs = (record e { peer = q; taken = e.taken ++ t ∷ [] }, (t, q, alone, refl), refl);
   peer = refl;
@@ -245,21 +197,19 @@ led-deed a e (deed.Take (Some t)) P q alone is = record {
   messages = [];
   puts = refl;
   put = sym (append-nil e.put);
-  came = λ h there. inl there;
-  loose = λ x there. inl there;
 }
-led-deed a e (deed.Disconnect way info (Ok done)) P q alone is = one-event a e P (Disconnect way info) q (with_peer e q, (q, alone, refl), refl)
-led-deed a e (deed.Disconnect way info (Err why)) P q alone is = led-nothing a e P q alone.2
-led-deed a e (deed.Set s (Ok done)) P q alone is =
+led-deed a e (deed.Disconnect way info (Ok done)) q alone is = one-event a e (Disconnect way info) q (with_peer e q, (q, alone, refl), refl)
+led-deed a e (deed.Disconnect way info (Err why)) q alone is = led-nothing a e q alone.2
+led-deed a e (deed.Set s (Ok done)) q alone is =
     let set = was-set s done e.peer q alone in
-    one-event a e P (Set s) q (with_peer e q, (set.0, ap (λ (x : Peering). with_peer e x) set.1), refl)
-led-deed a e (deed.Set s (Err why)) P q alone is = led-nothing a e P q (matches.refused (deed.Set s (Err why)) e.peer q alone refl)
+    one-event a e (Set s) q (with_peer e q, (set.0, ap (λ (x : Peering). with_peer e x) set.1), refl)
+led-deed a e (deed.Set s (Err why)) q alone is = led-nothing a e q (matches.refused (deed.Set s (Err why)) e.peer q alone refl)
 
 -- and all deeds, in order
-pub led-deeds : (a : Addr) (ds : List Deed) (e : OneEnd) (P : Message → Type 0) (q : Peering) → AllAlone ds e.peer q → ((m : Message) → Has (flat_map message_in ds) m → IsMessage m × P m)
-    → Led a e (flat_map told_in ds) (flat_map accepted_in ds) (flat_map (given_in a) ds) P q
-led-deeds a [] e P q alone is = led-nothing a e P q (sym alone)
-led-deeds a (d ∷ ds) e P q alone is =
-    let one : Led a e (told_in d) (accepted_in d) (given_in a d) P alone.0 = led-deed a e d P alone.0 alone.1 (λ m there. is m (Has-append_left (message_in d) (flat_map message_in ds) m there)) in
-    led-both a e (told_in d) (flat_map told_in ds) (accepted_in d) (flat_map accepted_in ds) (given_in a d) (flat_map (given_in a) ds) P P P alone.0 q (λ m k. k) (λ m k. k) one
-    (led-deeds a ds one.end P q (subst (λ (x : Peering). AllAlone ds x q) (sym one.peer) alone.2) (λ m there. is m (Has-append_right (message_in d) (flat_map message_in ds) m there)))
+pub led-deeds : (a : Addr) (ds : List Deed) (e : OneEnd) (q : Peering) → AllAlone ds e.peer q → ((m : Message) → Has (flat_map message_in ds) m → IsMessage m)
+    → Led a e (flat_map event_in ds) (flat_map told_in ds) (flat_map accepted_in ds) (flat_map (given_in a) ds) q
+led-deeds a [] e q alone is = led-nothing a e q (sym alone)
+led-deeds a (d ∷ ds) e q alone is =
+    let one : Led a e (event_in d) (told_in d) (accepted_in d) (given_in a d) alone.0 = led-deed a e d alone.0 alone.1 (λ m there. is m (Has-append_left (message_in d) (flat_map message_in ds) m there)) in
+    led-both a e (event_in d) (flat_map event_in ds) (told_in d) (flat_map told_in ds) (accepted_in d) (flat_map accepted_in ds) (given_in a d) (flat_map (given_in a) ds) alone.0 q one
+    (led-deeds a ds one.end q (subst (λ (x : Peering). AllAlone ds x q) (sym one.peer) alone.2) (λ m there. is m (Has-append_right (message_in d) (flat_map message_in ds) m there)))

@@ -2,33 +2,32 @@
 use Rattle.std.proofs.Common.{◌≡◌, ◌≢◌, ◌≤◌, ℕ, List, [], ◌∷◌, ◌++◌, refl, sym, ap, subst, ◌∙◌, inl, inr, ◌⊎◌, arith, Option, Some, None}
 use Rattle.std.specs.Prelude.{flat_map}
 use Rattle.std.specs.List.{slice_get}
+use Rattle.std.proofs.lemmas.List.Concat.{flat_map-append}
 use Rattle.enet_codec.specs.declared.address.Addr.{Addr}
 use Rattle.enet_codec.specs.declared.event.PeerRef.{PeerRef}
-use Rattle.enet_codec.specs.Message.{Message}
 use Rattle.enet_host.specs.Host.{Host, Keeps, slot_named, peer_in, named}
 use Rattle.enet_host.specs.Calls.{address_in, address_of, address_named}
 use Rattle.enet_peer.specs.declared.parts.PeerState.TheVariants as state
 use Rattle.enet_peer.specs.Peering.{Peering, connecting, answering}
-use Rattle.enet_receiver.specs.Members.{Has}
 use Rattle.enet_slot.specs.Giving.{limits_of, offer_from, server_from}
 use Rattle.enet_slot.specs.Slot.{SlotState, with_peer, greatest}
-use Rattle.law_connection.proofs.CarriageLemmas.{Has-append_left, Has-append_right}
 use Rattle.law_network.specs.Beginnings.{BeginsAs}
-use Rattle.law_network.specs.Calls.{Call, Acts, Steps}
+use Rattle.law_network.specs.Calls.{Call, Acts, Steps, Series}
 use Rattle.law_network.specs.Common.{Common, common_of}
 use Rattle.law_network.specs.Deeds.{Deed, AllAlone}
-use Rattle.law_network.specs.Falling.{Fell, Begins, asks, answers, counted}
+use Rattle.law_network.specs.Falling.{Fell, FellAll, Begins, asks, answers, counted}
 use Rattle.law_network.specs.IsolationLaw.{Stays, Fares, untouched, goes_on, begins, having_emitted}
+use Rattle.law_network.proofs.AllCalls.{spent-all, fell-there}
 use Rattle.law_network.proofs.Counts.{fares-back}
 use Rattle.law_network.proofs.IsolationKeeping.{each-keeps}
 use Rattle.law_network.proofs.Names.{free-or, IsThere, named-there, there-slot, there-named, slot-named, IsSpent, same-generations, begun-generation, past-freed, spent-step, spent-nobody}
 use Rattle.law_network.proofs.OneCall.{one-call}
 use Rattle.law_network.proofs.Slots.{held, freed-in}
-use Rattle.law_one_end.specs.OneEnd.{OneEnd, beginning}
+use Rattle.law_one_end.specs.OneEnd.{OneEnd, Event, beginning}
 use Rattle.law_one_end.specs.Law.{IsHeard, OfEachRun, OfEachAnswering, OfEachAsking}
 use Rattle.law_one_end.specs.Sent.{IsSent}
-use Rattle.law_one_end.specs.Hosts.{told_by, accepted_by, brought_by, given_by, IsIn, AreOf, StaysAt, IsEnd, IsNobody, EachIsOneEnd}
-use Rattle.law_one_end.proofs.Calls.{AddsNothing, adds-nothing, Adds, adds}
+use Rattle.law_one_end.specs.Hosts.{told_by, accepted_by, brought_by, given_by, message_in, event_in, CameBy, AreOf, StaysAt, IsEnd, IsNobody, EachIsOneEnd}
+use Rattle.law_one_end.proofs.Calls.{AddsNothing, adds-nothing, Adds, adds, came-none, came-append}
 use Rattle.law_one_end.proofs.Deeds.{told_in, accepted_in, given_in, Led, led-nothing, led-both, led-deeds}
 use Rattle.law_one_end.proofs.Laws.{answering-heard, asking-heard}
 use Rattle.law_one_end.proofs.SentRuns.{answering-sent, asking-sent}
@@ -75,43 +74,53 @@ gone (c ∷ cs) old new steps name a low x =
 
 -- where somebody has it
 
-is-in-more : (xs ys : List (List ℕ)) (m : Message) → ((b : List ℕ) → Has xs b → Has ys b) → IsIn xs m → IsIn ys m
-is-in-more xs ys m more k = record { bytes = k.bytes; there = more k.bytes k.there; header = k.header; commands = k.commands; read = k.read; messages = k.messages; begins = k.begins; has = k.has }
-
--- these calls led the end of the peer of this name at this address on
-abbrev Lives : PeerRef → Addr → List Call → OneEnd → Type 0
-Lives name a cs e = (q : Peering) × Led a e (flat_map (told_by name) cs) (flat_map (accepted_by name) cs) (flat_map (given_by name) cs) (IsIn (flat_map (brought_by a) cs)) q
+-- by these calls these deeds fell to the peer of this name, at this address, and led its end on
+pub record Lives (name : PeerRef) (a : Addr) (cs : List Call) (series : Series cs) (e : OneEnd) : Type 0 where
+  pub deeds : List Deed
+  pub fell : FellAll name cs series deeds
+  pub came : CameBy name.slot (flat_map (brought_by a) cs) (flat_map message_in deeds)
+  pub after : Peering
+  pub led : Led a e (flat_map event_in deeds) (flat_map (told_by name) cs) (flat_map (accepted_by name) cs) (flat_map (given_by name) cs) after
 
 -- one call
 called : (c : Call) (old new : Host) (name : PeerRef) (p q : Peering) (x : IsThere old.slots name p) (a : Addr) (ds : List Deed) (e : OneEnd) → x.slot.address ≡ a → e.peer ≡ p → Acts c old new
-    → Fell (common_of old) (record { number = name.slot; slot = x.slot; peer = p }) c ds → AllAlone ds p q → Led a e (told_by name c) (accepted_by name c) (given_by name c) (IsIn (brought_by a c)) q
+    → Fell (common_of old) (record { number = name.slot; slot = x.slot; peer = p }) c ds → AllAlone ds p q → Led a e (flat_map event_in ds) (told_by name c) (accepted_by name c) (given_by name c) q
 called c old new name p q x a ds e at is acts fell alone =
     let k : Adds name a c ds = adds c old new name p x a ds at acts fell in
-    let l : Led a e (flat_map told_in ds) (flat_map accepted_in ds) (flat_map (given_in a) ds) (IsIn (brought_by a c)) q =
-    led-deeds a ds e (IsIn (brought_by a c)) q (subst (λ (y : Peering). AllAlone ds y q) (sym is) alone) k.brought in
-    subst (λ t. Led a e t (accepted_by name c) (given_by name c) (IsIn (brought_by a c)) q) k.told
-    (subst (λ s. Led a e (flat_map told_in ds) s (given_by name c) (IsIn (brought_by a c)) q) k.accepted
-    (subst (λ g. Led a e (flat_map told_in ds) (flat_map accepted_in ds) g (IsIn (brought_by a c)) q) k.given l))
+    let es : List Event = flat_map event_in ds in
+    let l : Led a e es (flat_map told_in ds) (flat_map accepted_in ds) (flat_map (given_in a) ds) q = led-deeds a ds e q (subst (λ (y : Peering). AllAlone ds y q) (sym is) alone) k.sound in
+    subst (λ t. Led a e es t (accepted_by name c) (given_by name c) q) k.told
+    (subst (λ s. Led a e es (flat_map told_in ds) s (given_by name c) q) k.accepted (subst (λ g. Led a e es (flat_map told_in ds) (flat_map accepted_in ds) g q) k.given l))
 
 -- and those after it
-lives-on : (name : PeerRef) (a : Addr) (c : Call) (cs : List Call) (e : OneEnd) (q : Peering) (one : Led a e (told_by name c) (accepted_by name c) (given_by name c) (IsIn (brought_by a c)) q)
-    → Lives name a cs one.end → Lives name a (c ∷ cs) e
-lives-on name a c cs e q one r =
-    let here : List (List ℕ) = brought_by a c in
-    let later : List (List ℕ) = flat_map (brought_by a) cs in (
-      r.0,
-      led-both a e (told_by name c) (flat_map (told_by name) cs) (accepted_by name c) (flat_map (accepted_by name) cs) (given_by name c) (flat_map (given_by name) cs) (IsIn here) (IsIn later) (IsIn (here ++ later)) q r.0
-          (λ m k. is-in-more here (here ++ later) m (λ b there. Has-append_left here later b there) k) (λ m k. is-in-more later (here ++ later) m (λ b there. Has-append_right here later b there) k) one r.1,
-    )
+lives-on : (c : Call) (cs : List Call) (old new : Host) (steps : Steps (c ∷ cs) old new) (name : PeerRef) (p q : Peering) (x : IsThere old.slots name p) (a : Addr) (ds : List Deed) (e : OneEnd) → x.slot.address ≡ a → e.peer ≡ p
+    → (fell : Fell (common_of old) (record { number = name.slot; slot = x.slot; peer = p }) c ds) → (one : Led a e (flat_map event_in ds) (told_by name c) (accepted_by name c) (given_by name c) q)
+    → Lives name a cs (record { before = steps.0; after = new; steps = steps.2 }) one.end → Lives name a (c ∷ cs) (record { before = old; after = new; steps = steps }) e
+lives-on c cs old new steps name p q x a ds e at is fell one r =
+    let k : Adds name a c ds = adds c old steps.0 name p x a ds at steps.1 fell in
+    record {
+      deeds = ds ++ r.deeds;
+      fell = (ds, r.deeds, refl, fell-there old name p c ds x fell, r.fell);
+      came =
+          subst (CameBy name.slot (brought_by a c ++ flat_map (brought_by a) cs)) (sym (flat_map-append message_in ds r.deeds))
+          (came-append name.slot (brought_by a c) (flat_map (brought_by a) cs) (flat_map message_in ds) (flat_map message_in r.deeds) k.came r.came);
+      after = r.after;
+      led =
+          subst (λ es. Led a e es (told_by name c ++ flat_map (told_by name) cs) (accepted_by name c ++ flat_map (accepted_by name) cs) (given_by name c ++ flat_map (given_by name) cs) r.after) (sym (flat_map-append event_in ds r.deeds))
+          (led-both a e (flat_map event_in ds) (flat_map event_in r.deeds) (told_by name c) (flat_map (told_by name) cs) (accepted_by name c) (flat_map (accepted_by name) cs) (given_by name c) (flat_map (given_by name) cs) q r.after one r.led);
+    }
 
 -- no call that comes later is of it
-lives-no-more : (name : PeerRef) (a : Addr) (cs : List Call) (e : OneEnd) → IsNobody name cs → Lives name a cs e
-lives-no-more name a cs e n =
-    let P : Message → Type 0 = IsIn (flat_map (brought_by a) cs) in (
-      e.peer,
-      subst (λ t. Led a e t (flat_map (accepted_by name) cs) (flat_map (given_by name) cs) P e.peer) (sym n.told)
-          (subst (λ s. Led a e [] s (flat_map (given_by name) cs) P e.peer) (sym n.accepted) (subst (λ g. Led a e [] [] g P e.peer) (sym n.given) (led-nothing a e P e.peer refl))),
-    )
+lives-no-more : (name : PeerRef) (a : Addr) (cs : List Call) (series : Series cs) (e : OneEnd) → FellAll name cs series [] → IsNobody name cs → Lives name a cs series e
+lives-no-more name a cs series e fell n = record {
+  deeds = [];
+  fell = fell;
+  came = came-none name.slot (flat_map (brought_by a) cs);
+  after = e.peer;
+  led =
+      subst (λ t. Led a e [] t (flat_map (accepted_by name) cs) (flat_map (given_by name) cs) e.peer) (sym n.told)
+      (subst (λ s. Led a e [] [] s (flat_map (given_by name) cs) e.peer) (sym n.accepted) (subst (λ g. Led a e [] [] [] g e.peer) (sym n.given) (led-nothing a e e.peer refl)));
+}
 
 -- a slot that its peer didn't leave
 record Stands (s t : SlotState) (q : Peering) : Type 0 where
@@ -132,7 +141,7 @@ no-peer o p e f = absurd (let y : ◌≡◌ {A = Option Peering} None (Some p) =
 
 -- and stayed where it is
 abbrev Stayed : PeerRef → Addr → (cs : List Call) (old new : Host) → Steps cs old new → OneEnd → Type 0
-Stayed name a cs old new steps e = Lives name a cs e × StaysAt name a cs (record { before = old; after = new; steps = steps })
+Stayed name a cs old new steps e = Lives name a cs (record { before = old; after = new; steps = steps }) e × StaysAt name a cs (record { before = old; after = new; steps = steps })
 
 lives-step : (c : Call) (cs : List Call) (old new : Host) (steps : Steps (c ∷ cs) old new) (name : PeerRef) (a : Addr) (p : Peering) (x : IsThere old.slots name p) → x.slot.address ≡ a → old.config.generations ≤ greatest → (e : OneEnd) → e.peer ≡ p
     → ((q : Peering) (y : IsThere steps.0.slots name q) → y.slot.address ≡ a → (f : OneEnd) → f.peer ≡ q → Stayed name a cs steps.0 new steps.2 f)
@@ -150,7 +159,7 @@ lives-step c cs old new steps name a p x at low e is later = by
     on q t ds there generation address peer fell alone =
         let one = called c old steps.0 name p q x a ds e at is steps.1 fell alone in
         let r = later q (record { slot = t; there = there; same = generation ∙ x.same; peer = peer }) (address ∙ at) one.end one.peer in
-        (lives-on name a c cs e q one r.0, (here, r.1))
+        (lives-on c cs old new steps name p q x a ds e at is fell one r.0, (here, r.1))
 
     by : (t : SlotState) → slice_get steps.0.slots name.slot ≡ Some t → Fares c (common_of old) name.slot x.slot t → Stayed name a (c ∷ cs) old new steps e
     by t there (untouched none not' same) =
@@ -166,13 +175,14 @@ lives-step c cs old new steps name a p x at low e is later = by
               let one = called c old steps.0 name p q x a ds e at is steps.1 fell2 alone2 in
               let spent : IsSpent steps.0 name = record { slot = t; there = there; past = past-freed steps.0 name x.slot t q n few (let g : x.slot.generation ≡ name.generation = x.same in omega arith) free same } in
               let r = gone cs steps.0 new steps.2 name a few spent in
-              (lives-on name a c cs e q one (lives-no-more name a cs one.end r.0), (here, r.1))
+              let none = spent-all cs steps.0 new steps.2 name few spent in
+              (lives-on c cs old new steps name p q x a ds e at is fell2 one (lives-no-more name a cs (record { before = steps.0; after = new; steps = steps.2 }) one.end none.0 r.0), (here, r.1))
           | inr live ↦ (let z = stands x.slot t q n live same in on q t ds there z.generation z.address z.peer fell2 alone2)
         ]
     by t there (begins none left b) = no-peer x.slot.peer p none x.peer
 
 lives : (cs : List Call) (old new : Host) (steps : Steps cs old new) (name : PeerRef) (a : Addr) (p : Peering) (x : IsThere old.slots name p) → x.slot.address ≡ a → old.config.generations ≤ greatest → (e : OneEnd) → e.peer ≡ p → Stayed name a cs old new steps e
-lives [] old new steps name a p x at low e is = ((p, led-nothing a e (IsIn []) p (sym is)), λ b f. somewhere old.slots name p x a b at f)
+lives [] old new steps name a p x at low e is = (record { deeds = []; fell = refl; came = refl; after = p; led = led-nothing a e p (sym is) }, λ b f. somewhere old.slots name p x a b at f)
 lives (c ∷ cs) old new steps name a p x at low e is =
     let y : (t : SlotState) × (slice_get steps.0.slots name.slot ≡ Some t) × Fares c (common_of old) name.slot x.slot t = one-call c old steps.0 steps.1 name.slot x.slot x.there in
     lives-step c cs old new steps name a p x at low e is (λ q z w f here. lives cs steps.0 new steps.2 name a q z w (few-after c old steps.0 steps.1 low) f here) y.0 y.1 y.2
@@ -209,49 +219,38 @@ none-before : {X : Type 0} (a b c : List X) → a ≡ [] → c ≡ b → c ≡ a
 none-before a b c e f = f ∙ ap (λ (l : List _). l ++ b) (sym e)
 
 end-begins : (name : PeerRef) (c : Call) (cs : List Call) (old new : Host) (steps : Steps (c ∷ cs) old new) (p : Peering) → AddsNothing name c → named old.slots name ≡ None → (first : BeginsAs c old name p)
-    → Lives name first.given.address cs (beginning p) → StaysAt name first.given.address cs (record { before = steps.0; after = new; steps = steps.2 }) → IsEnd name (c ∷ cs) (record { before = old; after = new; steps = steps })
+    → Lives name first.given.address cs (record { before = steps.0; after = new; steps = steps.2 }) (beginning p) → StaysAt name first.given.address cs (record { before = steps.0; after = new; steps = steps.2 })
+    → IsEnd name (c ∷ cs) (record { before = old; after = new; steps = steps })
 end-begins name c cs old new steps p none nobody first l stays =
     let a : Addr = first.given.address in
-    let k = l.1 in
+    let k = l.led in
     record {
-      before = [];
-      opening = c;
-      since = cs;
-      calls = refl;
-      host = old;
+      address = a;
       first = p;
-      began = first;
-      events = k.events;
+      deeds = l.deeds;
+      began = inl (first, refl, l.fell, l.came);
       end = k.end;
       runs = k.runs;
       taken = none-before (told_by name c) (flat_map (told_by name) cs) k.end.taken none.told k.taken;
       submitted = none-before (accepted_by name c) (flat_map (accepted_by name) cs) k.end.submitted none.accepted k.submitted;
-      came = λ h there. elim (k.came h there) [ inl f ↦ absurd f | inr m ↦ m ];
-      loose = λ x there. elim (k.loose x there) [ inl f ↦ absurd f | inr m ↦ m ];
       put = subst (AreOf a (given_by name c ++ flat_map (given_by name) cs)) (sym k.put) (subst (λ (g : List (Addr × List ℕ)). AreOf a (g ++ flat_map (given_by name) cs) k.messages) (sym none.given) k.puts);
       stays = ((λ b e. nowhere old.slots name b nobody e), stays);
-      heard = by-beginning IsHeard asking-heard answering-heard c (common_of old) name.slot first.slot first.given first.begins p first.peer k.events k.end k.runs;
-      sent = by-beginning IsSent asking-sent answering-sent c (common_of old) name.slot first.slot first.given first.begins p first.peer k.events k.end k.runs;
+      heard = by-beginning IsHeard asking-heard answering-heard c (common_of old) name.slot first.slot first.given first.begins p first.peer (flat_map event_in l.deeds) k.end k.runs;
+      sent = by-beginning IsSent asking-sent answering-sent c (common_of old) name.slot first.slot first.given first.begins p first.peer (flat_map event_in l.deeds) k.end k.runs;
     }
 
 end-more : (name : PeerRef) (c : Call) (cs : List Call) (old new : Host) (steps : Steps (c ∷ cs) old new) → AddsNothing name c → named old.slots name ≡ None → IsEnd name cs (record { before = steps.0; after = new; steps = steps.2 })
     → IsEnd name (c ∷ cs) (record { before = old; after = new; steps = steps })
 end-more name c cs old new steps none nobody k = record {
-  before = c ∷ k.before;
-  opening = k.opening;
-  since = k.since;
-  calls = ap (λ (l : List Call). c ∷ l) k.calls;
-  host = k.host;
+  address = k.address;
   first = k.first;
-  began = k.began;
-  events = k.events;
+  deeds = k.deeds;
+  began = inr k.began;
   end = k.end;
   runs = k.runs;
   taken = none-before (told_by name c) (flat_map (told_by name) cs) k.end.taken none.told k.taken;
   submitted = none-before (accepted_by name c) (flat_map (accepted_by name) cs) k.end.submitted none.accepted k.submitted;
-  came = k.came;
-  loose = k.loose;
-  put = subst (λ (g : List (Addr × List ℕ)). AreOf k.began.given.address (g ++ flat_map (given_by name) cs) k.end.put) (sym none.given) k.put;
+  put = subst (λ (g : List (Addr × List ℕ)). AreOf k.address (g ++ flat_map (given_by name) cs) k.end.put) (sym none.given) k.put;
   stays = ((λ b e. nowhere old.slots name b nobody e), k.stays);
   heard = k.heard;
   sent = k.sent;

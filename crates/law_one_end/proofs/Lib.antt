@@ -16,4 +16,5 @@ pub mod ExampleRuns
 pub mod Deeds
 pub mod Calls
 pub mod Hosts
+pub mod Coming
 pub mod Foreign

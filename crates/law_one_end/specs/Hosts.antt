@@ -1,13 +1,13 @@
 -- A peer of a host among any others, by the calls of the host alone: what the user was told of it and submitted to it, what came from where
 -- the host has it, and what was put out to it.
-use Rattle.std.specs.Prelude.{◌≡◌, ◌⊎◌, ℕ, if◌then◌else◌, List, [], ◌∷◌, ◌++◌, take, flat_map, Some, None, Ok}
+use Rattle.std.specs.Prelude.{◌≡◌, ◌⊎◌, ℕ, if◌then◌else◌, List, [], ◌∷◌, ◌++◌, take, flat_map, Some, None, Ok, Err}
 use Rattle.enet_codec.specs.declared.address.Addr.{Addr}
 use Rattle.enet_codec.specs.declared.event.Event.TheVariants as event
 use Rattle.enet_codec.specs.declared.event.PeerRef.{PeerRef}
 use Rattle.enet_codec.specs.declared.header.Header.{Header}
 use Rattle.enet_codec.specs.declared.packet.Packet.{Packet}
+use Rattle.enet_codec.specs.declared.stop.Stop.TheVariants as stop
 use Rattle.enet_codec.specs.Message.{Message}
-use Rattle.enet_fragment.specs.DataCommand.{data_of}
 use Rattle.enet_host.specs.Host.{Host, named}
 use Rattle.enet_host.specs.Calls.{address_named}
 use Rattle.enet_outbox.specs.declared.parts.Destination.{Destination}
@@ -16,13 +16,15 @@ use Rattle.enet_peer.specs.declared.parts.PeerEvent.{PeerEvent}
 use Rattle.enet_peer.specs.declared.parts.PeerEvent.TheVariants as told
 use Rattle.enet_peer.specs.Heading.{IsRead}
 use Rattle.enet_peer.specs.Peering.{Peering}
-use Rattle.enet_receiver.specs.Members.{Has}
 use Rattle.enet_slot.specs.Receiving.{is_same_address}
 use Rattle.law_network.specs.Beginnings.{BeginsAs}
 use Rattle.law_network.specs.Calls.{Call, Steps, Series, later}
 use Rattle.law_network.specs.Calls as call
+use Rattle.law_network.specs.Deeds.{Deed}
+use Rattle.law_network.specs.Deeds as deed
+use Rattle.law_network.specs.Falling.{FellAll}
 use Rattle.law_network.specs.Network.{is_same_name}
-use Rattle.law_one_end.specs.OneEnd.{Heard, OneEnd, Event, Runs, beginning, loose_of}
+use Rattle.law_one_end.specs.OneEnd.{OneEnd, Event, Submit, Emit, Come, Tick, Take, Disconnect, Set, Runs, beginning}
 use Rattle.law_one_end.specs.Datagrams.{Begins}
 use Rattle.law_one_end.specs.Law.{IsHeard}
 use Rattle.law_one_end.specs.Sent.{IsSent}
@@ -49,16 +51,23 @@ abbrev pub given_by : PeerRef → Call → List (Addr × List ℕ)
 given_by name (call.Service (Some gave) buf) = if is_same_name name gave.0 then (gave.1, take gave.2 buf) ∷ [] else []
 given_by name c = []
 
--- a command stands in one of these datagrams, behind the header and after other commands
-pub record IsIn (datagrams : List (List ℕ)) (m : Message) : Type 0 where
-  pub bytes : List ℕ
-  pub there : Has datagrams bytes
+-- the command that came by a deed
+abbrev pub message_in : Deed → List Message
+message_in (deed.Come now sent m answer) = m ∷ []
+message_in d = []
+
+-- a datagram names this slot, and these commands stand at its front, one after another
+pub record AreFirst (slot : ℕ) (bytes : List ℕ) (ms : List Message) : Type 0 where
   pub header : Header
   pub commands : List ℕ
   pub read : IsRead bytes header commands
-  pub messages : List Message
-  pub begins : Begins commands messages
-  pub has : Has messages m
+  pub names : header.peer ≡ slot
+  pub begins : Begins commands ms
+
+-- these commands came by these datagrams, one after another: from each none, or those at its front where it names this slot
+abbrev pub CameBy : ℕ → List (List ℕ) → List Message → Type 0
+CameBy slot [] ms = ms ≡ []
+CameBy slot (d ∷ ds) ms = (first rest : List Message) × ((first ≡ []) ⊎ AreFirst slot d first) × (ms ≡ first ++ rest) × CameBy slot ds rest
 
 -- these datagrams went to this address and have these commands, one after another
 abbrev pub AreOf : Addr → List (Addr × List ℕ) → List Message → Type 0
@@ -70,26 +79,39 @@ abbrev pub StaysAt : PeerRef → Addr → (cs : List Call) → Series cs → Typ
 StaysAt name a [] series = (b : Addr) → address_named series.before.slots name ≡ Some b → b ≡ a
 StaysAt name a (c ∷ cs) series = ((b : Addr) → address_named series.before.slots name ≡ Some b → b ≡ a) × StaysAt name a cs (later series)
 
--- the peer of this name began by one of these calls, at an address where it stayed, and is one end since: all that the user was told of it, and
--- all that it accepted, is that end's. Each command that came to it stands in a datagram that came since, from that address. All that it put
--- out went there
+-- by one of these calls the peer of this name began so, at this address, and since then these deeds fell to it; the commands that came came by
+-- the datagrams from there
+abbrev pub BeganAt : PeerRef → Addr → (cs : List Call) → Series cs → Peering → List Deed → Type 0
+BeganAt name a [] series first ds = ⊥
+BeganAt name a (c ∷ cs) series first ds =
+    ((began : BeginsAs c series.before name first) × (began.given.address ≡ a) × FellAll name cs (later series) ds
+    × CameBy name.slot (flat_map (brought_by a) cs) (flat_map message_in ds)) ⊎ BeganAt name a cs (later series) first ds
+
+-- what a deed is to the peer's end: nothing where it was refused, where memory was wanting, or where no event was there to be taken
+abbrev pub event_in : Deed → List Event
+event_in (deed.Submit q (Ok done)) = Submit q ∷ []
+event_in (deed.Emit now given) = Emit now ∷ []
+event_in (deed.Come now sent m (Err stop.Memory)) = []
+event_in (deed.Come now sent m answer) = Come m now sent ∷ []
+event_in (deed.Tick now) = Tick now ∷ []
+event_in (deed.Take (Some e)) = Take ∷ []
+event_in (deed.Disconnect way info (Ok done)) = Disconnect way info ∷ []
+event_in (deed.Set setting (Ok done)) = Set setting ∷ []
+event_in d = []
+
+-- the peer of this name began by one of these calls, at an address where it stayed, and is one end since: what happens there is what fell to
+-- it. All that the user was told of it, and all that it accepted, is that end's, and all that it put out went to that address
 pub record IsEnd (name : PeerRef) (cs : List Call) (series : Series cs) : Type 0 where
-  pub before : List Call
-  pub opening : Call
-  pub since : List Call
-  pub calls : cs ≡ before ++ opening ∷ since
-  pub host : Host
+  pub address : Addr
   pub first : Peering
-  pub began : BeginsAs opening host name first
-  pub events : List Event
+  pub deeds : List Deed
+  pub began : BeganAt name address cs series first deeds
   pub end : OneEnd
-  pub runs : Runs events (beginning first) end
+  pub runs : Runs (flat_map event_in deeds) (beginning first) end
   pub taken : end.taken ≡ flat_map (told_by name) cs
   pub submitted : end.submitted ≡ flat_map (accepted_by name) cs
-  pub came : (h : Heard) → Has end.came h → (m : Message) × IsIn (flat_map (brought_by began.given.address) since) m × (h.channel ≡ m.head.channel) × (data_of m ≡ Some h.command)
-  pub loose : (q : Packet) → Has end.loose q → (m : Message) × IsIn (flat_map (brought_by began.given.address) since) m × Has (loose_of m.head.channel m.body) q
-  pub put : AreOf began.given.address (flat_map (given_by name) cs) end.put
-  pub stays : StaysAt name began.given.address cs series
+  pub put : AreOf address (flat_map (given_by name) cs) end.put
+  pub stays : StaysAt name address cs series
   pub heard : IsHeard end
   pub sent : IsSent end
 

@@ -4,7 +4,9 @@ use Rattle.enet_codec.specs.declared.address.Addr.{Addr}
 use Rattle.enet_codec.specs.declared.event.Event.TheVariants as event
 use Rattle.enet_codec.specs.declared.event.PeerRef.{PeerRef}
 use Rattle.enet_codec.specs.declared.event.Received.{Received}
+use Rattle.enet_codec.specs.declared.header.Header.{Header}
 use Rattle.enet_host.specs.Receiving.{handled_one}
+use Rattle.enet_peer.specs.Heading.{IsRead}
 use Rattle.enet_packets.specs.declared.incoming_packet.Dispatched.{Dispatched}
 use Rattle.enet_receiver.specs.Members.{Has}
 use Rattle.enet_slot.specs.Receiving.{is_same_address}
@@ -29,11 +31,26 @@ command_of number byte = record { channel = 0; command = record { reliable = tru
 abbrev pub packet_of : ℕ → Dispatched
 packet_of byte = record { flags = 1; body = byte ∷ [] }
 
--- of a host: a CONNECT came from an address, another datagram from another address, and of the peer its user took a packet
-abbrev pub foreign : PeerRef → Addr → List ℕ → Addr → List ℕ → Received → List Call
-foreign name a connect b other answer =
+-- of a host: a CONNECT came from an address, then a datagram from this or another address, and of the peer its user took a packet
+abbrev pub heard_of : PeerRef → Addr → List ℕ → Addr → List ℕ → Received → List Call
+heard_of name a connect b other answer =
     call.Receive a connect handled_one ∷ call.Receive b other answer ∷ call.NextEvent (Some (event.Receive name (record { channel = 0; flags = 1; body = 7 ∷ [] }))) ∷ []
 
+-- or its user was told at once that it is connected
+abbrev pub hasty : PeerRef → Addr → List ℕ → ℕ → List Call
+hasty name a connect info = call.Receive a connect handled_one ∷ call.NextEvent (Some (event.Connect name info)) ∷ []
+
+-- the law says that no host is called so, with these answers
+abbrev pub IsNoHosts : PeerRef → List Call → Type 0
+IsNoHosts name cs = (IsNobody name cs → ⊥) × ((series : Series cs) → IsEnd name cs series → ⊥)
+
 abbrev pub ForeignIsRefused : Type 0
-ForeignIsRefused = (name : PeerRef) (a b : Addr) (connect other : List ℕ) (answer : Received) → is_same_address a b ≡ false
-    → (IsNobody name (foreign name a connect b other answer) → ⊥) × ((series : Series (foreign name a connect b other answer)) → IsEnd name (foreign name a connect b other answer) series → ⊥)
+ForeignIsRefused = (name : PeerRef) (a b : Addr) (connect other : List ℕ) (answer : Received) → is_same_address a b ≡ false → IsNoHosts name (heard_of name a connect b other answer)
+
+-- also where it came from the peer's address, but names another slot
+abbrev pub MisdirectedIsRefused : Type 0
+MisdirectedIsRefused = (name : PeerRef) (a : Addr) (connect other : List ℕ) (answer : Received) (header : Header) (commands : List ℕ)
+    → IsRead other header commands → header.peer ≢ name.slot → IsNoHosts name (heard_of name a connect a other answer)
+
+abbrev pub HastyIsRefused : Type 0
+HastyIsRefused = (name : PeerRef) (a : Addr) (connect : List ℕ) (info : ℕ) → IsNoHosts name (hasty name a connect info)

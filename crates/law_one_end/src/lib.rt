@@ -23,7 +23,7 @@ ghost use Rattle.law_one_end.specs.OneEnd.{Heard, OneEnd};
 ghost use Rattle.law_one_end.specs.Datagrams.{HasCome};
 ghost use Rattle.law_one_end.specs.Law.{IsHeard, OfEachAnswering, OfEachAsking, OfEachJoined};
 ghost use Rattle.law_one_end.specs.Sent.{IsSent};
-ghost use Rattle.law_one_end.specs.Refuted.{CameElsewhere, ForeignIsRefused, IsRefused, command_of, packet_of};
+ghost use Rattle.law_one_end.specs.Refuted.{CameElsewhere, ForeignIsRefused, HastyIsRefused, IsRefused, MisdirectedIsRefused, command_of, packet_of};
 ghost use Rattle.law_one_end.specs.Examples.{OfSomeRun, HasTaken};
 ghost use Rattle.law_one_end.specs.Hosts.{EachIsOneEnd};
 
@@ -69,8 +69,9 @@ pub fn a_datagram_comes_as_commands()
 /// address, submissions, disconnects, settings, ticks, turns and takes, each with what was answered (`Steps`). Of each name that nobody has at
 /// first, nothing is told, submitted or put out (`IsNobody`); or its peer began by one of these calls, a `connect` of the user's or a CONNECT
 /// that came, at an address where it stayed, and is one end since (`IsEnd`). What the user was told of it, and what it accepted, is that end's,
-/// so the two laws above hold of it. Each command that came to it stands in a datagram that came since, from that address. Each datagram that
-/// it put out went there, and has the commands that the end put out, in order.
+/// so the two laws above hold of it. What happens at that end is, call by call, what fell to the peer (`FellAll` of `law_network`), and no
+/// more. The commands that came to it are, in order, those at the fronts of the datagrams that came since, from that address and with the
+/// number of its slot in their headers. Each datagram that it put out went there, and has the commands that the end put out, in order.
 pub fn each_peer_of_a_host(host: &HostCore)
     ensures { EachIsOneEnd host.now }
 {
@@ -82,7 +83,8 @@ pub fn each_peer_of_a_host(host: &HostCore)
 /// two packets the other way round (`swapped`), and a packet with another byte (`altered`).
 ///
 /// And what `IsEnd` rules out of a host: that its user takes a packet of a peer where since the CONNECT a datagram came from another address
-/// alone, whatever it holds (`foreign`).
+/// alone, whatever it holds (`foreign`), or one that names another slot (`misdirected`); and that its user is told of the connection where
+/// nothing came since (`hasty`).
 pub fn false_takes_are_refuted()
     ensures elsewhere { (came : List Heard) (d : Dispatched) (ds : List Dispatched) → CameElsewhere 0 came → IsRefused came (d ∷ ds) }
     ensures twice { IsRefused (command_of 1 7 ∷ []) (packet_of 7 ∷ packet_of 7 ∷ []) }
@@ -90,6 +92,8 @@ pub fn false_takes_are_refuted()
     ensures swapped { IsRefused (command_of 1 7 ∷ command_of 2 8 ∷ []) (packet_of 8 ∷ packet_of 7 ∷ []) }
     ensures altered { IsRefused (command_of 1 7 ∷ []) (packet_of 8 ∷ []) }
     ensures foreign { ForeignIsRefused }
+    ensures misdirected { MisdirectedIsRefused }
+    ensures hasty { HastyIsRefused }
 {}
 
 /// A run that does happen, so that the laws above speak of something: a reliable packet of a client that keeps the rules comes, and is taken.

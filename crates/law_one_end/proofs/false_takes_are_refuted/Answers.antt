@@ -1,5 +1,5 @@
 use Rattle.law_one_end.proofs.Refuting.{elsewhere, twice, gap, swapped, altered}
-use Rattle.law_one_end.proofs.Foreign.{foreign-refused}
+use Rattle.law_one_end.proofs.Foreign.{foreign-refused, misdirected-refused, hasty-refused}
 use Rattle.law_one_end.proofs.false_takes_are_refuted.Goals as goal
 
 pub returns-clause-elsewhere : goal.returns-clause-elsewhere
@@ -19,3 +19,9 @@ returns-clause-altered c = altered
 
 pub returns-clause-foreign : goal.returns-clause-foreign
 returns-clause-foreign c = foreign-refused
+
+pub returns-clause-misdirected : goal.returns-clause-misdirected
+returns-clause-misdirected c = misdirected-refused
+
+pub returns-clause-hasty : goal.returns-clause-hasty
+returns-clause-hasty c = hasty-refused
