@@ -1,8 +1,9 @@
 -- Turns in which the wire did not fail, one run of them after another.
 use Rattle.std.proofs.Common.{◌≡◌, ◌⊎◌, inl, inr, ℕ, ◌+◌, Bool, List, [], ◌∷◌, ◌++◌, Option, refl, sym, ap, ◌∙◌, subst, append_assoc, arith}
-use Rattle.std.specs.Prelude.{map}
+use Rattle.std.specs.Prelude.{map, length, ◌*◌, ◌≤◌}
 use Rattle.std.specs.List.{sum_by}
-use Rattle.std.proofs.lemmas.List.{append-nil, map-append}
+use Rattle.std.specs.declared.time.Duration.{Duration}
+use Rattle.std.proofs.lemmas.List.{append-nil, length-append, map-append}
 use Rattle.std.proofs.lemmas.List.Elements.{All-nil, All-append, filter-append, filter_map-append}
 use Rattle.std.proofs.lemmas.List.Sums.{sum_by-append}
 use Rattle.std.proofs.lemmas.Grind.{flat_map-append}
@@ -26,7 +27,8 @@ use Rattle.enet_turn.proofs.PhaseSteps.{chain_more}
 use Rattle.enet_turn.proofs.Runs.{cut_later}
 use Rattle.enet_turn.proofs.Tellings.{told_on, also_nothing}
 use Rattle.enet_turn.proofs.Reporting.{same_report}
-use Rattle.enet_service.specs.ServiceRuns.{Standing, Advances, Spell, IsCut}
+use Rattle.enet_service.specs.ServiceRuns.{Standing, Advances, AreFew, Spell, IsCut}
+use Rattle.enet_service.specs.declared.run_length.RunLength.TheVariants.{Turns, Time}
 
 -- events without their numbers
 abbrev events : List Numbered → List Event
@@ -36,6 +38,11 @@ events numbered = map (λ x. x.event) numbered
 pub fault_of_wire : (turns : ℕ) (rounds : List Round) (fault : Fault) → EndsInTurn turns rounds fault ⊎ EndsInWait turns rounds fault → fault.why ≡ WireFault
 fault_of_wire turns rounds fault (inl e) = ap (λ (f : Fault). f.why) e.told
 fault_of_wire turns rounds fault (inr e) = ap (λ (f : Fault). f.why) e.told
+
+-- and then it has no more turns than it was to have
+pub within_ends : (turns : ℕ) (rounds : List Round) (fault : Fault) → EndsInTurn turns rounds fault ⊎ EndsInWait turns rounds fault → length rounds ≤ turns
+within_ends turns rounds fault (inl e) = omega (arith, ap length e.in_order, length-append e.before (e.last ∷ []), e.within)
+within_ends turns rounds fault (inr e) = omega (arith, e.within)
 
 sum_of_both : (f : Round → ℕ) (xs ys : List Round) (a b : ℕ) → a ≡ stopped (sum_by f xs) → b ≡ stopped (sum_by f ys) → stopped (a + b) ≡ stopped (sum_by f (xs ++ ys))
 sum_of_both f xs ys a b ea eb = omega (arith, sum_by-append f xs ys, ea, eb)
@@ -101,10 +108,11 @@ further a b c xs ys t u w one two sum = record {
   faults = two.faults ∙ one.faults;
 }
 
--- turns, and then those that the wire cut off
-pub cut_after : (a b c : Standing) (xs : List Round) (t : Report) → Spell a xs b t → IsCut b c → IsCut a c
-cut_after a b c xs t one two = record {
+-- turns of a run for a time, and then those that the wire cut off
+pub cut_after : (a b c : Standing) (time : Duration) (xs : List Round) (times : ℕ) (t : Report) → length xs ≡ 64 * times → AreFew t → Spell a xs b t → IsCut (Turns 64) b c → IsCut (Time time) a c
+cut_after a b c time xs times t whole few one two = record {
   rounds = xs ++ two.rounds;
+  within = record { before = xs; last = two.rounds; all = refl; times = times; before_are = whole; last_are = two.within; few = subst AreFew one.totals few };
   advances = advances_on a b c xs two.rounds one.advances one.faults two.advances;
   cut = cut_later xs two.rounds one.sound two.cut;
   faults = two.faults ∙ ap (λ (n : ℕ). n + 1) one.faults;

@@ -78,6 +78,21 @@ abbrev pub Lasts : RunLength → List Round → Type 0
 Lasts (Turns n) rounds = length rounds ≡ n
 Lasts (Time length_of_time) rounds = LastsForTime rounds
 
+-- no more turns than a run for a time has: 64 by 64, then 64 at most, and none of these once there were many orders or events
+pub record LastsForTimeAtMost (rounds : List Round) : Type 0 where
+  pub before : List Round
+  pub last : List Round
+  pub all : rounds ≡ before ++ last
+  pub times : ℕ
+  pub before_are : length before ≡ 64 * times
+  pub last_are : length last ≤ 64
+  pub few : AreFew (total before)
+
+-- how many turns a run has at most
+abbrev pub LastsAtMost : RunLength → List Round → Type 0
+LastsAtMost (Turns n) rounds = length rounds ≤ n
+LastsAtMost (Time length_of_time) rounds = LastsForTimeAtMost rounds
+
 -- turns of a service over our host, one after another
 abbrev pub TakesTurns : Service Host → List Round → Service Host → Type 0
 TakesTurns old rounds new = Rounds host_calls old rounds new
@@ -117,9 +132,10 @@ pub record HasTurned (run_length : RunLength) (old new : Standing) (report : Rep
   pub lasts : Lasts run_length rounds
   pub spell : Spell old rounds new report
 
--- the turns of a run that the wire cut off: it failed once, in the last of them or in the wait after it
-pub record IsCut (old new : Standing) : Type 0 where
+-- the turns of a run that the wire cut off, no more than it was to have: it failed once, in the last of them or in the wait after it
+pub record IsCut (run_length : RunLength) (old new : Standing) : Type 0 where
   pub rounds : List Round
+  pub within : LastsAtMost run_length rounds
   pub advances : Advances old rounds new
   pub cut : AreCut rounds
   pub faults : new.faults ≡ old.faults + 1

@@ -16,7 +16,8 @@
 //! - What [`beside_turns`] did (`HasTurned`) is turns of the service, in none of which the wire failed: what they were given is what the drain
 //!   took and the wire told, each after a wait, and what they put is what the poster posted, and the report has their sums. They are as many
 //!   as were asked for; where a time was, 64 at a time, and no more once 2,147,483,648 orders were taken or events told (`Lasts`). E14 comes
-//!   exactly where the wire failed. Then they are the turns until that, what they were given and what they put included (`IsCut`).
+//!   exactly where the wire failed. Then they are the turns until that, no more than these, what they were given and what they put included
+//!   (`IsCut`).
 //! - Once settled, the only taker took all that was posted, and the orders that the drain didn't take are told in order ([`settle`]).
 //!
 //! A host that notes who came and went ([`WatchedHost`]) is the host that it holds, in each of its calls, and

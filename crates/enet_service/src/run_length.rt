@@ -4,6 +4,7 @@ ghost use Rattle.enet_turn.specs.Turn.{Round as OneTurn};
 ghost use Rattle.enet_bridge.specs.Serving.{queue_of, poster_of};
 ghost use Rattle.enet_turn.specs.Counts.{count_of};
 ghost use Rattle.enet_service.specs.ServiceRuns.{Lasts, LastsForTime, AreFew, Spell, IsCut, standing};
+ghost use Rattle.enet_service.specs.declared.run_length.RunLength.TheVariants as lengths;
 
 use crate::turning::Signals;
 use crate::watch::Watch;
@@ -46,7 +47,7 @@ pub(crate) fn take_turns<R: Wait + Clock, N: Wire, W: Watch>(
     ensures poster { (poster_of sink.new).queue ≡ (poster_of sink.old).queue }
     ensures turns { IfOk result (λ report. (rounds : List OneTurn) × Lasts run_length rounds
         × Spell (standing service.old source.old sink.old (N.told wire.old) (N.faults wire.old)) rounds (standing service.new source.new sink.new (N.told wire.new) (N.faults wire.new)) report) }
-    ensures cut { IfErr result (λ why. IsCut (standing service.old source.old sink.old (N.told wire.old) (N.faults wire.old)) (standing service.new source.new sink.new (N.told wire.new) (N.faults wire.new))) }
+    ensures cut { IfErr result (λ why. IsCut run_length (standing service.old source.old sink.old (N.told wire.old) (N.faults wire.old)) (standing service.new source.new sink.new (N.told wire.new) (N.faults wire.new))) }
     ensures fault { IfErr result (λ why. why ≡ Refusal.WireFault) }
     ensures faults { N.faults wire.new ≡ N.faults wire.old + count_of (is_err result) }
 {
@@ -70,7 +71,7 @@ fn turns_of<R: Wait + Clock, N: Wire, W: Watch>(
     ensures poster { (poster_of sink.new).queue ≡ (poster_of sink.old).queue }
     ensures turns { IfOk result (λ report. (rounds : List OneTurn) × (length rounds ≡ turns)
         × Spell (standing service.old source.old sink.old (N.told wire.old) (N.faults wire.old)) rounds (standing service.new source.new sink.new (N.told wire.new) (N.faults wire.new)) report) }
-    ensures cut { IfErr result (λ why. IsCut (standing service.old source.old sink.old (N.told wire.old) (N.faults wire.old)) (standing service.new source.new sink.new (N.told wire.new) (N.faults wire.new))) }
+    ensures cut { IfErr result (λ why. IsCut (lengths.Turns turns) (standing service.old source.old sink.old (N.told wire.old) (N.faults wire.old)) (standing service.new source.new sink.new (N.told wire.new) (N.faults wire.new))) }
     ensures fault { IfErr result (λ why. why ≡ Refusal.WireFault) }
     ensures faults { N.faults wire.new ≡ N.faults wire.old + count_of (is_err result) }
 {
@@ -109,7 +110,7 @@ fn turns_for<R: Wait + Clock, N: Wire, W: Watch>(
     ensures poster { (poster_of sink.new).queue ≡ (poster_of sink.old).queue }
     ensures turns { IfOk result (λ report. (rounds : List OneTurn) × LastsForTime rounds
         × Spell (standing service.old source.old sink.old (N.told wire.old) (N.faults wire.old)) rounds (standing service.new source.new sink.new (N.told wire.new) (N.faults wire.new)) report) }
-    ensures cut { IfErr result (λ why. IsCut (standing service.old source.old sink.old (N.told wire.old) (N.faults wire.old)) (standing service.new source.new sink.new (N.told wire.new) (N.faults wire.new))) }
+    ensures cut { IfErr result (λ why. IsCut (lengths.Time time) (standing service.old source.old sink.old (N.told wire.old) (N.faults wire.old)) (standing service.new source.new sink.new (N.told wire.new) (N.faults wire.new))) }
     ensures fault { IfErr result (λ why. why ≡ Refusal.WireFault) }
     ensures faults { N.faults wire.new ≡ N.faults wire.old + count_of (is_err result) }
 {

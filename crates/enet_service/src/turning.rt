@@ -80,7 +80,7 @@ fn serve_turns<R: Wait + Clock, N: Wire, W: Watch>(
     ensures queue { queue_of source.new ≡ queue_of source.old }
     ensures poster { (poster_of sink.new).queue ≡ (poster_of sink.old).queue }
     ensures turned { IfOk result (HasTurned run_length (standing bound.old.service source.old sink.old (N.told bound.old.wire) (N.faults bound.old.wire)) (standing bound.new.service source.new sink.new (N.told bound.new.wire) (N.faults bound.new.wire))) }
-    ensures cut { IfErr result (λ why. IsCut (standing bound.old.service source.old sink.old (N.told bound.old.wire) (N.faults bound.old.wire)) (standing bound.new.service source.new sink.new (N.told bound.new.wire) (N.faults bound.new.wire))) }
+    ensures cut { IfErr result (λ why. IsCut run_length (standing bound.old.service source.old sink.old (N.told bound.old.wire) (N.faults bound.old.wire)) (standing bound.new.service source.new sink.new (N.told bound.new.wire) (N.faults bound.new.wire))) }
     ensures fault { IfErr result (λ why. why ≡ Refusal.WireFault) }
     ensures faults { N.faults bound.new.wire ≡ N.faults bound.old.wire + count_of (is_err result) }
 {
@@ -124,7 +124,7 @@ where
     ensures queue { queue_of source.new ≡ queue_of source.old }
     ensures poster { (poster_of sink.new).queue ≡ (poster_of sink.old).queue }
     ensures turned { IfOk result.1 (HasTurned run_length (standing bound.old.service source.old sink.old (N.told bound.old.wire) (N.faults bound.old.wire)) (standing bound.new.service source.new sink.new (N.told bound.new.wire) (N.faults bound.new.wire))) }
-    ensures cut { IfErr result.1 (λ why. IsCut (standing bound.old.service source.old sink.old (N.told bound.old.wire) (N.faults bound.old.wire)) (standing bound.new.service source.new sink.new (N.told bound.new.wire) (N.faults bound.new.wire))) }
+    ensures cut { IfErr result.1 (λ why. IsCut run_length (standing bound.old.service source.old sink.old (N.told bound.old.wire) (N.faults bound.old.wire)) (standing bound.new.service source.new sink.new (N.told bound.new.wire) (N.faults bound.new.wire))) }
     ensures fault { IfErr result.1 (λ why. why ≡ Refusal.WireFault) }
     ensures faults { N.faults bound.new.wire ≡ N.faults bound.old.wire + count_of (is_err result.1) }
 {
@@ -135,7 +135,7 @@ where
             ensures queue { queue_of source.exit.now ≡ queue_of source.entry.now }
             ensures poster { (poster_of sink.exit.now).queue ≡ (poster_of sink.entry.now).queue }
             ensures turned { IfOk result (HasTurned run_length (standing bound.entry.now.service source.entry.now sink.entry.now (N.told bound.entry.now.wire) (N.faults bound.entry.now.wire)) (standing bound.exit.now.service source.exit.now sink.exit.now (N.told bound.exit.now.wire) (N.faults bound.exit.now.wire))) }
-            ensures cut { IfErr result (λ why. IsCut (standing bound.entry.now.service source.entry.now sink.entry.now (N.told bound.entry.now.wire) (N.faults bound.entry.now.wire)) (standing bound.exit.now.service source.exit.now sink.exit.now (N.told bound.exit.now.wire) (N.faults bound.exit.now.wire))) }
+            ensures cut { IfErr result (λ why. IsCut run_length (standing bound.entry.now.service source.entry.now sink.entry.now (N.told bound.entry.now.wire) (N.faults bound.entry.now.wire)) (standing bound.exit.now.service source.exit.now sink.exit.now (N.told bound.exit.now.wire) (N.faults bound.exit.now.wire))) }
             ensures fault { IfErr result (λ why. why ≡ Refusal.WireFault) }
             ensures faults { N.faults bound.exit.now.wire ≡ N.faults bound.entry.now.wire + count_of (is_err result) }
         { serve_turns(rt, bound, source, sink, run_length, signals, watch) },

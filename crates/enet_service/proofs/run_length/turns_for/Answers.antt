@@ -33,4 +33,4 @@ returns-then-has_left-clause-turns g c =
 pub returns-in_err-report-clause-cut : goal.returns-in_err-report-clause-cut
 returns-in_err-report-clause-cut g c =
     let out = err_from_is_err_and c.from_residual.result c.from_residual.ensures.1 in
-    rw (out.1) (cut_after _ _ _ c.loop.invariant.2 _ c.loop.invariant.5 c.in_err-report.ensures.cut)
+    rw (out.1) (cut_after _ _ _ c.args.time c.loop.invariant.2 c.loop.invariant.3 _ c.loop.invariant.4 c.loop.invariant.1 c.loop.invariant.5 c.in_err-report.ensures.cut)

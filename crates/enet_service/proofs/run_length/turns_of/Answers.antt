@@ -3,7 +3,7 @@ use Rattle.enet_host.specs.Host.{Host}
 use Rattle.enet_turn.specs.Turn.{Round}
 use Rattle.enet_service.specs.ServiceRuns.{TakesTurns}
 use Rattle.enet_turn.proofs.Runs.{cut_of_ends}
-use Rattle.enet_service.proofs.Spells.{fault_of_wire}
+use Rattle.enet_service.proofs.Spells.{fault_of_wire, within_ends}
 use Rattle.enet_service.proofs.run_length.turns_of.Goals as goal
 
 pub returns-in-Ok-clause-turns : goal.returns-in-Ok-clause-turns
@@ -24,4 +24,4 @@ returns-in-Err-clause-cut g c =
     let rounds : List Round = ran.0 in
     let turns : TakesTurns c.args.service.now rounds (record { host = c.show-in-Err.new.host; waiting = c.run_between_queues.new.service.waiting }) =
     subst (λ (host : Host). TakesTurns c.args.service.now rounds (record { host = host; waiting = c.run_between_queues.new.service.waiting })) (sym c.show-in-Err.ensures) ran.1 in
-    record { rounds = rounds; advances = record { turns = turns; gave = ran.3.grown; queue = ran.2; drains = ran.3; put = ran.4; told = ran.5 }; cut = cut_of_ends _ rounds _ ran.6; faults = omega (arith, c.in-Err.ensures.faults) }
+    record { rounds = rounds; within = within_ends _ rounds _ ran.6; advances = record { turns = turns; gave = ran.3.grown; queue = ran.2; drains = ran.3; put = ran.4; told = ran.5 }; cut = cut_of_ends _ rounds _ ran.6; faults = omega (arith, c.in-Err.ensures.faults) }
