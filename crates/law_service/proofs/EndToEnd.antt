@@ -1,5 +1,5 @@
 -- The headline of services, from that of the net of their hosts.
-use Rattle.std.proofs.Common.{◌≡◌, ◌≢◌, ℕ, zero, suc, ◌+◌, ◌<◌, ◌⊎◌, inl, inr, ◌==◌, ◌&&◌, ◌||◌, not, Bool, true, false, cond, List, [], ◌∷◌, ◌++◌, map, length, refl, sym, ap, subst, ◌∙◌, append-nil, append_assoc, arith, Option, Some, None, Ok, Err, slice_get, slice_set}
+use Rattle.std.proofs.Common.{◌≡◌, ◌≢◌, ℕ, zero, suc, ◌+◌, ◌<◌, ◌≤◌, ◌⊎◌, inl, inr, ◌==◌, ◌&&◌, ◌||◌, not, Bool, true, false, cond, List, [], ◌∷◌, ◌++◌, map, length, refl, sym, ap, subst, ◌∙◌, append-nil, append_assoc, arith, Option, Some, None, Ok, Err, slice_get, slice_set}
 use Rattle.std.specs.Prelude.{flat_map, filter, take}
 use Rattle.std.specs.List.{list_all, list_any}
 use Rattle.std.specs.Option.{option_map}
@@ -36,12 +36,12 @@ use Rattle.law_headline.specs.Kept.{is_guest, submitted_by, taken_by, IsRecorded
 use Rattle.law_headline.specs.Page.{User, IsHeadline, IsBehind, is_of}
 use Rattle.law_headline.proofs.Kept.{stays-recorded}
 use Rattle.law_headline.proofs.Covered.{stays-covered}
-use Rattle.law_headline.proofs.Page.{IsUsers, IsBegun, page, holds-behind}
+use Rattle.law_headline.proofs.Page.{IsUsers, IsBegun, called, called-some, has-end, named-page, holds-behind}
 use Rattle.enet_service.specs.ServiceRuns.{beginning}
 use Rattle.enet_turn.specs.Spans.{Span, rounds_in}
 use Rattle.law_service.specs.Told.{told, submitted_in, taken_in}
 use Rattle.law_service.specs.Law.{noted}
-use Rattle.law_service.specs.EndToEnd.{rounds_of, Running, brings_guest, user_of, user_in, user_of_calls, user_if, AtEachMoment, configs, IsCall, Makes, AllMake, is_node, call_at, calls_at, asks, asked, EndToEnd, Part, Threads, ThreadsAt, user_by, user_at, BetweenThreads}
+use Rattle.law_service.specs.EndToEnd.{rounds_of, Running, brings_guest, user_of, user_in, user_of_calls, user_if, HoldsThroughout, AtEachMoment, configs, IsCall, Makes, AllMake, is_node, call_at, calls_at, asks, asked, EndToEnd, Part, Threads, ThreadsAt, user_by, user_at, BetweenThreads}
 use Rattle.law_service.proofs.Lives.{Behind, all-behind}
 use Rattle.law_service.proofs.Telling.{life-tells}
 
@@ -376,10 +376,14 @@ users-calls : (hosts : Addr → Bool) (s : Site) (l : List Call) → IsRecorded 
     → (list_any (brings_guest hosts) l ≡ false → IsCovered hosts (submitted_in l) (taken_in l) s) → IsUsers hosts (user_of_calls hosts l) s
 users-calls hosts s l k headline covers = record { recorded = k; headline = headline; covered = covers }
 
+-- the headline, with the names that the server's ends have
+abbrev Named : List HostEnd → User → (ℕ → User) → List (ℕ × PeerRef) → Type 0
+Named ends server clients asked = (h : IsHeadline server clients asked) × ((x : ℕ) → h.here x ≡ called (end_of x ends))
+
 calls-in-order : (home : Node → Addr) → AreApart home → (server : Config) (clients : List Config) → is_in_range server ≡ true → list_all is_in_range clients ≡ true → (ms : List (Node × Call)) (f : Net) → AllMake home ms (open_net home server clients) f
-    → IsHeadline (user_of_calls (is_host home (length clients)) (calls_at Server ms)) (λ i. user_if (is_host home (length clients)) (slice_get clients i) (calls_at (Client i) ms)) (asked ms)
+    → Named f.server.site.ends (user_of_calls (is_host home (length clients)) (calls_at Server ms)) (λ i. user_if (is_host home (length clients)) (slice_get clients i) (calls_at (Client i) ms)) (asked ms)
 calls-in-order home apart server clients one all ms f r =
-    page hosts f.server.site (user_of_calls hosts (calls_at Server ms)) (λ i. site-of (slice_get f.clients i)) (λ i. user_if hosts (slice_get clients i) (calls_at (Client i) ms)) (asked ms)
+    named-page hosts f.server.site (user_of_calls hosts (calls_at Server ms)) (λ i. site-of (slice_get f.clients i)) (λ i. user_if hosts (slice_get clients i) (calls_at (Client i) ms)) (asked ms)
     (users-calls hosts f.server.site (calls_at Server ms) (k.each Server f.server refl) (headlined Server f.server refl) (covers Server f.server refl))
     (λ i s is. (let p = has-site (slice_get f.clients i) s is in
     subst (IsUsers hosts (user_if hosts (slice_get clients i) (calls_at (Client i) ms))) p.2 (runs i p.0 p.1 (slice_get clients i) refl)))
@@ -458,15 +462,77 @@ calls-in-order home apart server clients one all ms f r =
 
 -- a front of an interleaving is one
 front-of : (home : Node → Addr) (n : ℕ) (ms : List (Node × Call)) (f g : Net) → AllMake home ms f g → (h : Net) × AllMake home (take n ms) f h
-front-of home zero [] f g r = (f, refl)
-front-of home zero (m ∷ ms) f g r = (f, refl)
+front-of home zero ms f g r = (f, refl)
 front-of home (suc n) [] f g r = (g, r)
 front-of home (suc n) (m ∷ ms) f g r = (let k = front-of home n ms r.0 g r.2 in (k.0, (r.0, r.1, k.1)))
 
+-- the front of so many calls is all of them
+front-all : (home : Node → Addr) (ms : List (Node × Call)) (f g : Net) (r : AllMake home ms f g) → (front-of home (length ms) ms f g r).0 ≡ g
+unfolding front-of
+front-all home [] f g r = sym r
+front-all home (m ∷ ms) f g r = front-all home ms r.0 g r.2
+
+-- what each call keeps, and holds after one front, holds after each longer one
+calls-keep : (home : Node → Addr) (P : Net → Type 0) → ((n : Node) (c : Call) (f g : Net) → Makes home n c f g → P f → P g) → (ms : List (Node × Call)) (f g : Net) → AllMake home ms f g → P f → P g
+calls-keep home P step [] f g r k = subst P (sym r) k
+calls-keep home P step (m ∷ ms) f g r k = calls-keep home P step ms r.0 g r.2 (step m.0 m.1 f r.0 r.1 k)
+
+front-keeps : (home : Node → Addr) (P : Net → Type 0) → ((n : Node) (c : Call) (f g : Net) → Makes home n c f g → P f → P g)
+    → (n m : ℕ) → n ≤ m → (ms : List (Node × Call)) (f g : Net) (r : AllMake home ms f g) → P (front-of home n ms f g r).0 → P (front-of home m ms f g r).0
+unfolding front-of
+front-keeps home P step zero m le ms f g r k = (let t = front-of home m ms f g r in calls-keep home P step (take m ms) f t.0 t.1 k)
+front-keeps home P step (suc n) zero le ms f g r k = absurd (let l : suc n ≤ 0 = le in omega arith)
+front-keeps home P step (suc n) (suc m) le [] f g r k = k
+front-keeps home P step (suc n) (suc m) le (x ∷ ms) f g r k = front-keeps home P step n m (let l : suc n ≤ suc m = le in omega arith) ms r.0 g r.2 k
+
+-- the server has an end of connection x, which has this name, and keeps it
+abbrev HasName : ℕ → PeerRef → Net → Type 0
+HasName x p f = (e : HostEnd) × Has f.server.site.ends e × (e.connection ≡ x) × (e.name ≡ p)
+
+name-stays : (home : Node → Addr) (m from : Node) (what : Happening) (f g : Net) (h : HappensAt home m from what f g) (x : ℕ) (p : PeerRef) → HasName x p f → HasName x p g
+name-stays home Server from what f g h x p k =
+    let was : f.server ≡ h.was = same-some f.server h.was h.there in
+    let has : Has h.was.site.ends k.0 = subst (λ (q : Place). Has q.site.ends k.0) was k.1 in (
+      grown.change k.0,
+      subst (λ (q : Place). Has q.site.ends (grown.change k.0)) (sym (ap (λ (y : Net). y.server) h.rest))
+          (stays-there h.was.site h.is.site (more_of (length f.asked) h.sender.site h.was.site h.is.site what) grown k.0 has),
+      grown.connection k.0 ∙ k.2,
+      grown.name k.0 ∙ k.3,
+    )
+  where
+    grown : Grows h.was.site h.is.site (more_of (length f.asked) h.sender.site h.was.site h.is.site what)
+    grown = grows (around home f Server) h.sender.site h.was.site h.is.site what h.here
+name-stays home (Client i) from what f g h x p k = (k.0, subst (λ (q : Place). Has q.site.ends k.0) (sym (ap (λ (y : Net). y.server) h.rest)) k.1, k.2, k.3)
+
+-- the headline of each front has the names of the server's ends, and they stay
+throughout : (home : Node → Addr) → AreApart home → (server : Config) (clients : List Config) → is_in_range server ≡ true → list_all is_in_range clients ≡ true
+    → (ms : List (Node × Call)) (f : Net) → AllMake home ms (open_net home server clients) f → (h : HoldsThroughout home clients ms) × ((x : ℕ) → (h.front (length ms)).here x ≡ called (end_of x f.server.site.ends))
+throughout home apart server clients one all ms f r =
+    (record { front = λ n. (page n).0; stays = keeps }, λ x. (page (length ms)).1 x ∙ ap (λ (g : Net). called (end_of x g.server.site.ends)) (front-all home ms (open_net home server clients) f r))
+  where
+    at : (n : ℕ) → (g : Net) × AllMake home (take n ms) (open_net home server clients) g
+    at n = front-of home n ms (open_net home server clients) f r
+
+    page : (n : ℕ) → Named (at n).0.server.site.ends (user_of_calls (is_host home (length clients)) (calls_at Server (take n ms)))
+        (λ i. user_if (is_host home (length clients)) (slice_get clients i) (calls_at (Client i) (take n ms))) (asked (take n ms))
+    page n = calls-in-order home apart server clients one all (take n ms) (at n).0 (at n).1
+
+    has : (n x : ℕ) (p : PeerRef) → (page n).0.here x ≡ Some p → HasName x p (at n).0
+    has n x p is =
+        let t = called-some (end_of x (at n).0.server.site.ends) p (sym ((page n).1 x) ∙ is) in
+        let h = has-end x (at n).0.server.site.ends t.0 t.1 in
+        (t.0, h.0, h.1, t.2)
+
+    keeps : (n m x : ℕ) (p : PeerRef) → n ≤ m → (page n).0.here x ≡ Some p → (page m).0.here x ≡ Some p
+    keeps n m x p le is =
+        let k : HasName x p (at m).0 = front-keeps home (HasName x p) (λ i c f g made. name-stays home i made.from made.what f g made.happens x p) n m le ms (open_net home server clients) f r (has n x p is) in
+        let told : IsTold home apart (length clients) (take m ms) (at m).0 = all-told home apart (length clients) [] (take m ms) (open_net home server clients) (at m).0 (at m).1 (open-told home apart server clients one all) in
+        let h : HasHeadline home (at m).0 = has-headline home apart (at m).0 told.sound in
+        let only : end_of k.0.connection (at m).0.server.site.ends ≡ Some k.0 = (h.hosts Server (at m).0.server refl).only k.0 k.1 in
+        (page m).1 x ∙ ap called (subst (λ (y : ℕ). end_of y (at m).0.server.site.ends ≡ Some k.0) k.2 only) ∙ ap (λ (q : PeerRef). Some q) k.3
+
 pub at-each-moment : AtEachMoment
-at-each-moment home apart server clients one all ms f r n =
-    let k = front-of home n ms (open_net home server clients) f r in
-    calls-in-order home apart server clients one all (take n ms) k.0 k.1
+at-each-moment home apart server clients one all ms f r = (throughout home apart server clients one all ms f r).0
 
 -- what a service was given, and accepted, and told is what its calls tell
 user-calls : (hosts : Addr → Bool) (r : Running) → user_of_calls hosts r.calls ≡ user_of hosts r
@@ -476,12 +542,11 @@ user-calls hosts r = (λ i. record { submitted = submitted_in r.calls; taken = �
     takes q = sym ((life-tells (beginning r.config) r.spans r.left r.calls refl r.turns).1 q)
 
 pub end-to-end : EndToEnd
-end-to-end home apart server clients one all ms f r at-server at-clients =
-    subst (λ (u : User). IsHeadline u (λ i. user_in hosts (slice_get clients i)) (asked ms)) (ap (user_of_calls hosts) at-server ∙ user-calls hosts server)
-    (subst (λ (us : ℕ → User). IsHeadline (user_of_calls hosts (calls_at Server ms)) us (asked ms)) (λ j i. each i (slice_get clients i) refl j)
-    (subst (λ (t : ℕ). IsHeadline (user_of_calls (is_host home t) (calls_at Server ms)) (λ i. user_if (is_host home t) (slice_get (configs clients) i) (calls_at (Client i) ms)) (asked ms)) (length-mapped (λ (q : Running). q.config) clients)
-    (calls-in-order home apart server.config (configs clients) one all ms f r)))
+end-to-end home apart server clients one all ms f r at-server at-clients = (named.0, (all-moments.0, λ x. named.1 x ∙ sym (all-moments.1 x)))
   where
+    all-moments : (h : HoldsThroughout home (configs clients) ms) × ((x : ℕ) → (h.front (length ms)).here x ≡ called (end_of x f.server.site.ends))
+    all-moments = throughout home apart server.config (configs clients) one all ms f r
+
     hosts : Addr → Bool
     hosts = is_host home (length clients)
 
@@ -489,6 +554,13 @@ end-to-end home apart server clients one all ms f r at-server at-clients =
     each i None none = ap (λ (c : Option Config). user_if hosts c (calls_at (Client i) ms)) (get-map-none (λ (q : Running). q.config) clients i none) ∙ ap (user_in hosts) (sym none)
     each i (Some q) is =
         ap (λ (c : Option Config). user_if hosts c (calls_at (Client i) ms)) (get-map (λ (x : Running). x.config) clients i q is) ∙ ap (user_of_calls hosts) (at-clients i q is) ∙ user-calls hosts q ∙ ap (user_in hosts) (sym is)
+
+    named : Named f.server.site.ends (user_of hosts server) (λ i. user_in hosts (slice_get clients i)) (asked ms)
+    named =
+        subst (λ (u : User). Named f.server.site.ends u (λ i. user_in hosts (slice_get clients i)) (asked ms)) (ap (user_of_calls hosts) at-server ∙ user-calls hosts server)
+        (subst (λ (us : ℕ → User). Named f.server.site.ends (user_of_calls hosts (calls_at Server ms)) us (asked ms)) (λ j i. each i (slice_get clients i) refl j)
+        (subst (λ (t : ℕ). Named f.server.site.ends (user_of_calls (is_host home t) (calls_at Server ms)) (λ i. user_if (is_host home t) (slice_get (configs clients) i) (calls_at (Client i) ms)) (asked ms)) (length-mapped (λ (q : Running). q.config) clients)
+        (calls-in-order home apart server.config (configs clients) one all ms f r)))
 
 -- game threads
 

@@ -26,8 +26,8 @@ use Rattle.law_service.proofs.Queues.{each-thread}
 use Rattle.law_service.proofs.Lives.{life-has-threads}
 
 on-by : (a : Standing) (rounds : List Round) (b : Standing) → TakesRounds a rounds b → Advances a rounds b
-on-by a rounds b (inl t) = subst (λ (rs : List Round). Advances a rs b) t.3 t.2.spell.advances
-on-by a rounds b (inr c) = subst (λ (rs : List Round). Advances a rs b) c.1 c.0.advances
+on-by a rounds b (run_length, inl t) = subst (λ (rs : List Round). Advances a rs b) t.2 t.1.spell.advances
+on-by a rounds b (run_length, inr c) = subst (λ (rs : List Round). Advances a rs b) c.1 c.0.advances
 
 module _ (old : Service Host) (rounds : List Round) (back : Returned) (rest : List Order) (new : Service Host) (b : RunsBetween old rounds back rest new) where
   on : Advances b.first rounds b.last

@@ -1,5 +1,5 @@
 -- The headline of running services, end to end.
-use Rattle.std.specs.Prelude.{◌≡◌, ℕ, ◌==◌, ◌&&◌, ◌⊎◌, not, Bool, true, false, if◌then◌else◌, List, [], ◌∷◌, ◌++◌, length, map, filter, flat_map, take, drop, option_to_list, Option, Some, None, Ok, slice_get}
+use Rattle.std.specs.Prelude.{◌≡◌, ℕ, ◌≤◌, ◌==◌, ◌&&◌, ◌⊎◌, not, Bool, true, false, if◌then◌else◌, List, [], ◌∷◌, ◌++◌, length, map, filter, flat_map, take, drop, option_to_list, Option, Some, None, Ok, slice_get}
 use Rattle.std.specs.List.{list_all, list_any}
 use Rattle.enet_codec.specs.declared.address.Addr.{Addr}
 use Rattle.enet_codec.specs.declared.config.Config.{Config}
@@ -104,19 +104,28 @@ abbrev pub user_if : (Addr → Bool) → Option Config → List Call → User
 user_if hosts None calls = record { submitted = λ p channel. []; taken = λ p. []; guests = false }
 user_if hosts (Some config) calls = user_of_calls hosts calls
 
+-- the headline after each of these calls, of what was done until then; and a connection keeps the name that the server has for its peer
+pub record HoldsThroughout (at : Node → Addr) (clients : List Config) (ms : List (Node × Call)) : Type 0 where
+  pub front : (n : ℕ) → IsHeadline (user_of_calls (is_host at (length clients)) (calls_at Server (take n ms)))
+      (λ i. user_if (is_host at (length clients)) (slice_get clients i) (calls_at (Client i) (take n ms))) (asked (take n ms))
+  pub stays : (n m x : ℕ) (p : PeerRef) → n ≤ m → (front n).here x ≡ Some p → (front m).here x ≡ Some p
+
 -- at each moment of every interleaving of the calls of a server's host and clients' hosts, wherever they are, in which the network is honest: however
 -- the services end, or go on
 abbrev pub AtEachMoment : Type 0
 AtEachMoment = (at : Node → Addr) → AreApart at → (server : Config) (clients : List Config) → is_in_range server ≡ true → list_all is_in_range clients ≡ true
-    → (ms : List (Node × Call)) (f : Net) → AllMake at ms (open_net at server clients) f → (n : ℕ)
-    → IsHeadline (user_of_calls (is_host at (length clients)) (calls_at Server (take n ms))) (λ i. user_if (is_host at (length clients)) (slice_get clients i) (calls_at (Client i) (take n ms))) (asked (take n ms))
+    → (ms : List (Node × Call)) (f : Net) → AllMake at ms (open_net at server clients) f → HoldsThroughout at clients ms
+
+-- these names are those after all of these calls: so each stays what it was
+abbrev pub HasNames : (Node → Addr) → List Config → List (Node × Call) → (ℕ → Option PeerRef) → Type 0
+HasNames at clients ms here = (h : HoldsThroughout at clients ms) × ((x : ℕ) → here x ≡ (h.front (length ms)).here x)
 
 -- of every server's service and clients' services, wherever they are, and each interleaving of their hosts' calls in which the network is honest
 abbrev pub EndToEnd : Type 0
 EndToEnd = (at : Node → Addr) → AreApart at → (server : Running) (clients : List Running) → is_in_range server.config ≡ true → list_all is_in_range (configs clients) ≡ true
     → (ms : List (Node × Call)) (f : Net) → AllMake at ms (open_net at server.config (configs clients)) f
     → calls_at Server ms ≡ server.calls → ((i : ℕ) (r : Running) → slice_get clients i ≡ Some r → calls_at (Client i) ms ≡ r.calls)
-    → IsHeadline (user_of (is_host at (length clients)) server) (λ i. user_in (is_host at (length clients)) (slice_get clients i)) (asked ms)
+    → (h : IsHeadline (user_of (is_host at (length clients)) server) (λ i. user_in (is_host at (length clients)) (slice_get clients i)) (asked ms)) × HasNames at (configs clients) ms h.here
 
 -- ---- game threads
 -- A run of a service as its one game thread sees it: which event waited for room when it began, and which when it was over. What the thread
