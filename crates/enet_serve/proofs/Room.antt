@@ -1,7 +1,7 @@
 -- What the two threads of a run did. Events are left only where the relay found its queue full: then it submitted as many orders as the queue
 -- has places.
-use Rattle.std.proofs.Common.{◌≡◌, ◌⊎◌, ℕ, suc, ◌+◌, ◌<◌, ◌≤◌, inl, inr, List, [], ◌∷◌, ◌++◌, length, Some, Result, Ok, Err, IfOk, refl, sym, ◌∙◌, ap, subst, arith}
-use Rattle.std.specs.Prelude.{OnErr}
+use Rattle.std.proofs.Common.{◌≡◌, ◌⊎◌, ℕ, suc, ◌+◌, ◌<◌, ◌≤◌, inl, inr, List, [], ◌∷◌, ◌++◌, length, Option, Some, None, Result, Ok, Err, IfOk, refl, sym, ◌∙◌, ap, subst, arith}
+use Rattle.std.specs.Prelude.{IfErr}
 use Rattle.std.proofs.lemmas.List.{length-append, length-map}
 use Rattle.std.proofs.lemmas.Result.{IfOk-at_ok}
 use Rattle.enet_codec.specs.declared.refusal.Refusal.{Refusal}
@@ -31,7 +31,7 @@ use Rattle.enet_turn.specs.Run.{all_gave, all_told, all_puts}
 use Rattle.enet_turn.specs.Turn.{Round}
 use Rattle.enet_host.specs.Host.{Host}
 use Rattle.enet_turn.specs.declared.service.Service.{Service}
-use Rattle.enet_service.specs.ServiceRuns.{HasTurned, Advances, IsCut, Standing, TakesTurns}
+use Rattle.enet_service.specs.ServiceRuns.{HasTurned, Advances, IsCut, IsNotSettled, Standing, TakesTurns}
 use Rattle.enet_chat.specs.declared.relaying.Relay.{Relay}
 use Rattle.enet_chat.specs.declared.relaying.RelayParts.{RelayParts}
 use Rattle.enet_chat.specs.Relaying.{AreBehind, AreFarBehind, IsThrough, Relays, SameForEach, events, noted_all, relayed_all, peers_of, backlog_of, sender_of, receiver_of}
@@ -39,7 +39,7 @@ use Rattle.enet_serve.specs.declared.threads.Carryover.{Carryover}
 use Rattle.enet_serve.specs.declared.server.ChatServer.{ChatServer}
 use Rattle.enet_wire.specs.Wires.{unless_spent}
 use Rattle.enet_serve.proofs.TurnByTurn.{told_in}
-use Rattle.enet_serve.specs.Serving.{Serves, IsRelayed, KeepsNothing, IsCutOffBeside, told_of, faults_of}
+use Rattle.enet_serve.specs.Serving.{Serves, IsRelayed, KeepsNothing, IsCutOffBeside, told_of, faults_of, unsettled_of}
 use Rattle.enet_serve.specs.Private.Threads.{IsBegun, IsLeft, IsNothing}
 
 numbered_length : (seat number : ℕ) (os : List Order) → length (numbered seat number os) ≡ length os
@@ -138,10 +138,10 @@ turns_beside old new rounds from to t service service_after =
 
 -- the turns, the relay beside them and the settling are a run of the server
 pub serves_beside : (old new : ChatServer) (run_length : RunLength) (report : Report) (from to : Standing) (sender : OrderSender) (receiver : EventReceiver) (begun ended : Relay) (relayed : Result (Unit {0}) Refusal) (done : Unit {0}) (parts : RelayParts)
-    → HasTurned run_length from to report → from.service ≡ old.bound.service → to.service ≡ new.bound.service → from.told ≡ Some (told_of old) → to.told ≡ Some (told_of new) → from.faults ≡ faults_of old → Relays begun ended → relayed ≡ Ok done → IfOk relayed (λ _. IsThrough ended)
+    → HasTurned run_length from to report → from.service ≡ old.bound.service → to.service ≡ new.bound.service → from.told ≡ Some (told_of old) → to.told ≡ Some (told_of new) → from.faults ≡ faults_of old → to.faults ≡ faults_of new → Relays begun ended → relayed ≡ Ok done → IfOk relayed (λ _. IsThrough ended)
     → IsFirst old.queue_capacity from sender receiver → IsBegun old.kept sender receiver begun → Leaves ended parts → IsLeft parts to.drain to.poster new.kept
     → new.queue_capacity ≡ old.queue_capacity → Serves beside (old.queue_capacity + 1) old run_length new report
-serves_beside old new run_length report from to sender receiver begun ended relayed done parts t service service_after told told_after faults r is_done on_done first b leaves left capacity =
+serves_beside old new run_length report from to sender receiver begun ended relayed done parts t service service_after told told_after faults faults_after r is_done on_done first b leaves left capacity =
     let through : IsThrough ended = IfOk-at_ok (λ (x : Unit {0}). IsThrough ended) is_done on_done in
     let rounds = t.rounds in
     let gave : taken to.drain ≡ given (all_gave rounds) =
@@ -155,6 +155,7 @@ serves_beside old new run_length report from to sender receiver begun ended rela
       lasts = t.lasts;
       turns = turns_beside old new rounds from to t.spell.advances service service_after;
       sound = t.spell.sound;
+      faults = sym faults_after ∙ (t.spell.faults ∙ faults);
       told = told_beside old new rounds from to t.spell.advances told told_after faults;
       queue_capacity = capacity;
       totals = t.spell.totals;
@@ -165,27 +166,43 @@ serves_beside old new run_length report from to sender receiver begun ended rela
       peers = made.peers;
       for_each = made.for_each;
       orders_done = made.orders_done;
+      settled = left.settled;
     }
 
+no_reason : (why : Refusal) → ◌≡◌ {A = Option Refusal} None (Some why) → ⊥
+no_reason why e = cc
+
+one_reason : (why other : Refusal) → ◌≡◌ {A = Option Refusal} (Some why) (Some other) → why ≡ other
+one_reason why other e = cc
+
 -- what is kept of a run that was cut off, by whether its queues were settled
+abbrev Keeps : ChatServer → List Round → ChatServer → Type 0
+Keeps old rounds new = (unsettled_of new ≡ None → IsRelayed old rounds new) × ((why : Refusal) → unsettled_of new ≡ Some why → IsNotSettled why × KeepsNothing new)
+
 kept_or_nothing : (old new : ChatServer) (rounds : List Round) (from to : Standing) (sender : OrderSender) (receiver : EventReceiver) (begun ended : Relay) (parts : RelayParts) (settled : Result Carryover Refusal)
     → Advances from rounds to → Relays begun ended → IsFirst old.queue_capacity from sender receiver → IsBegun old.kept sender receiver begun → Leaves ended parts
-    → IfOk settled (IsLeft parts to.drain to.poster) → IfOk settled (λ kept. new.kept ≡ kept) → OnErr settled (IsNothing new.kept) → IsRelayed old rounds new ⊎ KeepsNothing new
-kept_or_nothing old new rounds from to sender receiver begun ended parts (Ok kept) t r first b leaves left same nothing =
-    inl (relayed_beside old new rounds from to sender receiver begun ended parts t r first b leaves (subst (λ (k : Carryover). IsLeft parts to.drain to.poster k) (sym same) left))
-kept_or_nothing old new rounds from to sender receiver begun ended parts (Err why) t r first b leaves left same nothing = inr nothing
+    → IfOk settled (IsLeft parts to.drain to.poster) → IfErr settled IsNotSettled → IfOk settled (λ kept. new.kept ≡ kept) → IfErr settled (IsNothing new.kept) → Keeps old rounds new
+kept_or_nothing old new rounds from to sender receiver begun ended parts (Ok kept) t r first b leaves left refused same nothing =
+    let stays : IsLeft parts to.drain to.poster new.kept = subst (λ (k : Carryover). IsLeft parts to.drain to.poster k) (sym same) left in
+    (λ none. relayed_beside old new rounds from to sender receiver begun ended parts t r first b leaves stays, λ why some. absurd (no_reason why (sym stays.settled ∙ some)))
+kept_or_nothing old new rounds from to sender receiver begun ended parts (Err why) t r first b leaves left refused same nothing =
+    (λ none. absurd (no_reason why (sym none ∙ nothing.unsettled)), λ other some. (subst IsNotSettled (one_reason why other (sym nothing.unsettled ∙ some)) refused, (nothing.peers, nothing.backlog, nothing.orders_are)))
 
-pub cut_beside : (old new : ChatServer) (from to : Standing) (sender : OrderSender) (receiver : EventReceiver) (begun ended : Relay) (parts : RelayParts) (settled : Result Carryover Refusal)
-    → IsCut from to → from.service ≡ old.bound.service → to.service ≡ new.bound.service → from.told ≡ Some (told_of old) → to.told ≡ Some (told_of new) → from.faults ≡ faults_of old → Relays begun ended
-    → IsFirst old.queue_capacity from sender receiver → IsBegun old.kept sender receiver begun → Leaves ended parts → IfOk settled (IsLeft parts to.drain to.poster) → IfOk settled (λ kept. new.kept ≡ kept) → OnErr settled (IsNothing new.kept)
-    → new.queue_capacity ≡ old.queue_capacity → IsCutOffBeside old new
-cut_beside old new from to sender receiver begun ended parts settled t service service_after told told_after faults r first b leaves left same nothing capacity = (
-  record {
-    rounds = t.rounds;
-    turns = turns_beside old new t.rounds from to t.advances service service_after;
-    cut = t.cut;
-    told = told_beside old new t.rounds from to t.advances told told_after faults;
-    queue_capacity = capacity;
-  },
-  kept_or_nothing old new t.rounds from to sender receiver begun ended parts settled t.advances r first b leaves left same nothing,
-)
+pub cut_beside : (old new : ChatServer) (run_length : RunLength) (from to : Standing) (sender : OrderSender) (receiver : EventReceiver) (begun ended : Relay) (parts : RelayParts) (settled : Result Carryover Refusal)
+    → IsCut run_length from to → from.service ≡ old.bound.service → to.service ≡ new.bound.service → from.told ≡ Some (told_of old) → to.told ≡ Some (told_of new) → from.faults ≡ faults_of old → Relays begun ended
+    → IsFirst old.queue_capacity from sender receiver → IsBegun old.kept sender receiver begun → Leaves ended parts → IfOk settled (IsLeft parts to.drain to.poster) → IfErr settled IsNotSettled → IfOk settled (λ kept. new.kept ≡ kept)
+    → IfErr settled (IsNothing new.kept) → new.queue_capacity ≡ old.queue_capacity → IsCutOffBeside run_length old new
+cut_beside old new run_length from to sender receiver begun ended parts settled t service service_after told told_after faults r first b leaves left refused same nothing capacity =
+    let keeps : Keeps old t.rounds new = kept_or_nothing old new t.rounds from to sender receiver begun ended parts settled t.advances r first b leaves left refused same nothing in
+    record {
+      off = record {
+        rounds = t.rounds;
+        within = t.within;
+        turns = turns_beside old new t.rounds from to t.advances service service_after;
+        cut = t.cut;
+        told = told_beside old new t.rounds from to t.advances told told_after faults;
+        queue_capacity = capacity;
+      };
+      kept = keeps.0;
+      lost = keeps.1;
+    }

@@ -1,6 +1,6 @@
 -- A run whose relay shares its service's thread: turn by turn.
-use Rattle.std.proofs.Common.{◌≡◌, ℕ, inl, inr, arith, List, [], ◌∷◌, ◌++◌, Bool, true, false, cond, Option, Some, refl, sym, ◌∙◌, ap, subst, append_assoc}
-use Rattle.std.specs.Prelude.{unwrap_or}
+use Rattle.std.proofs.Common.{◌≡◌, ℕ, inl, inr, arith, List, [], ◌∷◌, ◌++◌, Bool, true, false, cond, Option, Some, None, refl, sym, ◌∙◌, ap, subst, append_assoc}
+use Rattle.std.specs.Prelude.{unwrap_or, length, ◌≤◌}
 use Rattle.std.specs.List.{sum_by}
 use Rattle.std.proofs.lemmas.List.{append-nil, length-append}
 use Rattle.std.proofs.lemmas.List.Elements.{All-nil, All-append, All-push}
@@ -22,7 +22,7 @@ use Rattle.enet_turn.specs.LoneTurn.{LoneTurn, lone, RoundsOf}
 use Rattle.enet_service.specs.Queues.{given, accepted}
 use Rattle.enet_turn.specs.Turn.{Round}
 use Rattle.enet_turn.specs.Run.{IsSound, AreCut, all_gave, all_told, all_puts, total}
-use Rattle.enet_service.specs.ServiceRuns.{Lasts}
+use Rattle.enet_service.specs.ServiceRuns.{Lasts, LastsAtMost}
 use Rattle.enet_turn.proofs.PhaseSteps.{chain_more}
 use Rattle.enet_turn.proofs.Reporting.{same_report}
 use Rattle.enet_turn.proofs.Runs.{cut_later}
@@ -37,7 +37,7 @@ use Rattle.enet_serve.specs.Private.Passing.{Passes}
 use Rattle.enet_serve.proofs.Passing.{passes_expanded, passes_on}
 
 -- what a wire told grows with the turns
-told_none : (spent : Bool) (l : List Told) → l ≡ l ++ cond spent [] []
+pub told_none : (spent : Bool) (l : List Told) → l ≡ l ++ cond spent [] []
 told_none true l = sym (append-nil l)
 told_none false l = sym (append-nil l)
 
@@ -45,7 +45,7 @@ told_both : (spent : Bool) (l xs ys : List Told) → (l ++ cond spent [] xs) ++ 
 told_both true l xs ys = append-nil (l ++ [])
 told_both false l xs ys = append_assoc l xs ys
 
-told_further : (f g : ℕ) (l m n : List Told) (xs ys : List Round) → g ≡ f → m ≡ l ++ unless_spent f (all_told xs) → n ≡ m ++ unless_spent g (all_told ys) → n ≡ l ++ unless_spent f (all_told (xs ++ ys))
+pub told_further : (f g : ℕ) (l m n : List Told) (xs ys : List Round) → g ≡ f → m ≡ l ++ unless_spent f (all_told xs) → n ≡ m ++ unless_spent g (all_told ys) → n ≡ l ++ unless_spent f (all_told (xs ++ ys))
 told_further f g l m n xs ys same first then =
     then ∙ ((λ i. first i ++ unless_spent (same i) (all_told ys)) ∙ (told_both (is_spent f) l (all_told xs) (all_told ys)
     ∙ ap (λ (zs : List Told). l ++ unless_spent f zs) (sym (flat_map-append (λ (r : Round). Waited r.ms ∷ r.told) xs ys))))
@@ -106,18 +106,19 @@ goes_turn a b r turn sound passes behind far_behind told faults = record {
 -- a turn in which the wire failed
 pub cut_turn : {H : Type 0} (calls : Calls H) (a b : Service H) (x y : LoneRelay) (o p : Option (List Told)) (f : ℕ) (r : Round) → r.failed ≡ true → LoneTurn calls a r b → Passes x r.gave r.puts y
     → p ≡ also o (unless_spent f (Waited r.ms ∷ r.told))
-    → (rounds : List Round) × AreCut rounds × RoundsOf lone calls a rounds b × Passes x (all_gave rounds) (all_puts rounds) y × (p ≡ also o (unless_spent f (all_told rounds)))
+    → (rounds : List Round) × AreCut rounds × RoundsOf lone calls a rounds b × Passes x (all_gave rounds) (all_puts rounds) y × (p ≡ also o (unless_spent f (all_told rounds))) × (length rounds ≤ 1)
 cut_turn calls a b x y o p f r failed turn passes told = (
   r ∷ [],
   inr ([], r, refl, All-nil IsSound, failed),
   (b, turn, refl),
   passes_one x y r passes,
   told ∙ ap (λ (zs : List Told). also o (unless_spent f zs)) (sym (append-nil (Waited r.ms ∷ r.told))),
+  omega arith,
 )
 
 pub goes_cut : (a b : Pair) → ((rounds : List Round) × AreCut rounds × RoundsOf lone host_calls a.service rounds b.service × Passes a.relay (all_gave rounds) (all_puts rounds) b.relay
-    × (Some b.told ≡ also (Some a.told) (unless_spent a.faults (all_told rounds)))) → (rounds : List Round) × GoesOff a rounds b
-goes_cut a b h = (h.0, record { turns = h.2; cut = h.1; passes = h.3; told = told_in a.told b.told a.faults (all_told h.0) (Some a.told) (Some b.told) refl refl h.4 })
+    × (Some b.told ≡ also (Some a.told) (unless_spent a.faults (all_told rounds))) × (length rounds ≤ 1)) → (rounds : List Round) × (length rounds ≤ 1) × GoesOff a rounds b
+goes_cut a b h = (h.0, h.5, record { turns = h.2; cut = h.1; passes = h.3; told = told_in a.told b.told a.faults (all_told h.0) (Some a.told) (Some b.told) refl refl h.4 })
 
 -- turns, and then those that the wire cut off
 pub goes_off : (a b c : Pair) (xs ys : List Round) → Goes a xs b → GoesOff b ys c → GoesOff a (xs ++ ys) c
@@ -149,15 +150,16 @@ far_behind_more many events before waiting (inr enough) = inr (omega (arith, eno
 
 -- what the relay began with was kept by the server, and what it leaves is
 pub serves : (old new : ChatServer) (began ended : LoneRelay) (run_length : RunLength) (rounds : List Round) (report : Report)
-    → IsOf old.kept began → IsOf new.kept ended → new.queue_capacity ≡ old.queue_capacity → Lasts run_length rounds → report ≡ total rounds
+    → IsOf old.kept began → IsOf new.kept ended → new.kept.unsettled ≡ None → new.queue_capacity ≡ old.queue_capacity → Lasts run_length rounds → report ≡ total rounds
     → Goes (pair old.bound.service began (told_of old) (faults_of old)) rounds (pair new.bound.service ended (told_of new) (faults_of new)) → Serves lone 256 old run_length new report
-serves old new began ended run_length rounds report i o capacity lasts totals g = record {
+serves old new began ended run_length rounds report i o settled capacity lasts totals g = record {
   rounds = rounds;
   expanded = g.passes.expanded;
   asked_for = g.passes.asked_for;
   lasts = lasts;
   turns = g.turns;
   sound = g.sound;
+  faults = g.faults;
   told = g.told;
   queue_capacity = capacity;
   totals = totals;
@@ -168,18 +170,21 @@ serves old new began ended run_length rounds report i o capacity lasts totals g 
   peers = sym o.peers ∙ (g.passes.peers ∙ ap (λ (ps : List PeerRef). noted_all ps g.passes.expanded) i.peers);
   for_each = subst (λ (ps : List PeerRef). SameForEach g.passes.asked_for (relayed_all ps g.passes.expanded)) i.peers g.passes.for_each;
   orders_done = ap (λ (os : List Order). os ++ g.passes.asked_for) (sym i.orders_are) ∙ (g.passes.orders_done ∙ ap (λ (os : List Order). orders (given (all_gave rounds)) ++ os) o.orders_are);
+  settled = settled;
 }
 
-pub cut_alone : (old new : ChatServer) (began ended : LoneRelay) (rounds : List Round) → IsOf old.kept began → IsOf new.kept ended → new.queue_capacity ≡ old.queue_capacity
-    → GoesOff (pair old.bound.service began (told_of old) (faults_of old)) rounds (pair new.bound.service ended (told_of new) (faults_of new)) → IsCutOffAlone old new
-cut_alone old new began ended rounds i o capacity g = (
-  record { rounds = rounds; turns = g.turns; cut = g.cut; told = g.told; queue_capacity = capacity },
-  record {
+pub cut_alone : (old new : ChatServer) (began ended : LoneRelay) (run_length : RunLength) (rounds : List Round) → IsOf old.kept began → IsOf new.kept ended → new.kept.unsettled ≡ None → new.queue_capacity ≡ old.queue_capacity
+    → LastsAtMost run_length rounds
+    → GoesOff (pair old.bound.service began (told_of old) (faults_of old)) rounds (pair new.bound.service ended (told_of new) (faults_of new)) → IsCutOffAlone run_length old new
+cut_alone old new began ended run_length rounds i o settled capacity within g = record {
+  off = record { rounds = rounds; within = within; turns = g.turns; cut = g.cut; told = g.told; queue_capacity = capacity };
+  kept = record {
     expanded = g.passes.expanded;
     asked_for = g.passes.asked_for;
     events = ap (λ (es : List Event). es ++ accepted (all_puts rounds)) (sym i.events) ∙ (g.passes.events ∙ ap (λ (es : List Event). g.passes.expanded ++ es) o.events);
     peers = sym o.peers ∙ (g.passes.peers ∙ ap (λ (ps : List PeerRef). noted_all ps g.passes.expanded) i.peers);
     for_each = subst (λ (ps : List PeerRef). SameForEach g.passes.asked_for (relayed_all ps g.passes.expanded)) i.peers g.passes.for_each;
     orders_done = ap (λ (os : List Order). os ++ g.passes.asked_for) (sym i.orders_are) ∙ (g.passes.orders_done ∙ ap (λ (os : List Order). orders (given (all_gave rounds)) ++ os) o.orders_are);
-  },
-)
+  };
+  settled = settled;
+}

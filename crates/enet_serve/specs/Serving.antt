@@ -1,5 +1,5 @@
 -- What a server does in a run.
-use Rattle.std.specs.Prelude.{◌≡◌, ◌⊎◌, ℕ, Bool, List, [], ◌++◌, Option, None}
+use Rattle.std.specs.Prelude.{◌≡◌, ◌⊎◌, ℕ, Bool, List, [], ◌++◌, Option, Some, None}
 use Rattle.std.specs.List.{All}
 use Rattle.enet_codec.specs.declared.event.PeerRef.{PeerRef}
 use Rattle.enet_codec.specs.declared.event.Event.{Event}
@@ -26,7 +26,7 @@ use Rattle.enet_turn.specs.Turn.{Round}
 use Rattle.enet_turn.specs.Run.{IsSound, AreCut, all_gave, all_told, all_puts, total}
 use Rattle.enet_chat.specs.Relaying.{noted_all, relayed_all, SameForEach, AreBehind, AreFarBehind}
 use Rattle.enet_service.specs.declared.run_length.RunLength.{RunLength}
-use Rattle.enet_service.specs.ServiceRuns.{Lasts, IsCapacity}
+use Rattle.enet_service.specs.ServiceRuns.{Lasts, LastsAtMost, IsCapacity, IsNotSettled}
 use Rattle.enet_serve.specs.declared.server.ChatServer.{ChatServer}
 use Rattle.enet_serve.specs.declared.server.Settings.{Settings}
 
@@ -68,6 +68,10 @@ backlog_of server = server.kept.backlog.items
 abbrev pub orders_of : ChatServer → List Order
 orders_of server = server.kept.orders.items
 
+-- why nothing was kept of the last run, if its queues weren't settled
+abbrev pub unsettled_of : ChatServer → Option Refusal
+unsettled_of server = server.kept.unsettled
+
 -- the settings of its host
 abbrev pub config_of : Settings → Config
 config_of settings = record (standard_config settings.peers settings.channels) { mtu = settings.mtu }
@@ -87,6 +91,7 @@ pub record IsOpened (settings : Settings) (server : ChatServer) : Type 0 where
   pub peers : peers_of server ≡ []
   pub backlog : backlog_of server ≡ []
   pub orders : orders_of server ≡ []
+  pub settled : unsettled_of server ≡ None
 
 -- ---- a run
 -- From one run to the next, by turns of this kind. In none of them the wire failed, and the report is their sums. What the wire told goes on by
@@ -101,6 +106,7 @@ pub record Serves (kind : Kind) (many : ℕ) (old : ChatServer) (run_length : Ru
   pub lasts : Lasts run_length rounds
   pub turns : RoundsOf kind host_calls old.bound.service rounds new.bound.service
   pub sound : All IsSound rounds
+  pub faults : faults_of new ≡ faults_of old
   pub told : told_of new ≡ told_of old ++ unless_spent (faults_of old) (all_told rounds)
   pub queue_capacity : queue_capacity_of new ≡ queue_capacity_of old
   pub totals : report ≡ total rounds
@@ -110,12 +116,14 @@ pub record Serves (kind : Kind) (many : ℕ) (old : ChatServer) (run_length : Ru
   pub peers : peers_of new ≡ noted_all (peers_of old) expanded
   pub for_each : SameForEach asked_for (relayed_all (peers_of old) expanded)
   pub orders_done : orders_of old ++ asked_for ≡ orders (given (all_gave rounds)) ++ orders_of new
+  pub settled : unsettled_of new ≡ None
 
 -- ---- a run that the wire cut off
--- Its turns, in the last of which, or in the wait after it, the wire failed. What the wire told goes on by just their waits, what they heard
--- and what they sent, in order
-pub record IsCutOff (kind : Kind) (old new : ChatServer) : Type 0 where
+-- Its turns, no more than it was to have, in the last of which, or in the wait after it, the wire failed. What the wire told goes on by just
+-- their waits, what they heard and what they sent, in order
+pub record IsCutOff (kind : Kind) (run_length : RunLength) (old new : ChatServer) : Type 0 where
   pub rounds : List Round
+  pub within : LastsAtMost run_length rounds
   pub turns : RoundsOf kind host_calls old.bound.service rounds new.bound.service
   pub cut : AreCut rounds
   pub told : told_of new ≡ told_of old ++ unless_spent (faults_of old) (all_told rounds)
@@ -135,13 +143,18 @@ pub record IsRelayed (old : ChatServer) (rounds : List Round) (new : ChatServer)
 abbrev pub KeepsNothing : ChatServer → Type 0
 KeepsNothing server = (peers_of server ≡ []) × (backlog_of server ≡ []) × (orders_of server ≡ [])
 
--- in two threads: where the queues couldn't be settled, nothing is kept
-abbrev pub IsCutOffBeside : ChatServer → ChatServer → Type 0
-IsCutOffBeside old new = (c : IsCutOff beside old new) × (IsRelayed old c.rounds new ⊎ KeepsNothing new)
+-- In two threads what such turns left is kept. It is lost only where the queues weren't settled, for want of memory or since one wasn't empty,
+-- and then the server says so
+pub record IsCutOffBeside (run_length : RunLength) (old new : ChatServer) : Type 0 where
+  pub off : IsCutOff beside run_length old new
+  pub kept : unsettled_of new ≡ None → IsRelayed old off.rounds new
+  pub lost : (why : Refusal) → unsettled_of new ≡ Some why → IsNotSettled why × KeepsNothing new
 
--- in one thread
-abbrev pub IsCutOffAlone : ChatServer → ChatServer → Type 0
-IsCutOffAlone old new = (c : IsCutOff lone old new) × IsRelayed old c.rounds new
+-- in one thread it always is
+pub record IsCutOffAlone (run_length : RunLength) (old new : ChatServer) : Type 0 where
+  pub off : IsCutOff lone run_length old new
+  pub kept : IsRelayed old off.rounds new
+  pub settled : unsettled_of new ≡ None
 
 -- what ends a run early: the wire failed, memory was wanting, the seat is spent, or a queue was not empty
 abbrev pub EndsRun : Refusal → Type 0

@@ -20,13 +20,13 @@ pub(crate) struct Alone<'a> {
 }
 
 impl Alone<'_> {
-    ghost use Rattle.std.specs.Prelude.{◌≡◌, ◌≢◌, ◌+◌, ◌⊎◌, List, length, OnOk, IfOk, IfErr};
+    ghost use Rattle.std.specs.Prelude.{◌≡◌, ◌≢◌, ◌+◌, ◌≤◌, ◌⊎◌, List, length, OnOk, IfOk, IfErr};
     ghost use Rattle.enet_wire.specs.Socket.{failures_of};
     ghost use Rattle.enet_guard.specs.Journals.{told_of};
     ghost use Rattle.enet_chat.specs.Relaying.{AreBehind, AreFarBehind};
     ghost use Rattle.enet_turn.specs.Turn.{Round};
     ghost use Rattle.enet_turn.specs.Run.{total};
-    ghost use Rattle.enet_service.specs.ServiceRuns.{Lasts, LastsForTime};
+    ghost use Rattle.enet_service.specs.ServiceRuns.{Lasts, LastsForTime, LastsAtMost, LastsForTimeAtMost};
     ghost use Rattle.enet_serve.specs.Private.Alone.{Goes, GoesOff, pair};
 
     /// Takes the turns of a run, each of which expands what it tells. `watch` is told of the turns.
@@ -43,7 +43,7 @@ impl Alone<'_> {
         requires far_behind { AreFarBehind 256 self.old.relay.events self.old.relay.orders }
         ensures goes { IfOk result (λ report. (rounds : List Round) × Lasts run_length rounds × (report ≡ total rounds)
             × Goes (pair bound.old.service self.old.relay (told_of bound.old.wire) (failures_of bound.old.wire.wire)) rounds (pair bound.new.service self.new.relay (told_of bound.new.wire) (failures_of bound.new.wire.wire))) }
-        ensures goes_off { IfErr result (λ why. why ≡ Refusal.WireFault → (rounds : List Round) × GoesOff (pair bound.old.service self.old.relay (told_of bound.old.wire) (failures_of bound.old.wire.wire)) rounds (pair bound.new.service self.new.relay (told_of bound.new.wire) (failures_of bound.new.wire.wire))) }
+        ensures goes_off { IfErr result (λ why. why ≡ Refusal.WireFault → (rounds : List Round) × LastsAtMost run_length rounds × GoesOff (pair bound.old.service self.old.relay (told_of bound.old.wire) (failures_of bound.old.wire.wire)) rounds (pair bound.new.service self.new.relay (told_of bound.new.wire) (failures_of bound.new.wire.wire))) }
         ensures why { IfErr result (λ why. (why ≡ Refusal.WireFault) ⊎ (why ≡ Refusal.Memory)) }
         ensures sound { OnOk result (failures_of bound.new.wire.wire ≡ failures_of bound.old.wire.wire) }
         ensures failed { IfErr result (λ why. why ≡ Refusal.WireFault → failures_of bound.new.wire.wire ≡ failures_of bound.old.wire.wire + 1) }
@@ -67,7 +67,7 @@ impl Alone<'_> {
         requires far_behind { AreFarBehind 256 self.old.relay.events self.old.relay.orders }
         ensures goes { IfOk result (λ report. (rounds : List Round) × LastsForTime rounds × (report ≡ total rounds)
             × Goes (pair bound.old.service self.old.relay (told_of bound.old.wire) (failures_of bound.old.wire.wire)) rounds (pair bound.new.service self.new.relay (told_of bound.new.wire) (failures_of bound.new.wire.wire))) }
-        ensures goes_off { IfErr result (λ why. why ≡ Refusal.WireFault → (rounds : List Round) × GoesOff (pair bound.old.service self.old.relay (told_of bound.old.wire) (failures_of bound.old.wire.wire)) rounds (pair bound.new.service self.new.relay (told_of bound.new.wire) (failures_of bound.new.wire.wire))) }
+        ensures goes_off { IfErr result (λ why. why ≡ Refusal.WireFault → (rounds : List Round) × LastsForTimeAtMost rounds × GoesOff (pair bound.old.service self.old.relay (told_of bound.old.wire) (failures_of bound.old.wire.wire)) rounds (pair bound.new.service self.new.relay (told_of bound.new.wire) (failures_of bound.new.wire.wire))) }
         ensures why { IfErr result (λ why. (why ≡ Refusal.WireFault) ⊎ (why ≡ Refusal.Memory)) }
         ensures sound { OnOk result (failures_of bound.new.wire.wire ≡ failures_of bound.old.wire.wire) }
         ensures failed { IfErr result (λ why. why ≡ Refusal.WireFault → failures_of bound.new.wire.wire ≡ failures_of bound.old.wire.wire + 1) }
@@ -97,7 +97,7 @@ impl Alone<'_> {
         requires far_behind { AreFarBehind 256 self.old.relay.events self.old.relay.orders }
         ensures goes { IfOk result (λ report. (rounds : List Round) × (length rounds ≡ turns) × (report ≡ total rounds)
             × Goes (pair bound.old.service self.old.relay (told_of bound.old.wire) (failures_of bound.old.wire.wire)) rounds (pair bound.new.service self.new.relay (told_of bound.new.wire) (failures_of bound.new.wire.wire))) }
-        ensures goes_off { IfErr result (λ why. why ≡ Refusal.WireFault → (rounds : List Round) × GoesOff (pair bound.old.service self.old.relay (told_of bound.old.wire) (failures_of bound.old.wire.wire)) rounds (pair bound.new.service self.new.relay (told_of bound.new.wire) (failures_of bound.new.wire.wire))) }
+        ensures goes_off { IfErr result (λ why. why ≡ Refusal.WireFault → (rounds : List Round) × (length rounds ≤ turns) × GoesOff (pair bound.old.service self.old.relay (told_of bound.old.wire) (failures_of bound.old.wire.wire)) rounds (pair bound.new.service self.new.relay (told_of bound.new.wire) (failures_of bound.new.wire.wire))) }
         ensures why { IfErr result (λ why. (why ≡ Refusal.WireFault) ⊎ (why ≡ Refusal.Memory)) }
         ensures sound { OnOk result (failures_of bound.new.wire.wire ≡ failures_of bound.old.wire.wire) }
         ensures failed { IfErr result (λ why. why ≡ Refusal.WireFault → failures_of bound.new.wire.wire ≡ failures_of bound.old.wire.wire + 1) }
@@ -126,7 +126,7 @@ impl Alone<'_> {
         requires far_behind { AreFarBehind 256 self.old.relay.events self.old.relay.orders }
         ensures goes { IfOk result (λ report. (rounds : List Round) × (length rounds ≡ turns) × (report ≡ total rounds)
             × Goes (pair bound.old.service self.old.relay (told_of bound.old.wire) (failures_of bound.old.wire.wire)) rounds (pair bound.new.service self.new.relay (told_of bound.new.wire) (failures_of bound.new.wire.wire))) }
-        ensures goes_off { IfErr result (λ fault. fault.why ≡ Refusal.WireFault → (rounds : List Round) × GoesOff (pair bound.old.service self.old.relay (told_of bound.old.wire) (failures_of bound.old.wire.wire)) rounds (pair bound.new.service self.new.relay (told_of bound.new.wire) (failures_of bound.new.wire.wire))) }
+        ensures goes_off { IfErr result (λ fault. fault.why ≡ Refusal.WireFault → (rounds : List Round) × (length rounds ≤ turns) × GoesOff (pair bound.old.service self.old.relay (told_of bound.old.wire) (failures_of bound.old.wire.wire)) rounds (pair bound.new.service self.new.relay (told_of bound.new.wire) (failures_of bound.new.wire.wire))) }
         ensures why { IfErr result (λ fault. (fault.why ≡ Refusal.WireFault) ⊎ (fault.why ≡ Refusal.Memory)) }
         ensures sound { OnOk result (failures_of bound.new.wire.wire ≡ failures_of bound.old.wire.wire) }
         ensures failed { IfErr result (λ fault. fault.why ≡ Refusal.WireFault → failures_of bound.new.wire.wire ≡ failures_of bound.old.wire.wire + 1) }
@@ -157,7 +157,7 @@ impl Alone<'_> {
     ) -> Result<Report, Fault>
         ensures goes { IfOk result (λ report. (rounds : List Round) × (length rounds ≡ 1) × (report ≡ total rounds)
             × Goes (pair bound.old.service self.old.relay (told_of bound.old.wire) (failures_of bound.old.wire.wire)) rounds (pair bound.new.service self.new.relay (told_of bound.new.wire) (failures_of bound.new.wire.wire))) }
-        ensures goes_off { IfErr result (λ fault. fault.why ≡ Refusal.WireFault → (rounds : List Round) × GoesOff (pair bound.old.service self.old.relay (told_of bound.old.wire) (failures_of bound.old.wire.wire)) rounds (pair bound.new.service self.new.relay (told_of bound.new.wire) (failures_of bound.new.wire.wire))) }
+        ensures goes_off { IfErr result (λ fault. fault.why ≡ Refusal.WireFault → (rounds : List Round) × (length rounds ≤ 1) × GoesOff (pair bound.old.service self.old.relay (told_of bound.old.wire) (failures_of bound.old.wire.wire)) rounds (pair bound.new.service self.new.relay (told_of bound.new.wire) (failures_of bound.new.wire.wire))) }
         ensures why { IfErr result (λ fault. (fault.why ≡ Refusal.WireFault) ⊎ (fault.why ≡ Refusal.Memory)) }
         ensures sound { OnOk result (failures_of bound.new.wire.wire ≡ failures_of bound.old.wire.wire) }
         ensures failed { IfErr result (λ fault. fault.why ≡ Refusal.WireFault → failures_of bound.new.wire.wire ≡ failures_of bound.old.wire.wire + 1) }

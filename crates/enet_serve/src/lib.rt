@@ -16,7 +16,8 @@
 //!   least.
 //! - Where it ends early, E14 says that the wire failed, and only E14 does. Then it is the turns until that, and the wire told just what they
 //!   did. In one thread each event that they told was expanded or waits, and each order that those gave was handed to a turn or waits
-//!   (`IsCutOffAlone`). In two threads so it is where the queues were settled after it; else nothing is kept (`IsCutOffBeside`).
+//!   (`IsCutOffAlone`). In two threads so it is unless the queues weren't settled after it: then nothing is kept, and the server says why
+//!   (`IsCutOffBeside`, [`ChatServer::unsettled`]). It has no more turns than were asked for.
 //! - No run begins where the queues' places are out of range. After a call that was refused for another reason than E14 nothing else is said
 //!   of the server.
 //!

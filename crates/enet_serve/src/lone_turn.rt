@@ -1,5 +1,5 @@
 //! A turn of a service whose relay shares its thread.
-ghost use Rattle.std.specs.Prelude.{◌≡◌, ◌≢◌, ◌+◌, ◌⊎◌, List, ◌∷◌, false, OnOk, IfOk, IfErr};
+ghost use Rattle.std.specs.Prelude.{◌≡◌, ◌≢◌, ◌+◌, ◌≤◌, ◌⊎◌, List, ◌∷◌, length, false, OnOk, IfOk, IfErr};
 ghost use Rattle.enet_chat.specs.Relaying.{AreBehind, AreFarBehind};
 ghost use Rattle.enet_turn.specs.LoneTurn.{LoneTurn, lone, RoundsOf, Applied, AppliesAll, gave_in, puts_in};
 ghost use Rattle.enet_turn.specs.Run.{AreCut, all_gave, all_told, all_puts};
@@ -35,7 +35,8 @@ pub(crate) fn lone_turn<H: Core, W: Wire, R: Wait + Clock>(
         × (W.told wire.new ≡ also (W.told wire.old) (unless_spent (W.faults wire.old) (Waited round.ms ∷ round.told))) × (round.failed ≡ false)) }
     ensures cut { IfErr result (λ fault. fault.why ≡ Refusal.WireFault → (rounds : List Round) × AreCut rounds × RoundsOf lone H.calls service.old rounds service.new
         × Passes relay.old (all_gave rounds) (all_puts rounds) relay.new
-        × (W.told wire.new ≡ also (W.told wire.old) (unless_spent (W.faults wire.old) (all_told rounds)))) }
+        × (W.told wire.new ≡ also (W.told wire.old) (unless_spent (W.faults wire.old) (all_told rounds)))
+        × (length rounds ≤ 1)) }
     ensures behind { OnOk result (AreBehind relay.new.events relay.new.orders) }
     ensures far_behind { OnOk result (AreFarBehind 256 relay.new.events relay.new.orders) }
     ensures why { IfErr result (λ fault. (fault.why ≡ Refusal.WireFault) ⊎ (fault.why ≡ Refusal.Memory)) }

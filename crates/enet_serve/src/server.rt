@@ -73,7 +73,7 @@ impl ChatServer {
     ghost use Rattle.enet_guard.specs.Guarding.{is_other};
     ghost use Rattle.enet_service.specs.ServiceRuns.{AreNew, IsCapacity};
     ghost use Rattle.enet_turn.specs.LoneTurn.{beside, lone};
-    ghost use Rattle.enet_serve.specs.Serving.{Serves, IsCutOffBeside, IsCutOffAlone, EndsRun, IsNotServed, IsOpened, is_in_range, host_of, faults_of, guard_of, waiting_of, service_of, peers_of, backlog_of, orders_of, queue_capacity_of};
+    ghost use Rattle.enet_serve.specs.Serving.{Serves, IsCutOffBeside, IsCutOffAlone, EndsRun, IsNotServed, IsOpened, is_in_range, host_of, faults_of, guard_of, waiting_of, service_of, peers_of, backlog_of, orders_of, unsettled_of, queue_capacity_of};
     ghost use Rattle.enet_serve.specs.Leaving.{TakesLeave};
 
     /// A server at this address, with no peer.
@@ -113,8 +113,8 @@ impl ChatServer {
     /// E14 where the wire fails, E1 for want of memory, E8 where the queues' places are out of range, E10 where a run is so long
     /// that the seat has submitted as many orders as it may, E16 where the threads ended and a queue isn't empty. By E1 and E10 the relay
     /// ends, and a run for a time soon after it. After E14 what was done until then stands, as after a run that returned, and what was left is
-    /// kept; where the queues weren't settled, for want of memory or since one isn't empty, nothing is. Whatever else is refused, nothing is
-    /// promised of the server then but how often its socket has failed, and that it can take leave and be closed.
+    /// kept, but where the queues weren't settled, as [`ChatServer::unsettled`] says then. Whatever else is refused, nothing is promised of
+    /// the server then but how often its socket has failed, and that it can take leave and be closed.
     pub fn serve<R, W>(
         &mut self,
         rt: &R,
@@ -126,7 +126,7 @@ impl ChatServer {
         R: Threads + Wait + Clock + Sync,
         W: Watch + Send,
         ensures serves { IfOk result (Serves beside (queue_capacity_of self.old + 1) self.old run_length self.new) }
-        ensures cut_off { IfErr result (λ why. why ≡ Refusal.WireFault → IsCutOffBeside self.old self.new) }
+        ensures cut_off { IfErr result (λ why. why ≡ Refusal.WireFault → IsCutOffBeside run_length self.old self.new) }
         ensures refused { IfErr result (IsNotServed self.old) }
         ensures range { OnOk result (IsCapacity (queue_capacity_of self.old)) }
         ensures sound { OnOk result (faults_of self.new ≡ faults_of self.old) }
@@ -167,7 +167,7 @@ impl ChatServer {
         R: Wait + Clock,
         W: Watch,
         ensures serves { IfOk result (Serves lone 256 self.old run_length self.new) }
-        ensures cut_off { IfErr result (λ why. why ≡ Refusal.WireFault → IsCutOffAlone self.old self.new) }
+        ensures cut_off { IfErr result (λ why. why ≡ Refusal.WireFault → IsCutOffAlone run_length self.old self.new) }
         ensures refused { IfErr result (λ why. (why ≡ Refusal.WireFault) ⊎ (why ≡ Refusal.Memory)) }
         ensures sound { OnOk result (faults_of self.new ≡ faults_of self.old) }
         ensures failed { IfErr result (λ why. why ≡ Refusal.WireFault → faults_of self.new ≡ faults_of self.old + 1) }
@@ -201,7 +201,7 @@ impl ChatServer {
         requires new { AreNew shared.queue.now shared.events.now ends }
         requires places { capacity_of shared.queue.now ≡ queue_capacity_of self.old }
         ensures serves { IfOk result (Serves beside (queue_capacity_of self.old + 1) self.old run_length self.new) }
-        ensures cut_off { IfErr result (λ why. why ≡ Refusal.WireFault → IsCutOffBeside self.old self.new) }
+        ensures cut_off { IfErr result (λ why. why ≡ Refusal.WireFault → IsCutOffBeside run_length self.old self.new) }
         ensures refused { IfErr result EndsRun }
         ensures sound { OnOk result (faults_of self.new ≡ faults_of self.old) }
         ensures failed { IfErr result (λ why. why ≡ Refusal.WireFault → faults_of self.new ≡ faults_of self.old + 1) }
@@ -263,7 +263,7 @@ impl ChatServer {
         ensures same { OnErr result ((orders_of self.new ≡ orders_of self.old) × (orders.new.items ≡ orders.old.items)) }
         ensures memory { IfErr result (λ why. why ≡ Refusal.Memory) }
         ensures host { (host_of self.new ≡ host_of self.old) × (waiting_of self.new ≡ waiting_of self.old) × (faults_of self.new ≡ faults_of self.old) }
-        ensures relay { (peers_of self.new ≡ peers_of self.old) × (backlog_of self.new ≡ backlog_of self.old) × (queue_capacity_of self.new ≡ queue_capacity_of self.old) }
+        ensures relay { (peers_of self.new ≡ peers_of self.old) × (backlog_of self.new ≡ backlog_of self.old) × (unsettled_of self.new ≡ unsettled_of self.old) × (queue_capacity_of self.new ≡ queue_capacity_of self.old) }
     {
         match self.kept.orders.append(orders) {
             Ok(()) => Ok(()),
@@ -279,7 +279,7 @@ impl ChatServer {
         ensures same { OnErr result (guard_of self.new ≡ guard_of self.old) }
         ensures memory { IfErr result (λ why. why ≡ Refusal.Memory) }
         ensures host { (host_of self.new ≡ host_of self.old) × (waiting_of self.new ≡ waiting_of self.old) × (faults_of self.new ≡ faults_of self.old) }
-        ensures relay { (peers_of self.new ≡ peers_of self.old) × (backlog_of self.new ≡ backlog_of self.old) × (orders_of self.new ≡ orders_of self.old) × (queue_capacity_of self.new ≡ queue_capacity_of self.old) }
+        ensures relay { (peers_of self.new ≡ peers_of self.old) × (backlog_of self.new ≡ backlog_of self.old) × (orders_of self.new ≡ orders_of self.old) × (unsettled_of self.new ≡ unsettled_of self.old) × (queue_capacity_of self.new ≡ queue_capacity_of self.old) }
     {
         self.bound.wire.guard.ban(ip)
     }
@@ -288,7 +288,7 @@ impl ChatServer {
     pub fn unban(&mut self, ip: u32)
         ensures unbanned { guard_of self.new ≡ record (guard_of self.old) { banned = filter (is_other ip) (guard_of self.old).banned } }
         ensures host { (host_of self.new ≡ host_of self.old) × (waiting_of self.new ≡ waiting_of self.old) × (faults_of self.new ≡ faults_of self.old) }
-        ensures relay { (peers_of self.new ≡ peers_of self.old) × (backlog_of self.new ≡ backlog_of self.old) × (orders_of self.new ≡ orders_of self.old) × (queue_capacity_of self.new ≡ queue_capacity_of self.old) }
+        ensures relay { (peers_of self.new ≡ peers_of self.old) × (backlog_of self.new ≡ backlog_of self.old) × (orders_of self.new ≡ orders_of self.old) × (unsettled_of self.new ≡ unsettled_of self.old) × (queue_capacity_of self.new ≡ queue_capacity_of self.old) }
     {
         self.bound.wire.guard.unban(ip);
     }
@@ -312,6 +312,13 @@ impl ChatServer {
         self.bound.wire.wire.receive_buffer()
     }
 
+    /// Why nothing was kept of the last run, which E14 ended: its queues weren't settled, by E1 or E16. None where all was kept.
+    pub fn unsettled(&self) -> Option<Refusal>
+        ensures { result ≡ unsettled_of self.now }
+    {
+        self.kept.unsettled
+    }
+
     /// What the system said where the wire failed.
     pub fn reason(&self) -> Option<io::Error> {
         self.bound.wire.wire.reason()
@@ -323,7 +330,7 @@ impl ChatServer {
     pub fn take_leave<R: Wait + Clock>(&mut self, rt: &R)
         ensures leaves { TakesLeave (service_of self.old) (service_of self.new) }
         ensures peers { peers_of self.new ≡ peers_of self.old }
-        ensures kept { (backlog_of self.new ≡ backlog_of self.old) × (orders_of self.new ≡ orders_of self.old) }
+        ensures kept { (backlog_of self.new ≡ backlog_of self.old) × (orders_of self.new ≡ orders_of self.old) × (unsettled_of self.new ≡ unsettled_of self.old) }
         ensures queues { queue_capacity_of self.new ≡ queue_capacity_of self.old }
     {
         take_leave(rt, self.alloc, &mut self.bound);
@@ -384,5 +391,6 @@ fn after_run<R: Wait>(
         table,
         backlog,
         orders,
+        unsettled: None,
     })
 }

@@ -1,5 +1,5 @@
 //! The relay's side of a run.
-ghost use Rattle.std.specs.Prelude.{◌≡◌, ◌⊎◌, OnOk, OnErr, IfOk, IfErr};
+ghost use Rattle.std.specs.Prelude.{◌≡◌, ◌⊎◌, None, OnOk, IfOk, IfErr};
 ghost use Rattle.enet_chat.specs.Relaying.{Relays, IsThrough};
 ghost use Rattle.enet_serve.specs.Private.Alone.{IsOf};
 ghost use Rattle.enet_serve.specs.Private.Threads.{IsBegun, IsNothing};
@@ -12,25 +12,28 @@ use std::alloc::Global;
 use std::collections::VecDeque;
 use std::sync::Wait;
 
-/// What the relay keeps from one run to the next: the peers, the events not expanded yet, and the orders not carried out.
+/// What the relay keeps from one run to the next: the peers, the events not expanded yet, and the orders not carried out; and why it is
+/// nothing, where the queues of a run weren't settled.
 #[derive(Drop)]
 pub(crate) struct Carryover {
     pub(crate) table: Table,
     pub(crate) backlog: VecDeque<Event>,
     pub(crate) orders: VecDeque<Order>,
+    pub(crate) unsettled: Option<Refusal>,
 }
 
 impl Carryover {
-    ghost use Rattle.std.specs.Prelude.{◌≡◌, []};
+    ghost use Rattle.std.specs.Prelude.{◌≡◌, [], None};
 
     /// Nothing is kept.
     pub(crate) fn new(alloc: Global) -> Carryover
-        ensures { (result.table ≡ []) × (result.backlog.items ≡ []) × (result.orders.items ≡ []) }
+        ensures { (result.table ≡ []) × (result.backlog.items ≡ []) × (result.orders.items ≡ []) × (result.unsettled ≡ None) }
     {
         Carryover {
             table: Table::open(alloc),
             backlog: VecDeque::new(alloc),
             orders: VecDeque::new(alloc),
+            unsettled: None,
         }
     }
 }
@@ -38,11 +41,15 @@ impl Carryover {
 /// What is kept of a run that was cut off: what was left, or nothing where that couldn't be settled.
 pub(crate) fn left_or_nothing(alloc: Global, left: Result<Carryover, Refusal>) -> Carryover
     ensures left { IfOk left (λ kept. result ≡ kept) }
-    ensures nothing { OnErr left (IsNothing result) }
+    ensures nothing { IfErr left (IsNothing result) }
 {
     match left {
         Ok(kept) => kept,
-        Err(_) => Carryover::new(alloc),
+        Err(why) => {
+            let mut kept = Carryover::new(alloc);
+            kept.unsettled = Some(why);
+            kept
+        }
     }
 }
 
@@ -86,12 +93,14 @@ pub(crate) fn begin_alone(alloc: Global, kept: Carryover, gauge: &Gauge) -> Lone
 
 /// What it leaves.
 pub(crate) fn end_alone(relay: LoneRelay) -> Carryover
-    ensures { IsOf result relay }
+    ensures left { IsOf result relay }
+    ensures settled { result.unsettled ≡ None }
 {
     let (table, backlog, orders) = relay.into_parts();
     Carryover {
         table,
         backlog,
         orders,
+        unsettled: None,
     }
 }

@@ -1,5 +1,6 @@
 -- What the two threads of a run begin with, and what they leave.
-use Rattle.std.specs.Prelude.{◌≡◌, ◌≤◌, [], ◌++◌, length}
+use Rattle.std.specs.Prelude.{◌≡◌, ◌≤◌, [], ◌++◌, length, Some, None}
+use Rattle.enet_codec.specs.declared.refusal.Refusal.{Refusal}
 use Rattle.enet_submit.specs.declared.token.Drain.{Drain}
 use Rattle.enet_submit.specs.Words.{all_sent, taken}
 use Rattle.enet_events.specs.Words.{PosterState}
@@ -32,7 +33,11 @@ pub record IsLeft (parts : RelayParts) (drain : Drain) (poster : PosterState) (k
   pub more_orders : length parts.orders.items ≤ length kept.orders.items
   pub all_taken : parts.taker.taken ≡ poster.posted
   pub orders_kept : orders (all_sent parts.seat) ++ parts.orders.items ≡ orders (taken drain) ++ kept.orders.items
+  pub settled : kept.unsettled ≡ None
 
--- nothing is kept
-abbrev pub IsNothing : Carryover → Type 0
-IsNothing kept = (kept.table ≡ []) × (kept.backlog.items ≡ []) × (kept.orders.items ≡ [])
+-- nothing is kept, for this reason
+pub record IsNothing (kept : Carryover) (why : Refusal) : Type 0 where
+  pub peers : kept.table ≡ []
+  pub backlog : kept.backlog.items ≡ []
+  pub orders_are : kept.orders.items ≡ []
+  pub unsettled : kept.unsettled ≡ Some why

@@ -54,7 +54,7 @@ returns-in-Ok-emit-clause-turn g c =
     )
 
 pub returns-in-Err-clause-cut : goal.returns-in-Err-clause-cut
-returns-in-Err-clause-cut g c = λ is. ([], inl (All-nil IsSound), refl, passes_by c.args.relay.now c.args.relay.now [] [] refl refl refl, c.in-Err.ensures.told)
+returns-in-Err-clause-cut g c = λ is. ([], inl (All-nil IsSound), refl, passes_by c.args.relay.now c.args.relay.now [] [] refl refl refl, c.in-Err.ensures.told, omega arith)
 
 pub returns-in_err-heard-clause-cut : goal.returns-in_err-heard-clause-cut
 returns-in_err-heard-clause-cut g c =

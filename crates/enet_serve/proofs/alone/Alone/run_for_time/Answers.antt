@@ -61,4 +61,4 @@ returns-in_err-report-clause-goes_off g c =
     let first = pair c.args.bound.now.service c.args.self.now.relay (told_of c.args.bound.now.wire) (failures_of c.args.bound.now.wire.wire) in
     let second = pair c.loop.bound.service c.loop.self.relay (told_of c.loop.bound.wire) (failures_of c.loop.bound.wire.wire) in
     let third = pair c.run_for_turns.new.bound.service c.run_for_turns.new.self.relay (told_of c.run_for_turns.new.bound.wire) (failures_of c.run_for_turns.new.bound.wire.wire) in
-    rw (out.1, out.2) (λ is. (let more = c.in_err-report.ensures.goes_off is in (before ++ more.0, goes_off first second third before more.0 inv.5 more.1)))
+    rw (out.1, out.2) (λ is. (let more = c.in_err-report.ensures.goes_off is in (before ++ more.0, record { before = before; last = more.0; all = refl; times = inv.3; before_are = inv.4; last_are = more.1; few = subst AreFew inv.6 inv.1 }, goes_off first second third before more.0 inv.5 more.2)))

@@ -34,4 +34,4 @@ returns-in-Err-clause-goes_off g c =
     let first = pair c.args.bound.now.service c.args.self.now.relay (told_of c.args.bound.now.wire) (failures_of c.args.bound.now.wire.wire) in
     let second = pair c.loop-turn.bound.service c.loop-turn.self.relay (told_of c.loop-turn.bound.wire) (failures_of c.loop-turn.bound.wire.wire) in
     let third = pair c.take_turn.new.bound.service c.take_turn.new.self.relay (told_of c.take_turn.new.bound.wire) (failures_of c.take_turn.new.bound.wire.wire) in
-    λ is. (let more = c.in-Err.ensures.goes_off is in (before ++ more.0, goes_off first second third before more.0 inv.2 more.1))
+    λ is. (let more = c.in-Err.ensures.goes_off is in (before ++ more.0, omega (arith, length-append before more.0, inv.3, more.1), goes_off first second third before more.0 inv.2 more.2))

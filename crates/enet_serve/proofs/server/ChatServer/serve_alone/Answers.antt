@@ -15,7 +15,7 @@ returns-clause-serves g c =
     let ended = c.run-served.new.self.relay in
     let kept : IsOf old.kept began = subst (λ (kept : Carryover). IsOf kept began) c.replace-kept.ensures.value c.begin_alone.ensures in
     IfOk-weaker c.run-served.result _ _
-    (λ report ran. serves old _ began ended c.args.run_length ran.0 report kept c.end_alone.ensures refl ran.1 ran.2
+    (λ report ran. serves old _ began ended c.args.run_length ran.0 report kept c.end_alone.ensures.left c.end_alone.ensures.settled refl ran.1 ran.2
     (goes_on (pair old.bound.service began (told_of old) (faults_of old)) (pair old.bound.service c.expand.new.self (told_of old) (faults_of old)) (pair c.run-served.new.bound.service ended (told_at c.run-served.new.bound.wire) (failures_of c.run-served.new.bound.wire.wire)) [] ran.0
     (goes_nowhere (pair old.bound.service began (told_of old) (faults_of old)) (pair old.bound.service c.expand.new.self (told_of old) (faults_of old)) refl refl refl c.expand.ensures.expands c.in_ok-expand.ensures.behind c.in_ok-expand.ensures.far_behind) ran.3))
     c.run-served.ensures.goes
@@ -27,7 +27,7 @@ returns-clause-cut_off g c =
     let ended = c.run-served.new.self.relay in
     let kept : IsOf old.kept began = subst (λ (kept : Carryover). IsOf kept began) c.replace-kept.ensures.value c.begin_alone.ensures in
     IfErr-weaker c.run-served.result _ _
-    (λ why ran is. (let off = ran is in cut_alone old _ began ended off.0 kept c.end_alone.ensures refl
+    (λ why ran is. (let off = ran is in cut_alone old _ began ended c.args.run_length off.0 kept c.end_alone.ensures.left c.end_alone.ensures.settled refl off.1
     (goes_off (pair old.bound.service began (told_of old) (faults_of old)) (pair old.bound.service c.expand.new.self (told_of old) (faults_of old)) (pair c.run-served.new.bound.service ended (told_at c.run-served.new.bound.wire) (failures_of c.run-served.new.bound.wire.wire)) [] off.0
-    (goes_nowhere (pair old.bound.service began (told_of old) (faults_of old)) (pair old.bound.service c.expand.new.self (told_of old) (faults_of old)) refl refl refl c.expand.ensures.expands c.in_ok-expand.ensures.behind c.in_ok-expand.ensures.far_behind) off.1)))
+    (goes_nowhere (pair old.bound.service began (told_of old) (faults_of old)) (pair old.bound.service c.expand.new.self (told_of old) (faults_of old)) refl refl refl c.expand.ensures.expands c.in_ok-expand.ensures.behind c.in_ok-expand.ensures.far_behind) off.2)))
     c.run-served.ensures.goes_off
