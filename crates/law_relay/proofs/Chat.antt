@@ -22,7 +22,7 @@ use Rattle.enet_codec.specs.declared.event.DisconnectMode.TheVariants.{Now}
 use Rattle.enet_turn.specs.Hosting.{host_calls}
 use Rattle.enet_service.specs.Queues.{given, accepted}
 use Rattle.enet_turn.specs.Turn.{Round}
-use Rattle.enet_turn.specs.Run.{IsSound, all_gave, all_puts}
+use Rattle.enet_turn.specs.Run.{IsSound, all_gave, all_told, all_puts}
 use Rattle.enet_turn.specs.LoneTurn.{Kind, AreAmong, RoundsOf, beside}
 use Rattle.enet_service.specs.ServiceRuns.{beginning}
 use Rattle.enet_turn.proofs.Among.{rounds_among}
@@ -31,8 +31,11 @@ use Rattle.enet_service.proofs.Spells.{given_both, accepted_both}
 use Rattle.enet_serve.specs.declared.server.ChatServer.{ChatServer}
 use Rattle.enet_serve.specs.declared.server.Settings.{Settings}
 use Rattle.enet_serve.specs.Leaving.{Leaves}
-use Rattle.enet_serve.specs.Serving.{Serves, IsCutOff, IsRelayed, IsOpened, service_of, peers_of, backlog_of, orders_of, config_of}
+use Rattle.enet_serve.specs.Serving.{Serves, IsCutOff, IsRelayed, IsOpened, service_of, told_of, faults_of, peers_of, backlog_of, orders_of, config_of}
 use Rattle.enet_serve.proofs.Partings.{spans-of-leave}
+use Rattle.enet_serve.proofs.TurnByTurn.{told_none, told_further}
+use Rattle.enet_wire.specs.declared.told.Told.{Told}
+use Rattle.enet_wire.specs.Wires.{unless_spent, is_spent}
 use Rattle.law_network.specs.Calls.{Call}
 use Rattle.law_headline.specs.Nets.{Net, open_net}
 use Rattle.law_headline.specs.Page.{User, IsHeadline, IsBehind}
@@ -46,98 +49,105 @@ use Rattle.law_service.proofs.Queues.{each-moment, sent-is, put-is}
 use Rattle.law_relay.specs.Relay.{Relaying}
 use Rattle.law_relay.proofs.Refusals.{has-answers, between-pairs-unless}
 use Rattle.law_relay.proofs.Unreliable.{between-pairs-on-one}
-use Rattle.law_relay.specs.Chat.{ServesAll, Served, EachServed, HasServed, EachHasServed, EachCutOff, IsServing, GoesOn, EachServesOn, Played, hosts_of, users_of, users_by, ChatsInOrder, OfChatServer, OfChatThreads}
+use Rattle.law_relay.specs.Chat.{ServesAll, turns_in, expanded_in, last_turns, Served, EachServed, HasServed, EachHasServed, EachCutOff, IsServing, GoesOn, EachServesOn, Played, hosts_of, users_of, users_by, ChatsInOrder, OfChatServer, OfChatThreads}
 
-none : (kind : Kind) (s : ChatServer) → Served kind s s
-none kind s = record {
-  rounds = [];
-  expanded = [];
+none : (kind : Kind) (s t : ChatServer) → t ≡ s → Served kind s [] [] t
+none kind s t e = record {
   asked_for = [];
-  turns = refl;
+  turns = ap service_of e;
   sound = All-nil IsSound;
-  events = append-nil (backlog_of s);
-  peers = refl;
+  faults = ap faults_of e;
+  told = ap told_of e ∙ told_none (is_spent (faults_of s)) (told_of s);
+  events = append-nil (backlog_of s) ∙ ap backlog_of (sym e);
+  peers = ap peers_of e;
   for_each = λ peer. refl;
-  orders_done = append-nil (orders_of s);
+  orders_done = append-nil (orders_of s) ∙ ap orders_of (sym e);
 }
 
-one : (its kind : Kind) → AreAmong its kind → (many : ℕ) (old : ChatServer) (run_length : RunLength) (new : ChatServer) (report : Report) → Serves its many old run_length new report → Served kind old new
+one : (its kind : Kind) → AreAmong its kind → (many : ℕ) (old : ChatServer) (run_length : RunLength) (new : ChatServer) (report : Report) → (s : Serves its many old run_length new report) → Served kind old s.rounds s.expanded new
 one its kind among many old run_length new report s = record {
-  rounds = s.rounds;
-  expanded = s.expanded;
   asked_for = s.asked_for;
   turns = rounds_among its kind among host_calls (service_of old) s.rounds (service_of new) s.turns;
   sound = s.sound;
+  faults = s.faults;
+  told = s.told;
   events = s.events;
   peers = s.peers;
   for_each = s.for_each;
   orders_done = s.orders_done;
 }
 
-more : (kind : Kind) (a b c : ChatServer) → Served kind a b → Served kind b c → Served kind a c
-more kind a b c p q = record {
-  rounds = p.rounds ++ q.rounds;
-  expanded = p.expanded ++ q.expanded;
+more : (kind : Kind) (a b c : ChatServer) (xs ys : List Round) (es fs : List Event) → Served kind a xs es b → Served kind b ys fs c → Served kind a (xs ++ ys) (es ++ fs) c
+more kind a b c xs ys es fs p q = record {
   asked_for = p.asked_for ++ q.asked_for;
-  turns = chain_more _ (service_of a) p.rounds (service_of b) q.rounds (service_of c) p.turns q.turns;
-  sound = All-append IsSound p.rounds q.rounds p.sound q.sound;
-  events = ap (λ (es : List Event). backlog_of a ++ es) (accepted_both p.rounds q.rounds)
-      ∙ joined (backlog_of a) (backlog_of b) (backlog_of c) (accepted (all_puts p.rounds)) (accepted (all_puts q.rounds)) p.expanded q.expanded p.events q.events;
-  peers = q.peers ∙ (ap (λ (ps : List PeerRef). noted_all ps q.expanded) p.peers ∙ sym (noted_more (peers_of a) p.expanded q.expanded));
-  for_each = on_for_each p.asked_for q.asked_for (peers_of a) (peers_of b) p.expanded q.expanded p.peers p.for_each q.for_each;
-  orders_done = joined (orders_of a) (orders_of b) (orders_of c) p.asked_for q.asked_for (orders (given (all_gave p.rounds))) (orders (given (all_gave q.rounds))) p.orders_done q.orders_done
-      ∙ ap (λ (os : List Order). os ++ orders_of c) (sym (ap orders (given_both p.rounds q.rounds) ∙ map-append (λ (x : Submission). x.order) (given (all_gave p.rounds)) (given (all_gave q.rounds))));
+  turns = chain_more _ (service_of a) xs (service_of b) ys (service_of c) p.turns q.turns;
+  sound = All-append IsSound xs ys p.sound q.sound;
+  faults = q.faults ∙ p.faults;
+  told = told_further (faults_of a) (faults_of b) (told_of a) (told_of b) (told_of c) xs ys p.faults p.told q.told;
+  events = ap (λ (es : List Event). backlog_of a ++ es) (accepted_both xs ys)
+      ∙ joined (backlog_of a) (backlog_of b) (backlog_of c) (accepted (all_puts xs)) (accepted (all_puts ys)) es fs p.events q.events;
+  peers = q.peers ∙ (ap (λ (ps : List PeerRef). noted_all ps fs) p.peers ∙ sym (noted_more (peers_of a) es fs));
+  for_each = on_for_each p.asked_for q.asked_for (peers_of a) (peers_of b) es fs p.peers p.for_each q.for_each;
+  orders_done = joined (orders_of a) (orders_of b) (orders_of c) p.asked_for q.asked_for (orders (given (all_gave xs))) (orders (given (all_gave ys))) p.orders_done q.orders_done
+      ∙ ap (λ (os : List Order). os ++ orders_of c) (sym (ap orders (given_both xs ys) ∙ map-append (λ (x : Submission). x.order) (given (all_gave xs)) (given (all_gave ys))));
 }
 
 pub each-served : EachServed
-each-served kind old [] new h = subst (λ (s : ChatServer). Served kind old s) (sym h) (none kind old)
-each-served kind old (run ∷ runs) new h = more kind old h.0 new (one h.1.0 kind h.1.1 h.1.2 old run.0 h.0 run.1 h.1.3) (each-served kind h.0 runs new h.2)
+each-served kind old [] new h = none kind old new h
+each-served kind old (run ∷ runs) new h =
+    more kind old h.0 new h.1.3.rounds (turns_in kind h.0 runs new h.2) h.1.3.expanded (expanded_in kind h.0 runs new h.2) (one h.1.0 kind h.1.1 h.1.2 old run.0 h.0 run.1 h.1.3) (each-served kind h.0 runs new h.2)
 
 -- runs, of which the wire may have cut off the last
-record Did (kind : Kind) (old new : ChatServer) : Type 0 where
-  rounds : List Round
-  expanded : List Event
+record Did (kind : Kind) (old : ChatServer) (rounds : List Round) (expanded : List Event) (new : ChatServer) : Type 0 where
   asked_for : List Order
   turns : RoundsOf kind host_calls (service_of old) rounds (service_of new)
+  told : told_of new ≡ told_of old ++ unless_spent (faults_of old) (all_told rounds)
   events : backlog_of old ++ accepted (all_puts rounds) ≡ expanded ++ backlog_of new
   peers : peers_of new ≡ noted_all (peers_of old) expanded
   for_each : SameForEach asked_for (relayed_all (peers_of old) expanded)
   orders_done : orders_of old ++ asked_for ≡ orders (given (all_gave rounds)) ++ orders_of new
 
-did : (kind : Kind) (old new : ChatServer) → Served kind old new → Did kind old new
-did kind old new s = record {
-  rounds = s.rounds;
-  expanded = s.expanded;
+did : (kind : Kind) (old : ChatServer) (rounds : List Round) (expanded : List Event) (new : ChatServer) → Served kind old rounds expanded new → Did kind old rounds expanded new
+did kind old rounds expanded new s = record {
   asked_for = s.asked_for;
   turns = s.turns;
+  told = s.told;
   events = s.events;
   peers = s.peers;
   for_each = s.for_each;
   orders_done = s.orders_done;
 }
 
-then-cut : (kind : Kind) (a b c : ChatServer) → Served kind a b → (its : Kind) → AreAmong its kind → (o : IsCutOff its b c) → IsRelayed b o.rounds c → Did kind a c
-then-cut kind a b c p its among o q = record {
-  rounds = p.rounds ++ o.rounds;
-  expanded = p.expanded ++ q.expanded;
+then-cut : (kind : Kind) (a b c : ChatServer) (xs : List Round) (es : List Event) → Served kind a xs es b → (its : Kind) → AreAmong its kind → (run_length : RunLength) (o : IsCutOff its run_length b c) (q : IsRelayed b o.rounds c)
+    → Did kind a (xs ++ o.rounds) (es ++ q.expanded) c
+then-cut kind a b c xs es p its among run_length o q = record {
   asked_for = p.asked_for ++ q.asked_for;
-  turns = chain_more _ (service_of a) p.rounds (service_of b) o.rounds (service_of c) p.turns (rounds_among its kind among host_calls (service_of b) o.rounds (service_of c) o.turns);
-  events = ap (λ (es : List Event). backlog_of a ++ es) (accepted_both p.rounds o.rounds)
-      ∙ joined (backlog_of a) (backlog_of b) (backlog_of c) (accepted (all_puts p.rounds)) (accepted (all_puts o.rounds)) p.expanded q.expanded p.events q.events;
-  peers = q.peers ∙ (ap (λ (ps : List PeerRef). noted_all ps q.expanded) p.peers ∙ sym (noted_more (peers_of a) p.expanded q.expanded));
-  for_each = on_for_each p.asked_for q.asked_for (peers_of a) (peers_of b) p.expanded q.expanded p.peers p.for_each q.for_each;
-  orders_done = joined (orders_of a) (orders_of b) (orders_of c) p.asked_for q.asked_for (orders (given (all_gave p.rounds))) (orders (given (all_gave o.rounds))) p.orders_done q.orders_done
-      ∙ ap (λ (os : List Order). os ++ orders_of c) (sym (ap orders (given_both p.rounds o.rounds) ∙ map-append (λ (x : Submission). x.order) (given (all_gave p.rounds)) (given (all_gave o.rounds))));
+  turns = chain_more _ (service_of a) xs (service_of b) o.rounds (service_of c) p.turns (rounds_among its kind among host_calls (service_of b) o.rounds (service_of c) o.turns);
+  told = told_further (faults_of a) (faults_of b) (told_of a) (told_of b) (told_of c) xs o.rounds p.faults p.told o.told;
+  events = ap (λ (es : List Event). backlog_of a ++ es) (accepted_both xs o.rounds)
+      ∙ joined (backlog_of a) (backlog_of b) (backlog_of c) (accepted (all_puts xs)) (accepted (all_puts o.rounds)) es q.expanded p.events q.events;
+  peers = q.peers ∙ (ap (λ (ps : List PeerRef). noted_all ps q.expanded) p.peers ∙ sym (noted_more (peers_of a) es q.expanded));
+  for_each = on_for_each p.asked_for q.asked_for (peers_of a) (peers_of b) es q.expanded p.peers p.for_each q.for_each;
+  orders_done = joined (orders_of a) (orders_of b) (orders_of c) p.asked_for q.asked_for (orders (given (all_gave xs))) (orders (given (all_gave o.rounds))) p.orders_done q.orders_done
+      ∙ ap (λ (os : List Order). os ++ orders_of c) (sym (ap orders (given_both xs o.rounds) ∙ map-append (λ (x : Submission). x.order) (given (all_gave xs)) (given (all_gave o.rounds))));
 }
 
-has-served : (kind : Kind) (settings : Settings) (fresh served : ChatServer) (left : Service Host) → IsOpened settings fresh → Did kind fresh served → Leaves (service_of served) left → HasServed settings served left
-has-served kind settings fresh served left opened s leaves = record {
+-- a fresh server's wire has told of these turns alone
+told-fresh : (settings : Settings) (fresh : ChatServer) → IsOpened settings fresh → (told : List Told) (rounds : List Round) → told ≡ told_of fresh ++ unless_spent (faults_of fresh) (all_told rounds) → told ≡ all_told rounds
+told-fresh settings fresh opened told rounds t = t ∙ (λ i. opened.told i ++ unless_spent (opened.faults i) (all_told rounds))
+
+has-served : (kind : Kind) (settings : Settings) (fresh : ChatServer) (rounds : List Round) (expanded : List Event) (served : ChatServer) (left : Service Host) → IsOpened settings fresh → Did kind fresh rounds expanded served
+    → (leaves : Leaves (service_of served) left) → HasServed settings rounds expanded served (last_turns leaves) left
+has-served kind settings fresh rounds expanded served left opened s leaves = record {
   serving = record { running = r; relaying = relaying; config = refl };
   left_is = refl;
+  rounds_are = refl;
+  told = told-fresh settings fresh opened (told_of served) rounds s.told;
+  expanded_are = refl;
   untaken = untaken;
   backlog = refl;
   waits = refl;
-  peers = s.peers ∙ ap (λ (ps : List PeerRef). noted_all ps s.expanded) opened.peers;
+  peers = s.peers ∙ ap (λ (ps : List PeerRef). noted_all ps expanded) opened.peers;
 }
   where
     leave-spans : List Span
@@ -152,12 +162,12 @@ has-served kind settings fresh served left opened s leaves = record {
     begins : service_of fresh ≡ beginning (config_of settings)
     begins = (λ i. record { host = opened.host i; waiting = opened.waiting i })
 
-    turns : RoundsOf kind host_calls (beginning (config_of settings)) s.rounds (service_of served)
-    turns = subst (λ (t : Service Host). RoundsOf kind host_calls t s.rounds (service_of served)) begins s.turns
+    turns : RoundsOf kind host_calls (beginning (config_of settings)) rounds (service_of served)
+    turns = subst (λ (t : Service Host). RoundsOf kind host_calls t rounds (service_of served)) begins s.turns
 
     -- its runs, and what came after them
     spans : List Span
-    spans = (record { kind = kind; rounds = s.rounds; how = Now; parted = [] }) ∷ leave-spans
+    spans = (record { kind = kind; rounds = rounds; how = Now; parted = [] }) ∷ leave-spans
 
     acts : Spans host_calls (beginning (config_of settings)) spans left
     acts = (service_of served, (service_of served, turns, refl), spans-of-leave (service_of served) left leaves)
@@ -168,29 +178,44 @@ has-served kind settings fresh served left opened s leaves = record {
 
     relaying : Relaying r
     relaying = record {
-      expanded = s.expanded;
+      expanded = expanded;
       backlog = backlog_of served ++ untaken;
       asked_for = s.asked_for;
       waits = orders_of served;
-      events = accepted_both s.rounds more-rounds ∙ ap (λ (es : List Event). es ++ untaken) (ap (λ (es : List Event). es ++ accepted (all_puts s.rounds)) (sym opened.backlog) ∙ s.events)
-          ∙ append_assoc s.expanded (backlog_of served) untaken;
-      for_each = subst (λ (ps : List PeerRef). SameForEach s.asked_for (relayed_all ps s.expanded)) opened.peers s.for_each;
+      events = accepted_both rounds more-rounds ∙ ap (λ (es : List Event). es ++ untaken) (ap (λ (es : List Event). es ++ accepted (all_puts rounds)) (sym opened.backlog) ∙ s.events)
+          ∙ append_assoc expanded (backlog_of served) untaken;
+      for_each = subst (λ (ps : List PeerRef). SameForEach s.asked_for (relayed_all ps expanded)) opened.peers s.for_each;
       orders_done = ap (λ (os : List Order). os ++ s.asked_for) (sym opened.orders) ∙ s.orders_done
-          ∙ ap (λ (xs : List Submission). orders xs ++ orders_of served) (sym (given_both s.rounds more-rounds ∙ ap (λ (xs : List Submission). given (all_gave s.rounds) ++ xs) leaves.no_orders ∙ append-nil (given (all_gave s.rounds))));
+          ∙ ap (λ (xs : List Submission). orders xs ++ orders_of served) (sym (given_both rounds more-rounds ∙ ap (λ (xs : List Submission). given (all_gave rounds) ++ xs) leaves.no_orders ∙ append-nil (given (all_gave rounds))));
     }
 
 pub each-has-served : EachHasServed
-each-has-served kind settings fresh served runs left opened h leaves = has-served kind settings fresh served left opened (did kind fresh served (each-served kind fresh runs served h)) leaves
+each-has-served kind settings fresh served runs left opened h leaves =
+    has-served kind settings fresh (turns_in kind fresh runs served h) (expanded_in kind fresh runs served h) served left opened
+    (did kind fresh (turns_in kind fresh runs served h) (expanded_in kind fresh runs served h) served (each-served kind fresh runs served h)) leaves
 
 pub each-cut-off : EachCutOff
-each-cut-off kind settings fresh served runs cut left opened h its among c relayed leaves =
-    has-served kind settings fresh cut left opened (then-cut kind fresh served cut (each-served kind fresh runs served h) its among c relayed) leaves
+each-cut-off kind settings fresh served runs cut left opened h its among run_length c relayed leaves =
+    has-served kind settings fresh (turns_in kind fresh runs served h ++ c.rounds) (expanded_in kind fresh runs served h ++ relayed.expanded) cut left opened
+    (then-cut kind fresh served cut (turns_in kind fresh runs served h) (expanded_in kind fresh runs served h) (each-served kind fresh runs served h) its among run_length c relayed) leaves
 
 -- ---- a run that goes on
 pub each-serves-on : EachServesOn
-each-serves-on kind settings fresh served runs rounds left opened h turns g = (record { running = r; relaying = relaying; config = refl }, refl, s.expanded, refl)
+each-serves-on kind settings fresh served runs rounds left opened h turns g = (
+  record { running = r; relaying = relaying; config = refl },
+  refl,
+  ap (λ (rs : List Round). before ++ rs) (append-nil rounds),
+  told-fresh settings fresh opened (told_of served) before s.told,
+  refl,
+)
   where
-    s : Served kind fresh served
+    before : List Round
+    before = turns_in kind fresh runs served h
+
+    expanded : List Event
+    expanded = expanded_in kind fresh runs served h
+
+    s : Served kind fresh before expanded served
     s = each-served kind fresh runs served h
 
     shown : (q : AtQueues rounds) × (q.sent ≡ g.sent) × (q.taker.taken ≡ g.got)
@@ -212,10 +237,10 @@ each-serves-on kind settings fresh served runs rounds left opened h turns g = (r
     begins = (λ i. record { host = opened.host i; waiting = opened.waiting i })
 
     spans : List Span
-    spans = record { kind = kind; rounds = s.rounds; how = Now; parted = [] } ∷ record { kind = beside; rounds = rounds; how = Now; parted = [] } ∷ []
+    spans = record { kind = kind; rounds = before; how = Now; parted = [] } ∷ record { kind = beside; rounds = rounds; how = Now; parted = [] } ∷ []
 
     acts : Spans host_calls (beginning (config_of settings)) spans left
-    acts = (service_of served, (service_of served, subst (λ (t : Service Host). RoundsOf kind host_calls t s.rounds (service_of served)) begins s.turns, refl), (left, (left, turns, refl), refl))
+    acts = (service_of served, (service_of served, subst (λ (t : Service Host). RoundsOf kind host_calls t before (service_of served)) begins s.turns, refl), (left, (left, turns, refl), refl))
 
     r : Running
     r = (let m = each-life (beginning (config_of settings)) spans left acts in record { config = config_of settings; spans = spans; left = left; calls = m.0; turns = m.2 })
@@ -223,15 +248,15 @@ each-serves-on kind settings fresh served runs rounds left opened h turns g = (r
     all : rounds ++ [] ≡ rounds
     all = append-nil rounds
 
-    first-events : accepted (all_puts s.rounds) ≡ s.expanded ++ backlog_of served
-    first-events = ap (λ (es : List Event). es ++ accepted (all_puts s.rounds)) (sym opened.backlog) ∙ s.events
+    first-events : accepted (all_puts before) ≡ expanded ++ backlog_of served
+    first-events = ap (λ (es : List Event). es ++ accepted (all_puts before)) (sym opened.backlog) ∙ s.events
 
     more-events : backlog_of served ++ accepted (all_puts rounds) ≡ g.expanded ++ backlog
     more-events =
         ap (λ (es : List Event). backlog_of served ++ es) (put-is rounds q ∙ ap (λ (xs : List Numbered). map (λ (x : Numbered). x.event) xs ++ untaken) shown.2)
         ∙ sym (append_assoc (backlog_of served) (map (λ (x : Numbered). x.event) g.got) untaken) ∙ ap (λ (es : List Event). es ++ untaken) g.took ∙ append_assoc g.expanded g.backlog untaken
 
-    first-orders : s.asked_for ≡ orders (given (all_gave s.rounds)) ++ orders_of served
+    first-orders : s.asked_for ≡ orders (given (all_gave before)) ++ orders_of served
     first-orders = ap (λ (os : List Order). os ++ s.asked_for) (sym opened.orders) ∙ s.orders_done
 
     more-orders : orders_of served ++ g.asked_for ≡ orders (given (all_gave rounds)) ++ waits
@@ -241,39 +266,45 @@ each-serves-on kind settings fresh served runs rounds left opened h turns g = (r
 
     relaying : Relaying r
     relaying = record {
-      expanded = s.expanded ++ g.expanded;
+      expanded = expanded ++ g.expanded;
       backlog = backlog;
       asked_for = s.asked_for ++ g.asked_for;
       waits = waits;
-      events = accepted_both s.rounds (rounds ++ []) ∙ ap (λ (rs : List Round). accepted (all_puts s.rounds) ++ accepted (all_puts rs)) all
-          ∙ joined [] (backlog_of served) backlog (accepted (all_puts s.rounds)) (accepted (all_puts rounds)) s.expanded g.expanded first-events more-events;
-      for_each = subst (λ (ps : List PeerRef). SameForEach (s.asked_for ++ g.asked_for) (relayed_all ps (s.expanded ++ g.expanded))) opened.peers
-          (on_for_each s.asked_for g.asked_for (peers_of fresh) (peers_of served) s.expanded g.expanded s.peers s.for_each g.for_each);
-      orders_done = joined [] (orders_of served) waits s.asked_for g.asked_for (orders (given (all_gave s.rounds))) (orders (given (all_gave rounds))) first-orders more-orders
-          ∙ ap (λ (os : List Order). os ++ waits) (sym (ap orders (given_both s.rounds (rounds ++ []) ∙ ap (λ (rs : List Round). given (all_gave s.rounds) ++ given (all_gave rs)) all)
-          ∙ map-append (λ (x : Submission). x.order) (given (all_gave s.rounds)) (given (all_gave rounds))));
+      events = accepted_both before (rounds ++ []) ∙ ap (λ (rs : List Round). accepted (all_puts before) ++ accepted (all_puts rs)) all
+          ∙ joined [] (backlog_of served) backlog (accepted (all_puts before)) (accepted (all_puts rounds)) expanded g.expanded first-events more-events;
+      for_each = subst (λ (ps : List PeerRef). SameForEach (s.asked_for ++ g.asked_for) (relayed_all ps (expanded ++ g.expanded))) opened.peers
+          (on_for_each s.asked_for g.asked_for (peers_of fresh) (peers_of served) expanded g.expanded s.peers s.for_each g.for_each);
+      orders_done = joined [] (orders_of served) waits s.asked_for g.asked_for (orders (given (all_gave before))) (orders (given (all_gave rounds))) first-orders more-orders
+          ∙ ap (λ (os : List Order). os ++ waits) (sym (ap orders (given_both before (rounds ++ []) ∙ ap (λ (rs : List Round). given (all_gave before) ++ given (all_gave rs)) all)
+          ∙ map-append (λ (x : Submission). x.order) (given (all_gave before)) (given (all_gave rounds))));
     }
 
 -- the pairs of a headline
-chats : (hosts : Addr → Bool) (server : Running) (l : Relaying server) (users : ℕ → User) (asks : List (ℕ × PeerRef)) → IsHeadline (user_of hosts server) users asks → ChatsInOrder hosts server l users asks
-chats hosts server l users asks h = record {
-  headline = h;
-  answers = has-answers server;
-  pairs = λ x j there q is here. between-pairs-unless hosts server l (has-answers server) users asks h x j there q is here;
-  on_one = λ x j there q is here. between-pairs-on-one hosts server l users asks h x j there q is here;
-}
+chats : (hosts : Addr → Bool) (server : Running) (l : Relaying server) (users : ℕ → User) (asks : List (ℕ × PeerRef)) → (h : IsHeadline (user_of hosts server) users asks)
+    → (c : ChatsInOrder hosts server l users asks) × ((x : ℕ) → c.headline.here x ≡ h.here x)
+chats hosts server l users asks h = (
+  record {
+    headline = h;
+    answers = has-answers server;
+    pairs = λ x j there q is here. between-pairs-unless hosts server l (has-answers server) users asks h x j there q is here;
+    on_one = λ x j there q is here. between-pairs-on-one hosts server l users asks h x j there q is here;
+  },
+  λ x. refl,
+)
 
 pub of-chat-server : OfChatServer
-of-chat-server at apart settings low s clients fits play = chats (hosts_of at clients) s.running s.relaying (users_of at clients) (asked play.ms)
-    (end-to-end at apart s.running clients (subst (λ (c : Config). config.is_in_range c ≡ true) (sym s.config) low) fits play.ms play.end
-    (subst (λ (c : Config). AllMake at play.ms (open_net at c (configs clients)) play.end) (sym s.config) play.make) play.of_server play.of_clients)
+of-chat-server at apart settings low s clients fits play =
+    let e = end-to-end at apart s.running clients (subst (λ (c : Config). config.is_in_range c ≡ true) (sym s.config) low) fits play.ms play.end
+    (subst (λ (c : Config). AllMake at play.ms (open_net at c (configs clients)) play.end) (sym s.config) play.make) play.of_server play.of_clients in
+    let c = chats (hosts_of at clients) s.running s.relaying (users_of at clients) (asked play.ms) e.0 in
+    (c.0, (e.1.0, λ x. c.1 x ∙ e.1.1 x))
 
 same-user : (u : User) → IsBehind u u
 same-user u = record { more = λ p channel. ([], sym (append-nil (u.submitted p channel))); fewer = λ p. ([], sym (append-nil (u.taken p))); same = refl }
 
 pub of-chat-threads : OfChatThreads
 of-chat-threads at apart settings low s clients fits play threads =
-    let c = of-chat-server at apart settings low s clients fits play in
-    chats (hosts_of at clients) s.running s.relaying (users_by at clients threads) (asked play.ms)
+    let e = of-chat-server at apart settings low s clients fits play in
+    (chats (hosts_of at clients) s.running s.relaying (users_by at clients threads) (asked play.ms)
     (holds-behind (user_of (hosts_of at clients) s.running) (user_of (hosts_of at clients) s.running) (users_of at clients) (users_by at clients threads) (asked play.ms) (same-user (user_of (hosts_of at clients) s.running))
-    (λ i. behind-at (hosts_of at clients) (slice_get clients i) (threads i)) c.headline)
+    (λ i. behind-at (hosts_of at clients) (slice_get clients i) (threads i)) e.0.headline)).0

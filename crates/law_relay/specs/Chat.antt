@@ -1,5 +1,5 @@
 -- The relay of a `ChatServer`, from its runs' contracts.
-use Rattle.std.specs.Prelude.{◌≡◌, refl, ℕ, Bool, true, List, [], ◌++◌, length, map, Option, Some, slice_get}
+use Rattle.std.specs.Prelude.{◌≡◌, refl, ℕ, Bool, true, List, [], ◌∷◌, ◌++◌, length, map, Option, Some, slice_get}
 use Rattle.std.specs.List.{All, list_all}
 use Rattle.enet_codec.specs.declared.event.DisconnectMode.TheVariants.{Later}
 use Rattle.enet_codec.specs.declared.address.Addr.{Addr}
@@ -21,17 +21,19 @@ use Rattle.enet_turn.specs.Hosting.{host_calls}
 use Rattle.enet_turn.specs.Phases.{Chain}
 use Rattle.enet_service.specs.Queues.{given, accepted}
 use Rattle.enet_turn.specs.Turn.{Round}
-use Rattle.enet_turn.specs.Run.{IsSound, all_gave, all_puts}
+use Rattle.enet_turn.specs.Run.{IsSound, all_gave, all_told, all_puts}
 use Rattle.enet_turn.specs.LoneTurn.{Kind, AreAmong, RoundsOf, beside}
+use Rattle.enet_turn.specs.Spans.{rounds_in}
+use Rattle.enet_wire.specs.Wires.{unless_spent}
 use Rattle.enet_chat.specs.Relaying.{noted_all, relayed_all, SameForEach}
 use Rattle.enet_serve.specs.declared.server.ChatServer.{ChatServer}
 use Rattle.enet_serve.specs.declared.server.Settings.{Settings}
 use Rattle.enet_serve.specs.Leaving.{Leaves}
-use Rattle.enet_serve.specs.Serving.{Serves, IsCutOff, IsRelayed, IsOpened, config_of, is_in_range, service_of, peers_of, backlog_of, orders_of}
+use Rattle.enet_serve.specs.Serving.{Serves, IsCutOff, IsRelayed, IsOpened, config_of, is_in_range, service_of, told_of, faults_of, peers_of, backlog_of, orders_of}
 use Rattle.law_network.specs.Calls.{Call}
 use Rattle.law_headline.specs.Nets.{Net, AreApart, is_host, open_net}
 use Rattle.law_headline.specs.Page.{User, IsHeadline, came}
-use Rattle.law_service.specs.EndToEnd.{Running, user_of, user_in, user_at, ThreadsAt, configs, AllMake, calls_at, asked}
+use Rattle.law_service.specs.EndToEnd.{Running, rounds_of, HasNames, user_of, user_in, user_at, ThreadsAt, configs, AllMake, calls_at, asked}
 use Rattle.law_service.specs.Queues.{IsMoment}
 use Rattle.law_relay.specs.Relay.{Relaying, heard}
 use Rattle.law_relay.specs.Refusals.{Answers, all_asked, TakesChatUnless}
@@ -42,20 +44,29 @@ use Rattle.law_relay.specs.Unreliable.{TakesSome}
 abbrev pub ServesAll : Kind → ChatServer → List (RunLength × Report) → ChatServer → Type 0
 ServesAll kind old runs new = Chain (λ s run t. (one : Kind) × AreAmong one kind × (many : ℕ) × Serves one many s run.0 t run.1) old runs new
 
--- all runs as one
-pub record Served (kind : Kind) (old new : ChatServer) : Type 0 where
-  pub rounds : List Round
-  pub expanded : List Event
+-- all turns of such runs, and all events that were expanded in them
+abbrev pub turns_in : (kind : Kind) (old : ChatServer) (runs : List (RunLength × Report)) (new : ChatServer) → ServesAll kind old runs new → List Round
+turns_in kind old [] new h = []
+turns_in kind old (run ∷ runs) new h = h.1.3.rounds ++ turns_in kind h.0 runs new h.2
+
+abbrev pub expanded_in : (kind : Kind) (old : ChatServer) (runs : List (RunLength × Report)) (new : ChatServer) → ServesAll kind old runs new → List Event
+expanded_in kind old [] new h = []
+expanded_in kind old (run ∷ runs) new h = h.1.3.expanded ++ expanded_in kind h.0 runs new h.2
+
+-- runs as one, which has these turns, and in which these events were expanded
+pub record Served (kind : Kind) (old : ChatServer) (rounds : List Round) (expanded : List Event) (new : ChatServer) : Type 0 where
   pub asked_for : List Order
   pub turns : RoundsOf kind host_calls (service_of old) rounds (service_of new)
   pub sound : All IsSound rounds
+  pub faults : faults_of new ≡ faults_of old
+  pub told : told_of new ≡ told_of old ++ unless_spent (faults_of old) (all_told rounds)
   pub events : backlog_of old ++ accepted (all_puts rounds) ≡ expanded ++ backlog_of new
   pub peers : peers_of new ≡ noted_all (peers_of old) expanded
   pub for_each : SameForEach asked_for (relayed_all (peers_of old) expanded)
   pub orders_done : orders_of old ++ asked_for ≡ orders (given (all_gave rounds)) ++ orders_of new
 
 abbrev pub EachServed : Type 0
-EachServed = (kind : Kind) (old : ChatServer) (runs : List (RunLength × Report)) (new : ChatServer) → ServesAll kind old runs new → Served kind old new
+EachServed = (kind : Kind) (old : ChatServer) (runs : List (RunLength × Report)) (new : ChatServer) → (h : ServesAll kind old runs new) → Served kind old (turns_in kind old runs new h) (expanded_in kind old runs new h) new
 
 -- a server that takes no leave
 abbrev pub stays : (s : Service Host) → Leaves s s
@@ -67,24 +78,33 @@ pub record IsServing (settings : Settings) : Type 0 where
   pub relaying : Relaying running
   pub config : running.config ≡ config_of settings
 
--- what a fresh server did in all its runs and in taking leave (`ChatServer::take_leave`)
-pub record HasServed (settings : Settings) (served : ChatServer) (left : Service Host) : Type 0 where
+-- the turns of a server that takes leave
+abbrev pub last_turns : {old new : Service Host} → Leaves old new → List Round
+last_turns leaves = rounds_in (leaves.spans ++ leaves.last ∷ [])
+
+-- what a fresh server did in all its runs and in taking leave (`ChatServer::take_leave`): these turns, of which its wire told, and those of
+-- its leave; and in the runs it expanded these events
+pub record HasServed (settings : Settings) (rounds : List Round) (expanded : List Event) (served : ChatServer) (later : List Round) (left : Service Host) : Type 0 where
   pub serving : IsServing settings
   pub left_is : serving.running.left ≡ left
+  pub rounds_are : rounds_of serving.running ≡ rounds ++ later
+  pub told : told_of served ≡ all_told rounds
+  pub expanded_are : serving.relaying.expanded ≡ expanded
   pub untaken : List Event
   pub backlog : serving.relaying.backlog ≡ backlog_of served ++ untaken
   pub waits : serving.relaying.waits ≡ orders_of served
   pub peers : peers_of served ≡ noted_all [] serving.relaying.expanded
 
 abbrev pub EachHasServed : Type 0
-EachHasServed = (kind : Kind) (settings : Settings) (fresh served : ChatServer) (runs : List (RunLength × Report)) (left : Service Host) → IsOpened settings fresh → ServesAll kind fresh runs served → Leaves (service_of served) left
-    → HasServed settings served left
+EachHasServed = (kind : Kind) (settings : Settings) (fresh served : ChatServer) (runs : List (RunLength × Report)) (left : Service Host) → IsOpened settings fresh → (h : ServesAll kind fresh runs served) → (leaves : Leaves (service_of served) left)
+    → HasServed settings (turns_in kind fresh runs served h) (expanded_in kind fresh runs served h) served (last_turns leaves) left
 
 -- the same of a run that the wire cut off, with E14, after those: the server as it was left, and what it did in all of them and in taking leave.
--- In two threads its queues were settled (`IsCutOffBeside`)
+-- In two threads its queues were settled (`IsCutOffBeside`, `kept`)
 abbrev pub EachCutOff : Type 0
-EachCutOff = (kind : Kind) (settings : Settings) (fresh served : ChatServer) (runs : List (RunLength × Report)) (cut : ChatServer) (left : Service Host) → IsOpened settings fresh → ServesAll kind fresh runs served
-    → (its : Kind) → AreAmong its kind → (c : IsCutOff its served cut) → IsRelayed served c.rounds cut → Leaves (service_of cut) left → HasServed settings cut left
+EachCutOff = (kind : Kind) (settings : Settings) (fresh served : ChatServer) (runs : List (RunLength × Report)) (cut : ChatServer) (left : Service Host) → IsOpened settings fresh → (h : ServesAll kind fresh runs served)
+    → (its : Kind) → AreAmong its kind → (run_length : RunLength) (c : IsCutOff its run_length served cut) → (r : IsRelayed served c.rounds cut) → (leaves : Leaves (service_of cut) left)
+    → HasServed settings (turns_in kind fresh runs served h ++ c.rounds) (expanded_in kind fresh runs served h ++ r.expanded) cut (last_turns leaves) left
 
 -- ---- each moment
 -- A run of two threads that goes on, of which these turns are over: a moment of its queues, and what the relay made until then of what the server
@@ -101,11 +121,12 @@ pub record GoesOn (served : ChatServer) (rounds : List Round) : Type 0 where
   pub for_each : SameForEach asked_for (relayed_all (peers_of served) expanded)
   pub asked : orders_of served ++ asked_for ≡ orders sent ++ waits
 
--- so far it has served, too
+-- so far it has served, too: in the turns of the runs before, of which its wire told, and in these
 abbrev pub EachServesOn : Type 0
-EachServesOn = (kind : Kind) (settings : Settings) (fresh served : ChatServer) (runs : List (RunLength × Report)) (rounds : List Round) (left : Service Host) → IsOpened settings fresh → ServesAll kind fresh runs served
+EachServesOn = (kind : Kind) (settings : Settings) (fresh served : ChatServer) (runs : List (RunLength × Report)) (rounds : List Round) (left : Service Host) → IsOpened settings fresh → (h : ServesAll kind fresh runs served)
     → RoundsOf beside host_calls (service_of served) rounds left → (g : GoesOn served rounds)
-    → (s : IsServing settings) × (s.running.left ≡ left) × (before : List Event) × (s.relaying.expanded ≡ before ++ g.expanded)
+    → (s : IsServing settings) × (s.running.left ≡ left) × (rounds_of s.running ≡ turns_in kind fresh runs served h ++ rounds) × (told_of served ≡ all_told (turns_in kind fresh runs served h))
+    × (s.relaying.expanded ≡ expanded_in kind fresh runs served h ++ g.expanded)
 
 -- Its service and any number of clients' services, and an interleaving of their hosts' calls in which the network is honest
 pub record Played (at : Node → Addr) (settings : Settings) (server : Running) (clients : List Running) : Type 0 where
@@ -134,7 +155,7 @@ pub record ChatsInOrder (hosts : Addr → Bool) (server : Running) (relaying : R
 abbrev pub OfChatServer : Type 0
 OfChatServer = (at : Node → Addr) → AreApart at → (settings : Settings) → is_in_range settings ≡ true → (s : IsServing settings)
     → (clients : List Running) → list_all config.is_in_range (configs clients) ≡ true → (play : Played at settings s.running clients)
-    → ChatsInOrder (hosts_of at clients) s.running s.relaying (users_of at clients) (asked play.ms)
+    → (c : ChatsInOrder (hosts_of at clients) s.running s.relaying (users_of at clients) (asked play.ms)) × HasNames at (configs clients) play.ms c.headline.here
 
 -- and so of what the clients' game threads submitted and took
 abbrev pub users_by : (at : Node → Addr) (clients : List Running) → ((i : ℕ) → ThreadsAt (slice_get clients i)) → ℕ → User
