@@ -6,7 +6,7 @@ set -eu
 cd "$(dirname "$0")/.."
 . bench/unproved.sh
 room=$(mktemp -d)
-trap 'kill "${tried:-}" 2> /dev/null; rm -rf "$room"' EXIT
+trap 'kill "${tried:-}" 2> /dev/null || true; rm -rf "$room"' EXIT
 there=$room/crates/probe
 mkdir -p "$there/src" out
 tar -cf - --exclude='crates/*/out' crates crates.txt HANDLES | tar -xf - -C "$room"

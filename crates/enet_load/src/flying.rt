@@ -3,18 +3,24 @@
 use crate::worst::Size;
 use anyhow::Result;
 use enet_codec::RELIABLE;
-use enet_testbed::{House, rest};
+use enet_testbed::{Digest, House, rest};
+use std::alloc::Global;
 
 /// Over how many channels what is in flight is spread.
-pub const CHANNELS: u8 = 4;
+const CHANNELS: u8 = 4;
 
 /// The channels of a peer that has all of them.
-pub const ALL: u8 = 255;
+const ALL: u8 = 255;
 
 /// Each peer has so many commands in flight on four channels, and acknowledges the oldest one every PACE milliseconds, for COUNT
 /// milliseconds of 1 ms. Nobody asks when something is due.
-pub fn take_oldest(house: &mut House, size: Size) -> Result<()> {
-    fill(house, size)?;
+pub fn take_oldest(alloc: Global, seed: u64, size: Size) -> Result<Digest> {
+    let mut house = fill(alloc, seed, size)?;
+    take_oldest_in(&mut house, size)?;
+    Ok(house.digest)
+}
+
+fn take_oldest_in(house: &mut House, size: Size) -> Result<()> {
     let sent = house.clock;
     for ms in 0..size.count {
         house.tick(1);
@@ -27,8 +33,13 @@ pub fn take_oldest(house: &mut House, size: Size) -> Result<()> {
 }
 
 /// The same with the newest one, COUNT times: every PACE milliseconds, or where PACE is 0 with no time between.
-pub fn take_newest(house: &mut House, size: Size) -> Result<()> {
-    fill(house, size)?;
+pub fn take_newest(alloc: Global, seed: u64, size: Size) -> Result<Digest> {
+    let mut house = fill(alloc, seed, size)?;
+    take_newest_in(&mut house, size)?;
+    Ok(house.digest)
+}
+
+fn take_newest_in(house: &mut House, size: Size) -> Result<()> {
     let sent = house.clock;
     for round in 0..size.count {
         let place = size.commands.saturating_sub(1).saturating_sub(round);
@@ -40,7 +51,13 @@ pub fn take_newest(house: &mut House, size: Size) -> Result<()> {
 }
 
 // All slots have a peer with so many commands in flight.
-fn fill(house: &mut House, size: Size) -> Result<()> {
+fn fill(alloc: Global, seed: u64, size: Size) -> Result<House> {
+    let mut house = House::open(alloc, seed, size.slots, CHANNELS)?;
+    fill_all(&mut house, size)?;
+    Ok(house)
+}
+
+fn fill_all(house: &mut House, size: Size) -> Result<()> {
     house.invite(size.slots, CHANNELS)?;
     house.delay(CHANNELS)?;
     for number in 0..house.len() {
@@ -74,9 +91,11 @@ fn channel_of(command: u32) -> u8 {
 
 /// Each peer has 255 channels with so many packets of 500 bytes each, more than its window lets go. The oldest one in flight is
 /// acknowledged every PACE milliseconds, for COUNT milliseconds of 1 ms.
-pub fn block(house: &mut House, size: Size) -> Result<()> {
-    fill_channels(house, size)?;
-    release_by_turns(house, size)
+pub fn block(alloc: Global, seed: u64, size: Size) -> Result<Digest> {
+    let mut house = House::open(alloc, seed, size.slots, ALL)?;
+    fill_channels(&mut house, size)?;
+    release_by_turns(&mut house, size)?;
+    Ok(house.digest)
 }
 
 fn fill_channels(house: &mut House, size: Size) -> Result<()> {

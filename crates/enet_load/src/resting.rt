@@ -3,13 +3,20 @@
 use crate::worst::{Seconds, Size, Waking};
 use anyhow::Result;
 use enet_codec::RELIABLE;
-use enet_testbed::{House, rest};
+use enet_testbed::{Digest, House, rest};
+use std::alloc::Global;
 
 /// How many peers talk in the last slots.
 const TALKERS: u16 = 8;
 
 /// All slots have something in flight and rest; then each is woken, the highest first. COUNT times.
-pub fn wake(house: &mut House, size: Size, waking: Waking) -> Result<()> {
+pub fn wake(alloc: Global, seed: u64, size: Size, waking: Waking) -> Result<Digest> {
+    let mut house = House::open(alloc, seed, size.slots, 2)?;
+    wake_in(&mut house, size, waking)?;
+    Ok(house.digest)
+}
+
+fn wake_in(house: &mut House, size: Size, waking: Waking) -> Result<()> {
     house.invite(size.slots, 2)?;
     house.delay(1)?;
     tell_all(house)?;
@@ -42,12 +49,13 @@ fn wake_all(house: &mut House, waking: Waking) -> Result<()> {
 }
 
 /// All slots have something in flight, the first one since longest. That one is woken, and it is asked COUNT times when something is due.
-pub fn ask(house: &mut House, size: Size) -> Result<()> {
-    wake_first(house, size)?;
+pub fn ask(alloc: Global, seed: u64, size: Size) -> Result<Digest> {
+    let mut house = House::open(alloc, seed, size.slots, 2)?;
+    wake_first(&mut house, size)?;
     for _ in 0..size.count {
         house.digest.number(u64::from(house.server.due_in()));
     }
-    Ok(())
+    Ok(house.digest)
 }
 
 fn wake_first(house: &mut House, size: Size) -> Result<()> {
@@ -64,11 +72,13 @@ fn wake_first(house: &mut House, size: Size) -> Result<()> {
 
 /// The last eight slots talk, and all others are free again: each talker says something every 16 ms and gets an answer, for COUNT ms.
 /// Nobody asks when something is due.
-pub fn talk_behind(house: &mut House, size: Size) -> Result<()> {
+pub fn talk_behind(alloc: Global, seed: u64, size: Size) -> Result<Digest> {
+    let mut house = House::open(alloc, seed, size.slots, 2)?;
     house.invite(size.slots, 2)?;
     let first = size.slots.saturating_sub(TALKERS);
-    let_go(house, first)?;
-    speak_by_turns(house, first, size.count)
+    let_go(&mut house, first)?;
+    speak_by_turns(&mut house, first, size.count)?;
+    Ok(house.digest)
 }
 
 // The guests of so many slots are let go.
@@ -106,10 +116,11 @@ fn speak(house: &mut House, talker: u16, round: u32) -> Result<()> {
 }
 
 /// COUNT seconds go by, in each of which all slots are looked at.
-pub fn share_out(house: &mut House, size: Size, seconds: Seconds) -> Result<()> {
-    go_by(house, size, seconds)?;
+pub fn share_out(alloc: Global, seed: u64, size: Size, seconds: Seconds) -> Result<Digest> {
+    let mut house = House::open(alloc, seed, size.slots, 2)?;
+    go_by(&mut house, size, seconds)?;
     house.digest.number(u64::from(house.server.due_in()));
-    Ok(())
+    Ok(house.digest)
 }
 
 fn go_by(house: &mut House, size: Size, seconds: Seconds) -> Result<()> {

@@ -1,6 +1,6 @@
 //! Inputs that cost most.
 
-use crate::flying::{ALL, CHANNELS, block, take_newest, take_oldest};
+use crate::flying::{block, take_newest, take_oldest};
 use crate::resting::{ask, share_out, talk_behind, wake};
 use anyhow::{Result, bail};
 use enet_testbed::{Digest, House};
@@ -36,39 +36,30 @@ pub enum Waking {
 
 /// A row of this name.
 pub fn run_row(alloc: Global, row: &str, seed: u64, size: Size) -> Result<Digest> {
-    let mut house = House::open(alloc, seed, size.slots, channels_of(row))?;
-    run_in(&mut house, row, size)?;
-    Ok(house.digest)
-}
-
-// The channels of a row's peers.
-fn channels_of(row: &str) -> u8 {
     match row {
-        "oldest" | "newest" => CHANNELS,
-        "blocked" => ALL,
-        _ => 2,
-    }
-}
-
-fn run_in(house: &mut House, row: &str, size: Size) -> Result<()> {
-    match row {
-        "oldest" => take_oldest(house, size),
-        "newest" => take_newest(house, size),
-        "blocked" => block(house, size),
-        "woken-by-datagram" => wake(house, size, Waking::Datagram),
-        "woken-by-packet" => wake(house, size, Waking::Packet),
-        "talkers-behind" => talk_behind(house, size),
-        "due-in" => ask(house, size),
-        "seconds-free" => share_out(house, size, Seconds::Free),
-        "seconds-used" => share_out(house, size, Seconds::Used),
-        "seconds-settings" => share_out(house, size, Seconds::AfterSettings),
-        "returning" => come_back(house, size),
+        "oldest" => take_oldest(alloc, seed, size),
+        "newest" => take_newest(alloc, seed, size),
+        "blocked" => block(alloc, seed, size),
+        "woken-by-datagram" => wake(alloc, seed, size, Waking::Datagram),
+        "woken-by-packet" => wake(alloc, seed, size, Waking::Packet),
+        "talkers-behind" => talk_behind(alloc, seed, size),
+        "due-in" => ask(alloc, seed, size),
+        "seconds-free" => share_out(alloc, seed, size, Seconds::Free),
+        "seconds-used" => share_out(alloc, seed, size, Seconds::Used),
+        "seconds-settings" => share_out(alloc, seed, size, Seconds::AfterSettings),
+        "returning" => come_back(alloc, seed, size),
         _ => bail!("no such row"),
     }
 }
 
 // A peer that is let go comes back from its address at once: COUNT times, one in each millisecond.
-fn come_back(house: &mut House, size: Size) -> Result<()> {
+fn come_back(alloc: Global, seed: u64, size: Size) -> Result<Digest> {
+    let mut house = House::open(alloc, seed, size.slots, 2)?;
+    come_back_in(&mut house, size)?;
+    Ok(house.digest)
+}
+
+fn come_back_in(house: &mut House, size: Size) -> Result<()> {
     house.invite(size.slots, 2)?;
     house.tick(20);
     for round in 0..size.count {
