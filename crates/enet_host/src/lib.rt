@@ -34,8 +34,8 @@
 //!
 //! # Only tested
 //!
-//! By `check_hosts`: that calls succeed with ample memory, worked scripts, captured files, foreign bytes; and that a thing takes no more
-//! memory than specs/Memory says.
+//! By `check_hosts`: that calls succeed with ample memory, worked scripts, captured files; by check-strangers.sh: foreign bytes; by
+//! check-memory.sh: that a thing takes no more memory than specs/Memory says.
 //!
 //! # Neither
 //!

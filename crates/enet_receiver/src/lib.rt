@@ -13,7 +13,7 @@
 //! (`sequenced_has_other_flags`); a command takes a place and room for its packet at most (`a_command_takes_a_place_at_most`).
 //! Inside, by the invariants of `Held` and `Block`: a number is marked exactly where a packet is held under it.
 //! Only tested, in `check_numbers` and `check_peer`: that calls succeed with ample memory, and the worked scripts of one
-//! channel; in `check_hosts`, that the room to dispatch packets goes back once it is for far more than are held or wait.
+//! channel; in check-memory.sh, that the room to dispatch packets goes back once it is for far more than are held or wait.
 //! Neither: that a block's marks go with the last number that is held of it, what look-ups the marks save, and when
 //! `take_in_at_once` gives a packet. It does so, with ample memory, exactly where one comes alone: the next one in order or an unreliable
 //! one of the front, whole, while nothing is held, waits or was dispatched and not popped. But no clause says that it ever gives

@@ -9,7 +9,7 @@
 //! such events in which the network loses nothing (`Rounds`), counted; enough of them bring all that was submitted reliably, of a
 //! connection that stands before and after them, where nothing stood in the way (`GetsThrough`). `rounds_needed` tells of how many that is
 //! so (`AreEnough`): the stated number, where it is stated to tell one (specs/Needed), which needn't be the least.
-//! Only tested, by scripts/rows, `check_lists` and `check_memory`: that calls succeed with ample memory, worked runs with their
+//! Only tested, by scripts/rows, `check_lists` and check-memory.sh: that calls succeed with ample memory, worked runs with their
 //! answers and bytes, and that a call which was refused for want of memory is answered as wanted when it is made again.
 //! Neither: that a datagram arrives, or that memory is there; nor that a connection stands through rounds without losses.
 #![tactic(auto)]
