@@ -66,6 +66,7 @@ tell() {
     relay=$!
     until grep -q ":$(printf '%04X' "$port") " /proc/net/udp || ! kill -0 "$relay" 2> /dev/null; do sleep 0.1; done
     came=$(timeout $((seconds + 90)) "$room/tell" listen "$port" "$peers")
+    for _ in {1..100}; do [ ! -s "$room/told" ] || break; sleep 0.1; done
     kill "$relay" 2> /dev/null
     wait "$relay"
     relay=
