@@ -1,5 +1,5 @@
 -- What a command meets that finds no room until the unreliable packets that wait give way.
-use Rattle.std.proofs.Common.{◌≡◌, ℕ, Bool, true, false, cond, leb, ltb, ◌⊎◌, inl, inr, Option, Some, None, Result, Ok, Err, is_ok, List, length, map, get_or, ◌<◌, refl, sym, ap, subst, ◌∙◌}
+use Rattle.std.proofs.Common.{◌≡◌, ℕ, Bool, true, false, cond, leb, ltb, ◌⊎◌, inl, inr, Option, Some, None, Result, Ok, Err, is_ok, List, length, get_or, ◌<◌, refl, sym, ap, subst, ◌∙◌}
 use Rattle.std.specs.Prelude.{◌&&◌, not, slice_get}
 use Rattle.std.proofs.lemmas.List.{length-map}
 use Rattle.std.proofs.lemmas.Option.{slice_get-map, slice_get_read, slice_get_within}

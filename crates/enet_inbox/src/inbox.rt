@@ -20,7 +20,7 @@ use crate::receivers::{
 };
 use crate::taking::{append, take_in, take_in_at_once, take_in_instead};
 use enet_codec::{Command, Packet, Refusal, Stop};
-use enet_packets::look_at;
+use enet_packets::{Bodies, look_at};
 use enet_receiver::{ArrivingData, Foresight, Incoming};
 use enet_unsequenced::Groups;
 use std::alloc::Global;
@@ -41,6 +41,7 @@ pub struct Inbox {
     waiting: u128,
     /// How many packets are held at the receivers.
     packets: usize,
+    bodies: Bodies,
 }
 
 impl Model for Inbox {
@@ -103,6 +104,7 @@ impl Inbox {
             untaken: VecDeque::new(alloc),
             waiting: 0,
             packets: 0,
+            bodies: Bodies::new(),
         })
     }
 
@@ -430,7 +432,8 @@ impl Inbox {
         ensures unchanged { result ≡ false → self.new ≡ self.old }
     {
         let receiver = &mut self.receivers[arriving.head.channel as usize];
-        let Some(bytes) = take_in_at_once(receiver, &mut self.untaken, arriving) else {
+        let Some(bytes) = take_in_at_once(receiver, &mut self.untaken, arriving, &mut self.bodies)
+        else {
             return false;
         };
         self.waiting += bytes;
@@ -525,7 +528,13 @@ impl Inbox {
         ensures added { IsTrue result → self.new ≡ unsequenced_taken self.old channel group payload.now }
         ensures unchanged { result ≡ false → self.new ≡ self.old }
     {
-        if !append(self.alloc, &mut self.untaken, channel, payload) {
+        if !append(
+            self.alloc,
+            &mut self.untaken,
+            channel,
+            payload,
+            &mut self.bodies,
+        ) {
             return false;
         }
         self.waiting += payload.len() as u128;
@@ -543,7 +552,13 @@ impl Inbox {
     {
         let waiting = waiting_in(&self.receivers);
         let packets = waiting_packets_in(&self.receivers);
-        if !append(self.alloc, &mut self.untaken, channel, payload) {
+        if !append(
+            self.alloc,
+            &mut self.untaken,
+            channel,
+            payload,
+            &mut self.bodies,
+        ) {
             return false;
         }
         give_way(&mut self.receivers);

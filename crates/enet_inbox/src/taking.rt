@@ -11,8 +11,8 @@ ghost use Rattle.enet_inbox.specs.DataEffect.{packet_of, emptied};
 ghost use Rattle.enet_inbox.specs.Invariant.{IsShort};
 ghost use Rattle.enet_inbox.specs.Private.Invariant.{bytes_in};
 
-use bytes::Bytes;
 use enet_codec::{Packet, UNSEQUENCED};
+use enet_packets::Bodies;
 use enet_receiver::{ArrivingData, Incoming};
 use std::alloc::Global;
 use std::collections::VecDeque;
@@ -98,6 +98,7 @@ pub(crate) fn take_in_at_once(
     receiver: &mut Incoming,
     untaken: &mut VecDeque<Packet>,
     arriving: ArrivingData<'_>,
+    bodies: &mut Bodies,
 ) -> Option<u128>
     requires held { WouldBeHeld receiver.old (Some (data_command arriving)) }
     requires short { All IsShort untaken.old.items }
@@ -115,7 +116,7 @@ pub(crate) fn take_in_at_once(
     if untaken.len() == untaken.capacity() && untaken.reserve(1).is_err() {
         return None;
     }
-    let Some(packet) = receiver.take_in_at_once(arriving) else {
+    let Some(packet) = receiver.take_in_at_once(arriving, bodies) else {
         return None;
     };
     let bytes = packet.body.len() as u128;
@@ -129,6 +130,7 @@ pub(crate) fn append(
     untaken: &mut VecDeque<Packet>,
     channel: u8,
     payload: &[u8],
+    bodies: &mut Bodies,
 ) -> bool
     ensures added { IsTrue result → untaken.new.items ≡ untaken.old.items ++ (record { channel = channel; flags = 2; body = payload.now }) ∷ [] }
     ensures unchanged { result ≡ false → untaken.new.items ≡ untaken.old.items }
@@ -136,7 +138,7 @@ pub(crate) fn append(
     if untaken.reserve(1).is_err() {
         return false;
     }
-    let Ok(body) = Bytes::copy_from_slice(alloc, payload) else {
+    let Ok(body) = bodies.body(alloc, payload) else {
         return false;
     };
     untaken.push_back_reserved(Packet {

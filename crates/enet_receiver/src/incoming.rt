@@ -24,10 +24,9 @@ use crate::held::Held;
 use crate::releasing::release;
 use crate::storing::{give_room_back, make_room, store};
 use crate::{Foresight, Took};
-use bytes::Bytes;
 use enet_codec::{Command, Packet, Refusal};
 use enet_fragment::Put;
-use enet_packets::{Dispatched, IncomingPacket, Waiting, look_at};
+use enet_packets::{Bodies, Dispatched, IncomingPacket, Waiting, look_at};
 use enet_seq::{acknowledges, after, fragment_in_window, in_window};
 use std::alloc::Global;
 use std::collections::VecDeque;
@@ -253,8 +252,12 @@ impl Incoming {
     /// Takes a command in of which `foresee_data` told that it would be held, and hands its packet out at once, where that comes
     /// alone: the next one in order or an unreliable one of the front, whole, while nothing is held, waits or was dispatched and
     /// not popped. It is the packet that `pop` would give after `take_in`, and none is left to pop. None, with nothing changed,
-    /// where it doesn't come alone or memory is refused.
-    pub fn take_in_at_once(&mut self, arriving: ArrivingData<'_>) -> Option<Packet>
+    /// where it doesn't come alone or memory is refused. Its body is one of those of its peer's packets.
+    pub fn take_in_at_once(
+        &mut self,
+        arriving: ArrivingData<'_>,
+        bodies: &mut Bodies,
+    ) -> Option<Packet>
         requires { WouldBeHeld self.old (Some (data_command arriving)) }
         ensures taken { IfSome result (λ packet. (full : Bool) → outcome_for self.old (Some (data_command arriving.entry)) full ≡ Took.Held
             → after_command self.old (Some (data_command arriving.entry)) full ≡ with_first self.new packet) }
@@ -267,7 +270,7 @@ impl Incoming {
         if !self.dispatched.is_empty() || !self.comes_alone(arriving) {
             return None;
         }
-        self.hand_out(arriving)
+        self.hand_out(arriving, bodies)
     }
 
     /// Takes a command in, as `take_in` does, where the unreliable packets that wait or are in the making make room for it: they
@@ -461,7 +464,7 @@ impl Incoming {
     }
 
     /// Hands a packet of one command out that comes in its place. None, with nothing changed, where memory is refused.
-    fn hand_out(&mut self, arriving: ArrivingData<'_>) -> Option<Packet>
+    fn hand_out(&mut self, arriving: ArrivingData<'_>, bodies: &mut Bodies) -> Option<Packet>
         requires admitted { Admitted self.old.max_packet self.old.receiver (data_command arriving) arriving.head.number }
         requires inside { IsInside self.old.receiver.front arriving.head.number }
         requires alone { ComesAlone self.old.receiver (data_command arriving) }
@@ -469,7 +472,7 @@ impl Incoming {
         ensures packet { IfSome result (λ packet. packet ≡ only_packet_from self.old.channel (data_command arriving.entry)) }
         ensures unchanged { IfNone result (self.new ≡ self.old) }
     {
-        let Ok(body) = Bytes::copy_from_slice(self.alloc, arriving.payload) else {
+        let Ok(body) = bodies.body(self.alloc, arriving.payload) else {
             return None;
         };
         self.front = arriving.head.number;

@@ -1,5 +1,4 @@
-use Rattle.std.proofs.Common.{◌≡◌, ◌<◌, length, Bool, true, false, cond, Option, Some, None, Ok, Err, sym, ap, subst, ◌∙◌, arith}
-use Rattle.enet_codec.specs.declared.stop.Stop.TheVariants as stop
+use Rattle.std.proofs.Common.{◌≡◌, true, false, Ok, sym, ap, ◌∙◌, arith}
 use Rattle.std.specs.Prelude.{slice_get}
 use Rattle.enet_codec.specs.Message.{view}
 use Rattle.enet_receiver.specs.ArrivingData.{data_command}
@@ -7,7 +6,7 @@ use Rattle.enet_receiver.specs.DataOutcome.{is_next}
 use Rattle.enet_inbox.specs.Inbox.{Inbox, is_full, given_way, given_way_receiver}
 use Rattle.enet_inbox.specs.contracts.inbox.Inbox.{the_view}
 use Rattle.enet_inbox.proofs.Keeping.{in_place}
-use Rattle.enet_inbox.proofs.Rooms.{IsAt, answer_by, full_answer, new_answer, answer_at, full_for_next, room_for, channel_in, found_in}
+use Rattle.enet_inbox.proofs.Rooms.{IsAt, answer_by, full_answer, answer_at, full_for_next, room_for, channel_in, found_in}
 use Rattle.enet_inbox.proofs.inbox.Inbox.answer_in_room.Goals.{After-index-receiver}
 use Rattle.enet_inbox.proofs.inbox.Inbox.answer_in_room.Goals as goal
 

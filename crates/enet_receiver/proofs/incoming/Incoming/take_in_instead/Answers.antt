@@ -1,4 +1,3 @@
-use Rattle.std.proofs.Common.{◌∙◌}
 use Rattle.enet_receiver.specs.ReceiverParts.{receiver_of}
 use Rattle.enet_receiver.proofs.Keeping.{Keeps-without_waiting}
 use Rattle.enet_receiver.proofs.incoming.Incoming.take_in_instead.Goals as goal
