@@ -1,10 +1,12 @@
-// load PORT PID CLIENTS SIZE CHANNEL SECONDS [TALKERS]: measures the relay at PORT of 127.0.0.1, which is process PID, with that many
+// load PORT PID CLIENTS SIZE CHANNEL SECONDS [TALKERS [CALLS]]: measures the relay at PORT of 127.0.0.1, which is process PID, with that many
 // clients of the reference library and packets of SIZE bytes, on channel 0 reliable ones, on channel 1 unreliable ones (in pieces where
 // they are long). First the trip at light load: one client talks 200 times a second, and each time another one of the others tells how
 // long it took. Then the most that goes through: every client talks, or the first TALKERS of them, and no more than have their packets
 // on the way to the relay in the buffer of a socket (`on_the_way`). One client alone has nobody to talk to, so beside it is one that
 // only listens. Prints packets delivered in a second, packets delivered in a second of the relay's processor time, and the trip's
-// median and 99th percentile in microseconds.
+// median and 99th percentile in microseconds. Where CALLS is the file in which calls.c counts what the relay calls, it prints behind that how
+// often the relay called to send and to receive for each 1,000 packets delivered, and the nanoseconds that a packet took it outside the
+// system and inside, as far as the system's clock ticks tell, while the most went through.
 //
 // Both ends' throttles are told never to go down, so that no unreliable packet is dropped before it is sent.
 #include <dirent.h>
@@ -15,6 +17,7 @@
 #include <stdbool.h>
 #include <sys/eventfd.h>
 #include <sys/prctl.h>
+#include <unistd.h>
 
 #include "common.h"
 
@@ -71,6 +74,28 @@ static double processor_time(long process)
     if (tasks != NULL)
         closedir(tasks);
     return sum;
+}
+
+// What a relay had done at a moment: its calls to send and to receive, and its ticks outside the system and inside.
+typedef struct Work {
+    uint64_t calls[2];
+    unsigned long ticks[2];
+} Work;
+
+static Work work_of(long process, const char *calls)
+{
+    Work work = { 0 };
+    char path[300];
+    FILE *file = fopen(calls, "rb");
+    if (file == NULL || fread(work.calls, sizeof work.calls[0], 2, file) != 2)
+        give_up("load: nothing is counted in %s", calls);
+    fclose(file);
+    snprintf(path, sizeof path, "/proc/%ld/stat", process);
+    file = fopen(path, "r");
+    if (file == NULL || fscanf(file, "%*d (%*[^)]) %*c %*d %*d %*d %*d %*d %*u %*u %*u %*u %*u %lu %lu", &work.ticks[0], &work.ticks[1]) != 2)
+        give_up("load: the relay's ticks can't be read");
+    fclose(file);
+    return work;
 }
 
 // How many packets may be on their way to the relay: 64 datagrams' worth.
@@ -210,7 +235,19 @@ static void light(double seconds)
         pass(0, 1, 5);
 }
 
-static void full(double seconds, long process, double *each_second, double *each_processor_second)
+// What the relay did for `came` packets between two moments.
+static void print_work(const Work *before, const Work *after, double came)
+{
+    double tick = 1e9 / (double)sysconf(_SC_CLK_TCK);
+    for (int i = 0; i < 2; i++)
+        printf(" %.1f", 1000 * (double)(after->calls[i] - before->calls[i]) / came);
+    for (int i = 0; i < 2; i++)
+        printf(" %.0f", tick * (double)(after->ticks[i] - before->ticks[i]) / came);
+}
+
+// The most that goes through. Where `calls` is given, what the relay did stands in `works`, at the beginning and at the end; answers how many
+// packets came meanwhile.
+static double full(double seconds, long process, const char *calls, Work works[2], double *each_second, double *each_processor_second)
 {
     static int parts[THREADS] = { 0, 1 };
     pthread_t threads[THREADS];
@@ -219,15 +256,20 @@ static void full(double seconds, long process, double *each_second, double *each
         pthread_create(&threads[i], NULL, drive, &parts[i]);
     struct timespec warm = { .tv_nsec = 500000000 }, length = { .tv_sec = (time_t)seconds };
     nanosleep(&warm, NULL);
+    if (calls != NULL)
+        works[0] = work_of(process, calls);
     double begun = now(), used = processor_time(process);
     unsigned long before = delivered;
     nanosleep(&length, NULL);
     double came = (double)(delivered - before);
     *each_second = came / (now() - begun);
     *each_processor_second = came / (processor_time(process) - used);
+    if (calls != NULL)
+        works[1] = work_of(process, calls);
     phase = OVER;
     for (int i = 0; i < THREADS; i++)
         pthread_join(threads[i], NULL);
+    return came;
 }
 
 static int by_size(const void *a, const void *b)
@@ -256,10 +298,15 @@ int main(int words, char **word)
         give_up("load: the reference library doesn't start");
     join();
     light(seconds);
-    full(seconds, process, &each_second, &each_processor_second);
+    Work works[2];
+    const char *calls = words > 8 ? word[8] : NULL;
+    double came = full(seconds, process, calls, works, &each_second, &each_processor_second);
     qsort(trips, (size_t)tripped, sizeof *trips, by_size);
     if (tripped == 0)
         give_up("load: no packet came");
-    printf("%.0f %.0f %.0f %.0f\n", each_second, each_processor_second, 1e6 * trips[tripped / 2], 1e6 * trips[tripped * 99 / 100]);
+    printf("%.0f %.0f %.0f %.0f", each_second, each_processor_second, 1e6 * trips[tripped / 2], 1e6 * trips[tripped * 99 / 100]);
+    if (calls != NULL)
+        print_work(&works[0], &works[1], came);
+    printf("\n");
     return 0;
 }

@@ -1,16 +1,21 @@
 #!/usr/bin/env bash
 # Measures `enet_relay serve` side by side with a relay of the same rule over the reference library (clients/server.c), with the clients
-# of clients/load.c: `bench.sh [PROGRAM] [SECONDS] [slots | broadcast | options]`. Where PROGRAM is `layer`, clients/server.c over our layer (c/enet) stands in
-# the place of `serve`, in one thread as over the reference library; it needs crates/enet_c/out/libenet_c.a, which `rt lib` makes there, and
-# tells first what an idle call of the C library takes. For each number of clients, size and kind of packet, both relays are measured one
-# after the other, SECONDS each for the trip at light load and for the most that goes through (2 where it isn't given). Prints a table;
-# in each cell ours stands first. With `slots` the table is one of 8 clients that talk, reliably and 32 bytes a packet, among 40, 400 and
-# 4,000 slots, and among 400 clients that only listen. With `layer` and `broadcast` it is one of a server that tells 64 or 200 clients of the
+# of clients/load.c: `bench.sh [PROGRAM] [SECONDS] [slots | calls | broadcast | options]`. Where PROGRAM is `layer`, clients/server.c over our
+# layer (c/enet) stands in the place of `serve`, in one thread as over the reference library; it needs crates/enet_c/out/libenet_c.a, which
+# `rt lib` makes there, and tells first what an idle call of the C library takes. For each number of clients, size and kind of packet, both
+# relays are measured one after the other, SECONDS each for the trip at light load and for the most that goes through (2 where it isn't
+# given). Prints a table; in each cell ours stands first.
+#
+# With `slots` the table is one of 8 clients that talk, reliably and 32 bytes a packet, among 40, 400 and 4,000 slots, and among 400 clients
+# that only listen. With `calls` it is one of what a packet of 32 bytes takes, reliably, with 1, 8, 32 and 200 clients: `serve` in one thread
+# and in two, and the relay over the reference library. With `layer` and `broadcast` it is one of a server that tells 64 or 200 clients of the
 # reference library 100 bytes 60 times a second (clients/tell.c): what each broadcast takes with all that comes of it, in processor time and,
 # in a second run, which takes valgrind, in instructions outside the system. With `options` `serve` is measured beside itself with the limits
 # of admission, `--metrics` and `--control`, ROUNDS times (3 where that isn't set) by turns, at each number, size and kind: packets a second of
-# processor time, without and with them, and the least, median and greatest ratio; it fails where a median is above 1.05. Where PROCESSOR is set, each relay runs on that processor alone;
-# where THREADS is set, `serve` serves in so many threads (1 or 2; else 1). Proves nothing, and takes some minutes.
+# processor time, without and with them, and the least, median and greatest ratio; it fails where a median is above 1.05.
+#
+# Where PROCESSOR is set, each relay runs on that processor alone; where THREADS is set, `serve` serves in so many threads (1 or 2; else 1).
+# Proves nothing, and takes some minutes.
 cd "$(dirname "$0")/.." || exit 1
 . scripts/clients.sh
 program=${1:-crates/enet_relay/out/enet_relay}
@@ -135,6 +140,31 @@ if [ "${3:-}" = options ]; then
     done
     echo "$dearer of 18 are dearer by over a twentieth"
     exit $((dearer > 0))
+fi
+
+# A line of the table of calls: of the program $1 with $2 clients, in $3 threads, which is called $4.
+calls_row() {
+    free_port
+    rm -f "$room/calls"
+    LD_PRELOAD=$room/calls.so CALLS=$room/calls THREADS=$3 relay "$1" "$port" 300 "$room" > /dev/null 2> "$room/relay" &
+    relay=$!
+    timeout 120 "$room/load" "$port" "$relay" "$2" 32 0 "$seconds" "$2" "$room/calls" 2> "$room/load.err" | awk -v begins="$2 | $4" '
+        { printf "| %s | %s | %s | %s, %s | %s, %s |\n", begins, $5, $6, $7, $8, $3, $4 }
+        END { exit NR == 0 }' || cat "$room/load.err" >&2
+    kill "$relay"
+    wait "$relay" 2> /dev/null
+    relay=
+}
+
+if [ "${3:-}" = calls ]; then
+    echo '| clients | server | sends for 1,000 packets | receptions | ns a packet: outside the system, inside | trip: median, 99th percentile (µs) |'
+    echo '|---|---|---|---|---|---|'
+    for clients in 1 8 32 200; do
+        calls_row "$program" "$clients" 1 'one thread'
+        calls_row "$program" "$clients" 2 'two threads'
+        calls_row reference "$clients" 1 libenet
+    done
+    exit
 fi
 
 figures='packets delivered a second | packets a second of processor time | ratio | trip: median, 99th percentile (µs) |'

@@ -14,7 +14,8 @@ build_clients() {
     for source in client crowd echo guess guests server steady proxy load tell hostile hoard swarm flood knock forge tally hold told passers; do
         cc -std=gnu11 -O2 -Wall -Wextra -pthread -o "$1/$source" "clients/$source.c" -lenet || return 1
     done
-    cc -std=gnu11 -O2 -Wall -Wextra -shared -fPIC -o "$1/faults.so" clients/faults.c
+    cc -std=gnu11 -O2 -Wall -Wextra -shared -fPIC -o "$1/faults.so" clients/faults.c || return 1
+    cc -std=gnu11 -O2 -Wall -Wextra -shared -fPIC -o "$1/calls.so" clients/calls.c
 }
 
 # The next free UDP port, into `port`. The range lies below the ports that sockets get which ask for none.
