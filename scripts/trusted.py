@@ -21,6 +21,8 @@ CLAUSES = [
     ("the lists that are kept", "`Fleet::run`, `headline`", ["enet_fleet.Headline.HasHeadline"]),
     ("and that they are the events'", "`Fleet::run`, `steps`", ["enet_fleet.Headline.HasHeadline", "enet_fleet.Fleets.Runs"]),
     ("what comes once nothing is lost", "`World::calm`, `progress`", ["enet_world.Progress.GetsThrough"]),
+    ("that who was connected is so still, or told", "`World::calm`, `told`", ["enet_world.Ended.TellsEnds"]),
+    ("that all comes, or an end is told", "`World::calm`, `all`", ["enet_world.Ended.ComesOrEnds"]),
     ("each peer of a host as one end", "`each_peer_of_a_host` of `law_one_end`", ["law_one_end.Hosts.EachIsOneEnd"]),
     ("what has nothing left to send was delivered", "`World::delivered`", ["enet_world.Delivered.HasDelivered"]),
     ("at each moment of running services", "`services_in_order`, `at_each_moment`", ["law_service.EndToEnd.AtEachMoment"]),

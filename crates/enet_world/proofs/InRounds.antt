@@ -385,11 +385,11 @@ carries joined w v x side own far now there refused stopped here is_there r u c 
 
 -- ---- what turns, deliveries and takes keep, all that happens after the clocks went on keeps
 pub record Keeps (P : World → Type 0) : Type 0 where
-  turns_keep : (w v : World) (side : Side) (told : Result Answer Refusal) → Steps w (happen.Turn side) told v → P w → P v
-  delivers_keep : (w v : World) (side : Side) (k : ℕ) (told : Result Answer Refusal) → Steps w (happen.Deliver side k) told v → P w → P v
-  takes_keep : (w v : World) (side : Side) (told : Result Answer Refusal) → Steps w (happen.Take side) told v → P w → P v
+  pub turns_keep : (w v : World) (side : Side) (told : Result Answer Refusal) → Steps w (happen.Turn side) told v → P w → P v
+  pub delivers_keep : (w v : World) (side : Side) (k : ℕ) (told : Result Answer Refusal) → Steps w (happen.Deliver side k) told v → P w → P v
+  pub takes_keep : (w v : World) (side : Side) (told : Result Answer Refusal) → Steps w (happen.Take side) told v → P w → P v
 
-kept-many : (P : World → Type 0) → Keeps P → (side : Side) (n refused stopped : ℕ) (w v : World) → CarriesMany side n refused stopped w v → P w → P v
+pub kept-many : (P : World → Type 0) → Keeps P → (side : Side) (n refused stopped : ℕ) (w v : World) → CarriesMany side n refused stopped w v → P w → P v
 kept-many P k side zero refused stopped w v c h = subst P (sym c.2) h
 kept-many P k side (suc n) refused stopped w v c h =
     let one : Carries side c.2 c.3 c.4 v = c.6 in

@@ -13,3 +13,6 @@ pub mod InRounds
 pub mod Through
 pub mod Ages
 pub mod Commands
+pub mod Untouched
+pub mod UntouchedEnd
+pub mod EndsAreTold

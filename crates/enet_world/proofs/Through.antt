@@ -254,7 +254,7 @@ one-more (n ∷ ms) m c b d p q all one two round = (all.0, all.1, all.2, all.3,
 none-summed : (m n most : ℕ) → 0 < most → min (m + n) most ≡ 0 → (m ≡ 0) × (n ≡ 0)
 none-summed m n most some e = (grind arith, grind arith)
 
-no-sum : (m n : ℕ) → sum m n ≡ 0 → (m ≡ 0) × (n ≡ 0)
+pub no-sum : (m n : ℕ) → sum m n ≡ 0 → (m ≡ 0) × (n ≡ 0)
 no-sum m n e = none-summed m n 18446744073709551615 (omega arith) e
 
 smooth-parts : (s t u : Share) → u ≡ both s t → Smooth u → Smooth s × Smooth t

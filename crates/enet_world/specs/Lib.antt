@@ -5,3 +5,4 @@ pub mod Calm
 pub mod Delivered
 pub mod Progress
 pub mod Needed
+pub mod Ended

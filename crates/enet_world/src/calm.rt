@@ -4,6 +4,7 @@ ghost use Rattle.std.specs.Prelude.{◌≡◌, ◌≤◌, ◌&&◌, is_some};
 ghost use Rattle.law_network.specs.Headline.{HasHeadline};
 ghost use Rattle.enet_world.specs.Delivered.{HasDelivered};
 ghost use Rattle.enet_world.specs.Progress.{GetsThrough};
+ghost use Rattle.enet_world.specs.Ended.{ComesOrEnds, TellsEnds};
 ghost use Rattle.enet_world.specs.Worlds.{passed_by_rounds};
 ghost use Rattle.enet_world.specs.Calm.{PutsAllOut, Round, Rounds, TakesAll, both, datagram_in, event_in, is_smooth, refusals_in, stops_in};
 
@@ -148,8 +149,14 @@ impl World {
     /// after them (`World::state`): where nothing stood in the way (`Calm::is_smooth`), and the rounds were enough, each user has taken
     /// each packet flagged RELIABLE that the other has submitted on a channel below 255, in order. Rounds are enough where in one of them
     /// all timeouts of what waited for its acknowledgement at first are over, at both, and twice as many come after it as data commands
-    /// were queued or waited at first, at both, on all channels: so are as many as `World::rounds_needed` tells. It isn't said that peers stay
-    /// connected.
+    /// were queued or waited at first, at both, on all channels: so are as many as `World::rounds_needed` tells.
+    ///
+    /// `told`: no connection goes in silence. Of each peer that is connected at a side before the rounds, where that side wasn't cut short
+    /// (`Share::cut_short` is 0): it is connected after them, under the same name, or the last event that its user has taken of it, in the
+    /// rounds, is its Disconnect. Or the side is A, which puts out first in a round, and the other's DISCONNECT came in the last one and has
+    /// yet to be acknowledged (`PeerState::AckDisconnect`): the user of such a peer takes its Disconnect in one more round. `all`: so once the
+    /// network loses nothing, all comes, both ways, or the connection ends at a side, whose user is told; where nothing stood in the way, and
+    /// the rounds were enough. That peers stay connected isn't said.
     ///
     /// `delivered`: what a side has nothing left of has arrived. Where the peer of an end stands, still sends, and has no reliable command
     /// of a channel queued or unacknowledged after the rounds, each reliable packet that its user submitted there, and that went in order,
@@ -161,6 +168,8 @@ impl World {
         ensures headline { HasHeadline self.new.joined self.new.world }
         ensures delivered { HasDelivered self.new.world }
         ensures progress { GetsThrough ms rounds result self.old.world self.new.world }
+        ensures told { TellsEnds rounds result self.old.world self.new.world }
+        ensures all { ComesOrEnds ms rounds result self.old.world self.new.world }
     {
         self.is_reached();
         let mut told = Calm {

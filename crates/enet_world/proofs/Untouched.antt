@@ -1,0 +1,282 @@
+-- What becomes of a peer whose user only takes: it is connected, acknowledges a DISCONNECT or has ended, and goes on in that order.
+use Rattle.std.proofs.Common.{◌≡◌, ◌≢◌, ◌&&◌, ◌⊎◌, inl, inr, ℕ, Bool, true, false, cond, List, [], ◌∷◌, refl, sym, ap, subst, ◌∙◌, Option, Some, None, Result, Ok, Err}
+use Rattle.std.specs.Prelude.{is_some}
+use Rattle.enet_codec.specs.declared.command.Head.{Head}
+use Rattle.enet_codec.specs.declared.packet.Packet.{Packet}
+use Rattle.enet_codec.specs.declared.stop.Stop.{Stop}
+use Rattle.enet_codec.specs.declared.stop.Stop.TheVariants as stop
+use Rattle.enet_codec.specs.Message.{Message, Body, acknowledge, connect, verify_connect, disconnect, ping, send_reliable, send_unreliable, send_fragment, send_unsequenced, bandwidth_limit, throttle_configure, send_unreliable_fragment}
+use Rattle.enet_rtt.specs.declared.expiry.Expiry.{Expiry}
+use Rattle.enet_rtt.specs.declared.expiry.Expiry.TheVariants.{No, Resend, End as Ends}
+use Rattle.enet_senders.specs.declared.control.Control.TheVariants as control
+use Rattle.enet_inbox.specs.DataEffect.{DataEffect, arrival}
+use Rattle.enet_outbox.specs.declared.parts.Matched.{Matched}
+use Rattle.enet_outbox.specs.declared.parts.Matched.TheVariants as matched
+use Rattle.enet_outbox.specs.Outbox.{with_control, matched_by, lateness}
+use Rattle.enet_peer.specs.declared.parts.PeerEvent.{PeerEvent}
+use Rattle.enet_peer.specs.declared.parts.PeerEvent.TheVariants as told
+use Rattle.enet_peer.specs.declared.parts.PeerState.{PeerState}
+use Rattle.enet_peer.specs.declared.parts.PeerState.TheVariants as state
+use Rattle.enet_peer.specs.Peering.{Peering}
+use Rattle.enet_peer.specs.CommandEffect.{Outcome, answered, answered_at, is_answered_in, by_answer, by_arrival, on_acknowledge, on_match, on_last_disconnect, on_bandwidth, on_throttle, acknowledged, is_crowded_out, unless_crowded_out, stopped, obeyed, wants_memory}
+use Rattle.enet_peer.specs.Calls.{after_timeouts, after_timeouts_by, is_pinged, pinged, ticked, next_event, event_after, packet_event, last_event}
+use Rattle.law_connection.proofs.Events.{took}
+use Rattle.law_connection.specs.Steps as setting
+use Rattle.law_network.specs.Deeds.{Deed, Alone, AllAlone, emitted}
+use Rattle.law_network.specs.Deeds as deed
+use Rattle.law_network.proofs.Matching.{was-set, matches}
+use Rattle.enet_world.proofs.Lasting.{obeys}
+
+-- ---- states
+abbrev pub is_up : PeerState → Bool
+is_up state.Connected = true
+is_up state.AckDisconnect = true
+is_up state.Ended = true
+is_up _ = false
+
+-- the next state, if nothing is done by the user
+abbrev Next : PeerState → PeerState → Type 0
+Next s t = (t ≡ s) ⊎ ((t ≡ state.Ended) ⊎ ((s ≡ state.Connected) × (t ≡ state.AckDisconnect)))
+
+-- a peer in a state
+abbrev in_state : PeerState → Peering → Peering
+in_state s r = record r { state = s }
+
+was-in : (p : Peering) (s : PeerState) → p.state ≡ s → in_state s p ≡ p
+was-in p s e = ap (λ (t : PeerState). record p { state = t }) (sym e)
+
+-- what holds in each state that is up
+each-up : (P : PeerState → Peering → Type 0) → ((r : Peering) → P state.Connected (in_state state.Connected r)) → ((r : Peering) → P state.AckDisconnect (in_state state.AckDisconnect r))
+    → ((r : Peering) → P state.Ended (in_state state.Ended r)) → (p : Peering) → is_up p.state ≡ true → P p.state p
+each-up P stands acks ends p up = by p.state refl up
+  where
+    so : (s : PeerState) → p.state ≡ s → P s (in_state s p) → P p.state p
+    so s e h = subst (λ (t : PeerState). P t p) (sym e) (subst (λ (q : Peering). P s q) (was-in p s e) h)
+
+    by : (s : PeerState) → p.state ≡ s → is_up s ≡ true → P p.state p
+    by state.Connected e u = so state.Connected e (stands p)
+    by state.AckDisconnect e u = so state.AckDisconnect e (acks p)
+    by state.Ended e u = so state.Ended e (ends p)
+    by state.Connecting e u = absurd (cc)
+    by state.Answering e u = absurd (cc)
+    by state.DisconnectLater e u = absurd (cc)
+    by state.Disconnecting e u = absurd (cc)
+    by state.Parting e u = absurd (cc)
+    by state.Free e u = absurd (cc)
+
+-- ---- a command comes
+if-next : (s : PeerState) (b : Bool) (x y : Outcome) → Next s x.after.state → Next s y.after.state → Next s (cond b x y).after.state
+if-next s true x y h k = h
+if-next s false x y h k = k
+
+unless-next : (s : PeerState) (p : Peering) (m : Message) (o : Outcome) → Next s p.state → Next s o.after.state → Next s (unless_crowded_out p m o).after.state
+unless-next s p m o h k = if-next s (is_crowded_out p m) (stopped p stop.Waiting) o h k
+
+answered-state : (q : Peering) (m : Message) (sent : Option ℕ) (may : Bool) → (answered q m sent may).after.state ≡ q.state
+answered-state q m sent may = by (m.head.acknowledge && may && is_answered_in q.state m.body) sent
+  where
+    by : (b : Bool) (o : Option ℕ) → (cond b (answered_at q m.head o) (record { stop = None; after = q })).after.state ≡ q.state
+    by true None = refl
+    by true (Some time) = refl
+    by false o = refl
+
+answered-next : (s : PeerState) (q : Peering) (m : Message) (sent : Option ℕ) → Next s q.state → Next s (answered q m sent true).after.state
+answered-next s q m sent h = subst (Next s) (sym (answered-state q m sent true)) h
+
+arrived-next : (s : PeerState) (p : Peering) (m : Message) (sent : Option ℕ) (a : DataEffect) → Next s p.state → Next s (by_arrival p m sent a).after.state
+arrived-next s p m sent a h = by a.answer
+  where
+    by : (r : Result Bool Stop) → Next s (by_answer (record p { inbox = a.after }) m sent r).after.state
+    by (Err why) = h
+    by (Ok may) = subst (Next s) (sym (answered-state (record p { inbox = a.after }) m sent may)) h
+
+last-next : (p : Peering) (b : Bool) (info : ℕ) → Next state.Connected (on_last_disconnect p b info).state
+last-next p true info = inr (inr (refl, refl))
+last-next p false info = inr (inl refl)
+
+connected-obeyed : (r : Peering) (now : ℕ) (sent : Option ℕ) (h : Head) (body : Body) → Next state.Connected (obeyed (in_state state.Connected r) now sent (record { head = h; body = body })).after.state
+connected-obeyed r now sent h body = by body
+  where
+    p : Peering
+    p = record r { state = state.Connected }
+
+    came : Body → Message
+    came body = record { head = h; body = body }
+
+    plain : (body : Body) (q : Peering) → q.state ≡ state.Connected → Next state.Connected (unless_crowded_out p (came body) (answered q (came body) sent true)).after.state
+    plain body q e = unless-next state.Connected p (came body) (answered q (came body) sent true) (inl refl) (answered-next state.Connected q (came body) sent (inl e))
+
+    data' : (body : Body) → Next state.Connected (unless_crowded_out p (came body) (by_arrival p (came body) sent (arrival p.inbox (came body)))).after.state
+    data' body = unless-next state.Connected p (came body) (by_arrival p (came body) sent (arrival p.inbox (came body))) (inl refl) (arrived-next state.Connected p (came body) sent (arrival p.inbox (came body)) (inl refl))
+
+    taken-away : (number time : ℕ) (x : Matched) → (on_match x p (acknowledged p now h.channel number time)).state ≡ state.Connected
+    taken-away number time matched.Nothing = refl
+    taken-away number time matched.Data = refl
+    taken-away number time (matched.Control what) = refl
+
+    by : (body : Body) → Next state.Connected (obeyed p now sent (came body)).after.state
+    by (connect offer) = inl refl
+    by (acknowledge number time) = plain (acknowledge number time) (on_acknowledge p now h.channel number time) (taken-away number time (matched_by p.outbox h.channel number))
+    by (verify_connect v) = plain (verify_connect v) p refl
+    by (disconnect info) =
+        let q : Peering = on_last_disconnect p (h.acknowledge && is_some sent) info in
+        unless-next state.Connected p (came (disconnect info)) (answered q (came (disconnect info)) sent true) (inl refl) (answered-next state.Connected q (came (disconnect info)) sent (last-next p (h.acknowledge && is_some sent) info))
+    by ping = plain ping p refl
+    by (bandwidth_limit incoming outgoing) = plain (bandwidth_limit incoming outgoing) (on_bandwidth p incoming) refl
+    by (throttle_configure interval acceleration deceleration) = plain (throttle_configure interval acceleration deceleration) (on_throttle p interval acceleration deceleration) refl
+    by (send_reliable payload) = data' (send_reliable payload)
+    by (send_unreliable n payload) = data' (send_unreliable n payload)
+    by (send_unsequenced group payload) = data' (send_unsequenced group payload)
+    by (send_fragment f payload) = data' (send_fragment f payload)
+    by (send_unreliable_fragment f payload) = data' (send_unreliable_fragment f payload)
+
+acknowledging-obeyed : (r : Peering) (now : ℕ) (sent : Option ℕ) (h : Head) (body : Body) → Next state.AckDisconnect (obeyed (in_state state.AckDisconnect r) now sent (record { head = h; body = body })).after.state
+acknowledging-obeyed r now sent h body = by body
+  where
+    p : Peering
+    p = record r { state = state.AckDisconnect }
+
+    came : Body → Message
+    came body = record { head = h; body = body }
+
+    plain : (body : Body) (q : Peering) → q.state ≡ state.AckDisconnect → Next state.AckDisconnect (unless_crowded_out p (came body) (answered q (came body) sent true)).after.state
+    plain body q e = unless-next state.AckDisconnect p (came body) (answered q (came body) sent true) (inl refl) (answered-next state.AckDisconnect q (came body) sent (inl e))
+
+    taken-away : (number time : ℕ) (x : Matched) → (on_match x p (acknowledged p now h.channel number time)).state ≡ state.AckDisconnect
+    taken-away number time matched.Nothing = refl
+    taken-away number time matched.Data = refl
+    taken-away number time (matched.Control what) = refl
+
+    by : (body : Body) → Next state.AckDisconnect (obeyed p now sent (came body)).after.state
+    by (connect offer) = inl refl
+    by (acknowledge number time) = plain (acknowledge number time) (on_acknowledge p now h.channel number time) (taken-away number time (matched_by p.outbox h.channel number))
+    by (verify_connect v) = plain (verify_connect v) p refl
+    by (disconnect info) = plain (disconnect info) p refl
+    by ping = inl refl
+    by (bandwidth_limit incoming outgoing) = inl refl
+    by (throttle_configure interval acceleration deceleration) = inl refl
+    by (send_reliable payload) = inl refl
+    by (send_unreliable n payload) = inl refl
+    by (send_unsequenced group payload) = inl refl
+    by (send_fragment f payload) = inl refl
+    by (send_unreliable_fragment f payload) = inl refl
+
+ended-obeyed : (r : Peering) (now : ℕ) (sent : Option ℕ) (h : Head) (body : Body) → Next state.Ended (obeyed (in_state state.Ended r) now sent (record { head = h; body = body })).after.state
+ended-obeyed r now sent h (connect offer) = inl refl
+ended-obeyed r now sent h (acknowledge number time) = inl refl
+ended-obeyed r now sent h (verify_connect v) = inl refl
+ended-obeyed r now sent h (disconnect info) = inl refl
+ended-obeyed r now sent h ping = inl refl
+ended-obeyed r now sent h (bandwidth_limit incoming outgoing) = inl refl
+ended-obeyed r now sent h (throttle_configure interval acceleration deceleration) = inl refl
+ended-obeyed r now sent h (send_reliable payload) = inl refl
+ended-obeyed r now sent h (send_unreliable n payload) = inl refl
+ended-obeyed r now sent h (send_unsequenced group payload) = inl refl
+ended-obeyed r now sent h (send_fragment f payload) = inl refl
+ended-obeyed r now sent h (send_unreliable_fragment f payload) = inl refl
+
+obeyed-next : (p : Peering) (now : ℕ) (sent : Option ℕ) (m : Message) → is_up p.state ≡ true → Next p.state (obeyed p now sent m).after.state
+obeyed-next p now sent m up = each-up (λ s q. Next s (obeyed q now sent m).after.state) (λ r. connected-obeyed r now sent m.head m.body) (λ r. acknowledging-obeyed r now sent m.head m.body) (λ r. ended-obeyed r now sent m.head m.body) p up
+
+-- ---- time goes on
+pinged-state : (q : Peering) (now : ℕ) → (pinged q now).state ≡ q.state
+pinged-state q now = by (is_pinged q now)
+  where
+    by : (b : Bool) → (cond b (record q { outbox = with_control q.outbox control.Ping }) q).state ≡ q.state
+    by true = refl
+    by false = refl
+
+waited : (s : PeerState) (r : Peering) (now : ℕ) (x : Expiry) → Next s (after_timeouts_by Ends (in_state s r) now).state → Next s (after_timeouts_by x (in_state s r) now).state
+waited s r now Ends h = h
+waited s r now Resend h = inl refl
+waited s r now No h = inl refl
+
+ticked-next : (p : Peering) (now : ℕ) → is_up p.state ≡ true → Next p.state (ticked p now).state
+ticked-next p now up = subst (Next p.state) (sym (pinged-state (after_timeouts p now) now))
+    (each-up (λ s q. (x : Expiry) → Next s (after_timeouts_by x q now).state) (λ r x. waited state.Connected r now x (inr (inl refl))) (λ r x. waited state.AckDisconnect r now x (inr (inl refl))) (λ r x. waited state.Ended r now x (inr (inl refl))) p up
+    (lateness p.outbox now p.patience p.heard))
+
+-- ---- a datagram goes, or none
+-- by which an acknowledgement of DISCONNECT has gone
+abbrev pub gone_by : PeerState → PeerState
+gone_by state.AckDisconnect = state.Ended
+gone_by s = s
+
+pub emitted-state : (p : Peering) (now : ℕ) → is_up p.state ≡ true → (emitted p now).state ≡ gone_by p.state
+emitted-state p now up = each-up (λ s q. (emitted q now).state ≡ gone_by s) (λ r. refl) (λ r. refl) (λ r. refl) p up
+
+-- ---- what goes on so
+pub record Rises (f : PeerState → Bool) : Type 0 where
+  pub only : (s : PeerState) → f s ≡ true → is_up s ≡ true
+  pub acks : f state.Connected ≡ true → f state.AckDisconnect ≡ true
+  pub ends : (s : PeerState) → f s ≡ true → f state.Ended ≡ true
+
+next-rises : (f : PeerState → Bool) → Rises f → (s t : PeerState) → Next s t → f s ≡ true → f t ≡ true
+next-rises f k s t (inl same) h = ap f same ∙ h
+next-rises f k s t (inr (inl over)) h = ap f over ∙ k.ends s h
+next-rises f k s t (inr (inr (on, acks))) h = ap f acks ∙ k.acks (sym (ap f on) ∙ h)
+
+gone-rises : (f : PeerState → Bool) → Rises f → (s : PeerState) → f s ≡ true → f (gone_by s) ≡ true
+gone-rises f k state.AckDisconnect h = k.ends state.AckDisconnect h
+gone-rises f k state.Connected h = h
+gone-rises f k state.Ended h = h
+gone-rises f k state.Connecting h = h
+gone-rises f k state.Answering h = h
+gone-rises f k state.DisconnectLater h = h
+gone-rises f k state.Disconnecting h = h
+gone-rises f k state.Parting h = h
+gone-rises f k state.Free h = h
+
+-- a deed that is none of the user's
+abbrev pub IsQuiet : Deed → Type 0
+IsQuiet (deed.Emit now given) = Unit {0}
+IsQuiet (deed.Come now sent m answer) = Unit {0}
+IsQuiet (deed.Tick now) = Unit {0}
+IsQuiet (deed.Set (setting.ThrottleLimit limit) answer) = Unit {0}
+IsQuiet d = ⊥
+
+abbrev pub AreQuiet : List Deed → Type 0
+AreQuiet [] = Unit {0}
+AreQuiet (d ∷ ds) = IsQuiet d × AreQuiet ds
+
+abbrev IsIn : (PeerState → Bool) → Peering → Type 0
+IsIn f p = f p.state ≡ true
+
+deed-rises : (f : PeerState → Bool) → Rises f → (d : Deed) (p q : Peering) → IsQuiet d → Alone d p q → f p.state ≡ true → f q.state ≡ true
+deed-rises f k (deed.Emit now given) p q quiet a h = subst (IsIn f) (sym a.1) (ap f (emitted-state p now (k.only p.state h)) ∙ gone-rises f k p.state h)
+deed-rises f k (deed.Come now sent m answer) p q quiet a h =
+    obeys (IsIn f) answer (wants_memory p now sent m) (obeyed p now sent m) p q a h (next-rises f k p.state (obeyed p now sent m).after.state (obeyed-next p now sent m (k.only p.state h)) h)
+deed-rises f k (deed.Tick now) p q quiet a h = subst (IsIn f) (sym a) (next-rises f k p.state (ticked p now).state (ticked-next p now (k.only p.state h)) h)
+deed-rises f k (deed.Set (setting.ThrottleLimit limit) (Ok done)) p q quiet a h = (let set = was-set (setting.ThrottleLimit limit) done p q a in subst (IsIn f) (sym set.1) h)
+deed-rises f k (deed.Set (setting.ThrottleLimit limit) (Err why)) p q quiet a h = subst (IsIn f) (sym (matches.refused (deed.Set (setting.ThrottleLimit limit) (Err why)) p q a refl)) h
+deed-rises f k (deed.Set s answer) p q quiet a h = absurd quiet
+deed-rises f k (deed.Submit x answer) p q quiet a h = absurd quiet
+deed-rises f k (deed.Take given) p q quiet a h = absurd quiet
+deed-rises f k (deed.Disconnect way info answer) p q quiet a h = absurd quiet
+
+pub deeds-rise : (f : PeerState → Bool) → Rises f → (ds : List Deed) (p q : Peering) → AreQuiet ds → AllAlone ds p q → f p.state ≡ true → f q.state ≡ true
+deeds-rise f k [] p q quiet a h = subst (IsIn f) a h
+deeds-rise f k (d ∷ ds) p q quiet a h = deeds-rise f k ds a.0 q quiet.1 a.2 (deed-rises f k d p a.0 quiet.0 a.1 h)
+
+-- ---- the user takes
+-- by its last event the peer is free, and by any other it stays
+pub taken-or-over : (p q : Peering) (e : PeerEvent) → next_event p ≡ Some (record { event = e; after = q }) → (q.state ≡ p.state) ⊎ ((info : ℕ) × (e ≡ told.Disconnect info) × (q.state ≡ state.Free))
+taken-or-over p q e next = took (λ r t. (r.state ≡ p.state) ⊎ ((info : ℕ) × (t ≡ told.Disconnect info) × (r.state ≡ state.Free))) p q e next
+    (λ info g. inl refl)
+    (λ x rest g u. inl refl)
+    (λ g u at. inr (p.info, refl, refl))
+
+-- where no event waits it hasn't ended
+pub not-ended : (p : Peering) → is_some (next_event p) ≡ false → p.state ≢ state.Ended
+not-ended p none ended = by p.greeting none
+  where
+    last : (s : PeerState) → s ≡ state.Ended → is_some (last_event s p) ≡ true
+    last s e = ap (λ (t : PeerState). is_some (last_event t p)) e
+
+    packets : (untaken : List Packet) → is_some (packet_event p untaken) ≡ false → ⊥
+    packets [] e = (let z : true ≡ false = sym (last p.state ended) ∙ e in cc)
+    packets (x ∷ rest) e = (let z : true ≡ false = e in cc)
+
+    by : (greeting : Option ℕ) → is_some (event_after p greeting) ≡ false → ⊥
+    by (Some info) e = (let z : true ≡ false = e in cc)
+    by None e = packets p.inbox.untaken e
