@@ -23,14 +23,14 @@ use Rattle.law_network.specs.Headline.{events_at}
 use Rattle.law_network.specs.Network.{HostEnd, Site, end_of}
 use Rattle.law_network.specs.Steps.{Happening, Calls, Delivers}
 use Rattle.law_network.specs.World.{World, HappensAt, Steps, site_of, other}
+use Rattle.law_network.proofs.Names.{spent-nobody}
 use Rattle.law_network.proofs.Runs.{both as both-hold}
 use Rattle.law_network.proofs.Submitting.{same-some}
 use Rattle.enet_site.specs.Standing.{state_at}
 use Rattle.enet_world.specs.declared.calm.Calm.{Calm}
 use Rattle.enet_world.specs.declared.calm.Share.{Share}
 use Rattle.enet_world.specs.Calm.{most, datagram_in, event_in, refusals_in, PutsNone, PutsAllOut, TakesOne as TakesAnother, TakesMany, TakesNone, TakesAll, Round, Rounds, both, is_smooth}
-use Rattle.enet_world.specs.Ended.{share_of, name_at, IsTold, IsEnding, StandsOrEnds, TellsEnds, ComesOrEnds}
-use Rattle.enet_world.specs.Progress.{WasTaken}
+use Rattle.enet_world.specs.Ended.{share_of, IsUncut, name_at, IsTold, IsToldOrWillBe, StandsOrEnds, is_ending, TellsEnds, AllTaken, ComesOrEnds}
 use Rattle.enet_world.specs.Private.Worlds.{IsReached}
 use Rattle.enet_world.proofs.InRounds.{Keeps, kept-many, kept-out}
 use Rattle.enet_world.proofs.Reaching.{reached-step}
@@ -263,11 +263,6 @@ is_open_or_over state.Connected = true
 is_open_or_over state.Ended = true
 is_open_or_over _ = false
 
-abbrev is_ending : PeerState → Bool
-is_ending state.AckDisconnect = true
-is_ending state.Ended = true
-is_ending _ = false
-
 abbrev has_ended : PeerState → Bool
 has_ended state.Ended = true
 has_ended _ = false
@@ -353,14 +348,20 @@ same-named : (old new : World) (x : ℕ) (side : Side) (was e : HostEnd) → end
 same-named old new x side was e before after called =
     ap (option_map (λ (y : HostEnd). y.name)) after ∙ ap (λ (n : PeerRef). Some n) called ∙ sym (ap (option_map (λ (y : HostEnd). y.name)) before)
 
+nobody-so : (was : HostEnd) (s : Site) (x : ℕ) → IsOver was s x → state_at s x ≡ None
+nobody-so was s x k =
+    ap (λ (o : Option HostEnd). option_map (λ (p : Peering). p.state) (option_and_then (λ (e : HostEnd). named s.host.slots e.name) o)) k.there
+    ∙ ap (λ (o : Option Peering). option_map (λ (p : Peering). p.state) o) (spent-nobody s.host k.e.name k.spent)
+
 told-so : (old new : World) (x : ℕ) (side : Side) (was : HostEnd) → end_of x (site_of old side).ends ≡ Some was → IsOver was (site_of new side) x → IsTold old new x side
-told-so old new x side was before k = (
-  k.more,
-  was.name,
-  k.info,
-  ap (option_map (λ (y : HostEnd). y.name)) before,
-  ap events_at k.there ∙ k.took ∙ ap (λ (l : List Event). l ++ k.more ++ events.Disconnect was.name k.info ∷ []) (sym (ap events_at before)),
-)
+told-so old new x side was before k = record {
+  name = was.name;
+  called = ap (option_map (λ (y : HostEnd). y.name)) before;
+  more = k.more;
+  info = k.info;
+  took = ap events_at k.there ∙ k.took ∙ ap (λ (l : List Event). l ++ k.more ++ events.Disconnect was.name k.info ∷ []) (sym (ap events_at before));
+  gone = nobody-so was (site_of new side) x k;
+}
 
 is-open : (s : PeerState) → is_open s ≡ true → (s ≡ state.Connected) ⊎ (s ≡ state.AckDisconnect)
 is-open state.Connected e = inl refl
@@ -391,7 +392,7 @@ begins s x t h = by (end_of x s.ends) refl h
     by (Some e) there k = by-peer e there (named s.host.slots e.name) refl k
 
 pub tells-ends : (joined : Bool) (ms rounds : ℕ) (told : Calm) (old new : World) → IsReached joined old → Rounds ms rounds told old new → TellsEnds rounds told old new
-tells-ends joined ms rounds told old new r d = record { connected = connected; acknowledging = acknowledging }
+tells-ends joined ms rounds told old new r d = record { connected = connected; ending = ending }
   where
     start : (f : PeerState → Bool) (x : ℕ) (side : Side) (t : PeerState) → f t ≡ true → (a : Begins (site_of old side) x t) → IsHere joined f a.was x side old
     start f x side t up a = (r, inl (record { e = a.was; there = a.there; more = []; called = refl; took = sym (append-nil a.was.events); p = a.p; is = a.is; up = ap f a.in_it ∙ up }))
@@ -411,7 +412,7 @@ tells-ends joined ms rounds told old new r d = record { connected = connected; a
     after-b x a (inl k) = inl (state-so is_connected a.was new.b x k ∙ ap Some (is-connected k.p.state k.up), same-named old new x B a.was k.e a.there k.there k.called)
     after-b x a (inr over) = inr (inr (told-so old new x B a.was a.there over))
 
-    connected : (x : ℕ) (side : Side) → (share_of told side).cut_short ≡ 0 → state_at (site_of old side) x ≡ Some state.Connected → StandsOrEnds old new x side
+    connected : (x : ℕ) (side : Side) → IsUncut told side → state_at (site_of old side) x ≡ Some state.Connected → StandsOrEnds old new x side
     connected x A uncut on =
         let a : Begins old.a x state.Connected = begins old.a x state.Connected on in
         elim (rounds-go joined is_up is_open open-up a.was x ms A (λ now w v one cut k. round-a joined is_up is_up is_open at-a up-rises a.was x ms now w v one cut k) rounds told old new d uncut (start is_up x A state.Connected refl a)) [
@@ -429,16 +430,16 @@ tells-ends joined ms rounds told old new r d = record { connected = connected; a
     ending-round was x A now w v one cut k = round-a joined is_ending has_ended is_none at-end ended-rises was x ms now w v one cut k
     ending-round was x B now w v one cut k = round-b joined is_ending has_ended is_none at-end was x ms now w v one cut k
 
-    after-end : (x : ℕ) (side : Side) (a : Begins (site_of old side) x state.AckDisconnect) → IsEither is_none a.was (site_of new side) x → IsTold old new x side
-    after-end x side a (inl k) = absurd (let z : false ≡ true = k.up in cc)
-    after-end x side a (inr over) = told-so old new x side a.was a.there over
+    after-end : (x : ℕ) (side : Side) (s : PeerState) (a : Begins (site_of old side) x s) → IsEither is_none a.was (site_of new side) x → IsTold old new x side
+    after-end x side s a (inl k) = absurd (let z : false ≡ true = k.up in cc)
+    after-end x side s a (inr over) = told-so old new x side a.was a.there over
 
-    acknowledging : (x : ℕ) (side : Side) → (share_of told side).cut_short ≡ 0 → state_at (site_of old side) x ≡ Some state.AckDisconnect → 0 < rounds → IsTold old new x side
-    acknowledging x side uncut on some =
-        let a : Begins (site_of old side) x state.AckDisconnect = begins (site_of old side) x state.AckDisconnect on in
-        elim (rounds-go joined is_ending is_none (λ s e. absurd (let z : false ≡ true = e in cc)) a.was x ms side (ending-round a.was x side) rounds told old new d uncut (start is_ending x side state.AckDisconnect refl a)) [
+    ending : (x : ℕ) (side : Side) (s : PeerState) → is_ending s ≡ true → IsUncut told side → state_at (site_of old side) x ≡ Some s → 0 < rounds → IsTold old new x side
+    ending x side s ends uncut on some =
+        let a : Begins (site_of old side) x s = begins (site_of old side) x s on in
+        elim (rounds-go joined is_ending is_none (λ s e. absurd (let z : false ≡ true = e in cc)) a.was x ms side (ending-round a.was x side) rounds told old new d uncut (start is_ending x side s ends a)) [
           | inl none ↦ absurd (let z : rounds ≡ 0 = none.0 in omega arith)
-          | inr k ↦ after-end x side a k.1
+          | inr k ↦ after-end x side s a k.1
         ]
 
 -- ---- all comes, or an end is told
@@ -454,7 +455,7 @@ comes-or-ends joined ms rounds told old new r d x before smooth enough = by (end
     parts : (is_smooth told.a ≡ true) × (is_smooth told.b ≡ true)
     parts = both-hold (is_smooth told.a) (is_smooth told.b) smooth
 
-    by : StandsOrEnds old new x A → StandsOrEnds old new x B → ((channel : ℕ) → channel < 255 → WasTaken new x A channel × WasTaken new x B channel) ⊎ (IsEnding old new x A ⊎ IsEnding old new x B)
+    by : StandsOrEnds old new x A → StandsOrEnds old new x B → AllTaken new x ⊎ (IsToldOrWillBe old new x A ⊎ IsToldOrWillBe old new x B)
     by (inl a) (inl b) = inl (gets-through joined ms rounds told old new r d x before (a.0, b.0) smooth enough)
     by (inr a) b = inr (inl a)
     by (inl a) (inr b) = inr (inr b)

@@ -1,5 +1,5 @@
--- In rounds without losses no connection goes in silence: a peer that was connected is so still, or its user is told that it isn't.
-use Rattle.std.specs.Prelude.{◌≡◌, ◌<◌, ◌⊎◌, ◌&&◌, ℕ, true, Option, List, [], ◌∷◌, ◌++◌, Some}
+-- A peer that is connected before rounds without losses doesn't go in silence: it is connected still, or its user is told that it isn't.
+use Rattle.std.specs.Prelude.{◌≡◌, ◌<◌, ◌⊎◌, ◌&&◌, ℕ, Bool, true, false, Option, List, [], ◌∷◌, ◌++◌, Some, None}
 use Rattle.std.specs.Option.{option_map}
 use Rattle.enet_codec.specs.declared.event.Event.{Event}
 use Rattle.enet_codec.specs.declared.event.Event.TheVariants as events
@@ -19,38 +19,56 @@ use Rattle.enet_world.specs.Progress.{AreConnected, AreEnough, WasTaken}
 
 -- what a side did
 abbrev pub share_of : Calm → Side → Share
-share_of told A = told.a
-share_of told B = told.b
+share_of counts A = counts.a
+share_of counts B = counts.b
+
+abbrev pub IsUncut : Calm → Side → Type 0
+IsUncut counts side = (share_of counts side).cut_short ≡ 0
 
 -- what a side calls the peer of connection x
 abbrev pub name_at : World → ℕ → Side → Option PeerRef
 name_at w x side = option_map (λ (e : HostEnd). e.name) (end_at w x side)
 
--- the user of a side took events of connection x since, of which the last is its peer's Disconnect
-abbrev pub IsTold : World → World → ℕ → Side → Type 0
-IsTold old new x side =
-    (more : List Event) × (name : PeerRef) × (info : ℕ) × (name_at old x side ≡ Some name) × (events_at (end_at new x side) ≡ events_at (end_at old x side) ++ more ++ events.Disconnect name info ∷ [])
+-- the user of a side took events of connection x since, the last of which is its peer's Disconnect, and that peer is gone
+pub record IsTold (old new : World) (x : ℕ) (side : Side) : Type 0 where
+  pub name : PeerRef
+  pub called : name_at old x side ≡ Some name
+  pub more : List Event
+  pub info : ℕ
+  pub took : events_at (end_at new x side) ≡ events_at (end_at old x side) ++ more ++ events.Disconnect name info ∷ []
+  pub gone : state_at (site_of new side) x ≡ None
 
 -- its peer, of the same name, is in a state
 abbrev pub IsStill : PeerState → World → World → ℕ → Side → Type 0
 IsStill s old new x side = (state_at (site_of new side) x ≡ Some s) × (name_at new x side ≡ name_at old x side)
 
--- it is told, or will be after the next round: a DISCONNECT came to A once A had put out all in the last one, and has yet to be acknowledged
-abbrev pub IsEnding : World → World → ℕ → Side → Type 0
-IsEnding old new x side = ((side ≡ A) × IsStill state.AckDisconnect old new x side) ⊎ IsTold old new x side
+-- it is told; or will be by one more round (`ending`): at A, which puts out first in a round, a DISCONNECT came that has yet to be acknowledged
+abbrev pub IsToldOrWillBe : World → World → ℕ → Side → Type 0
+IsToldOrWillBe old new x side = ((side ≡ A) × IsStill state.AckDisconnect old new x side) ⊎ IsTold old new x side
 
--- the peer of connection x is connected still, or ends
+-- the peer of connection x is connected still, or its user is told or will be
 abbrev pub StandsOrEnds : World → World → ℕ → Side → Type 0
-StandsOrEnds old new x side = IsStill state.Connected old new x side ⊎ IsEnding old new x side
+StandsOrEnds old new x side = IsStill state.Connected old new x side ⊎ IsToldOrWillBe old new x side
 
--- so it is of each peer that is connected before the rounds, where its side isn't cut short; and who has yet to acknowledge a DISCONNECT
--- before them is told
-pub record TellsEnds (rounds : ℕ) (told : Calm) (old new : World) : Type 0 where
-  pub connected : (x : ℕ) (side : Side) → (share_of told side).cut_short ≡ 0 → state_at (site_of old side) x ≡ Some state.Connected → StandsOrEnds old new x side
-  pub acknowledging : (x : ℕ) (side : Side) → (share_of told side).cut_short ≡ 0 → state_at (site_of old side) x ≡ Some state.AckDisconnect → 0 < rounds → IsTold old new x side
+-- a peer that has yet to acknowledge a DISCONNECT, or whose end its user wasn't told yet
+abbrev pub is_ending : PeerState → Bool
+is_ending state.AckDisconnect = true
+is_ending state.Ended = true
+is_ending _ = false
 
--- so of a connection whose peers are both connected before the rounds all comes, both ways, or it ends at a side and the user there is told, where
+-- so it is of each peer that is connected before the rounds, where its side isn't cut short; and of one that ends, a round tells its user
+pub record TellsEnds (rounds : ℕ) (counts : Calm) (old new : World) : Type 0 where
+  pub connected : (x : ℕ) (side : Side) → IsUncut counts side → state_at (site_of old side) x ≡ Some state.Connected → StandsOrEnds old new x side
+  pub ending : (x : ℕ) (side : Side) (s : PeerState) → is_ending s ≡ true → IsUncut counts side → state_at (site_of old side) x ≡ Some s → 0 < rounds
+      → IsTold old new x side
+
+-- each user has taken what the other submitted reliably on connection x
+abbrev pub AllTaken : World → ℕ → Type 0
+AllTaken w x = (channel : ℕ) → channel < 255 → WasTaken w x A channel × WasTaken w x B channel
+
+-- so of a connection whose peers are both connected before the rounds all comes, both ways, or it ends at a side whose user is told or will be, where
 -- nothing stood in the way and they were enough
 abbrev pub ComesOrEnds : ℕ → ℕ → Calm → World → World → Type 0
-ComesOrEnds ms rounds told old new = (x : ℕ) → AreConnected old x → (is_smooth told.a && is_smooth told.b) ≡ true → AreEnough ms rounds old x
-    → ((channel : ℕ) → channel < 255 → WasTaken new x A channel × WasTaken new x B channel) ⊎ (IsEnding old new x A ⊎ IsEnding old new x B)
+ComesOrEnds ms rounds counts old new =
+    (x : ℕ) → AreConnected old x → (is_smooth counts.a && is_smooth counts.b) ≡ true → AreEnough ms rounds old x
+    → AllTaken new x ⊎ (IsToldOrWillBe old new x A ⊎ IsToldOrWillBe old new x B)

@@ -151,12 +151,13 @@ impl World {
     /// all timeouts of what waited for its acknowledgement at first are over, at both, and twice as many come after it as data commands
     /// were queued or waited at first, at both, on all channels: so are as many as `World::rounds_needed` tells.
     ///
-    /// `told`: no connection goes in silence. Of each peer that is connected at a side before the rounds, where that side wasn't cut short
-    /// (`Share::cut_short` is 0): it is connected after them, under the same name, or the last event that its user has taken of it, in the
-    /// rounds, is its Disconnect. Or the side is A, which puts out first in a round, and the other's DISCONNECT came in the last one and has
-    /// yet to be acknowledged (`PeerState::AckDisconnect`): the user of such a peer takes its Disconnect in one more round. `all`: so once the
-    /// network loses nothing, all comes, both ways, or the connection ends at a side, whose user is told; where nothing stood in the way, and
-    /// the rounds were enough. That peers stay connected isn't said.
+    /// `told`: no peer that was connected goes in silence. Of each that is connected at a side before the rounds, where that side wasn't cut
+    /// short (`Share::cut_short` is 0): it is connected after them, under the same name, or it is gone, and the last event that its user has
+    /// taken of it, in the rounds, is its Disconnect. Or the side is A, which puts out first in a round, and the other's DISCONNECT has yet to
+    /// be acknowledged (`PeerState::AckDisconnect`): of such a peer, and of one that has ended, a round that isn't cut short there tells its
+    /// user. `all`: so once the network loses nothing, of a connection that is connected at both sides before the rounds all comes, both ways,
+    /// or it ends at a side, whose user is told or will be; where nothing stood in the way (what comes to a peer that has ended is stopped),
+    /// and the rounds were enough. That peers stay connected isn't said, nor that a peer's user is told once the other end is gone.
     ///
     /// `delivered`: what a side has nothing left of has arrived. Where the peer of an end stands, still sends, and has no reliable command
     /// of a channel queued or unacknowledged after the rounds, each reliable packet that its user submitted there, and that went in order,
