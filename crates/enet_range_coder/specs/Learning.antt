@@ -20,11 +20,19 @@ unfoldable pub last_below : ℕ → List Cell → ℕ → ℕ → ℕ → ℕ
 last_below zero cells place before byte = before
 last_below (suc left) cells place before byte = if place == 0 then before else (if nat_le byte (cell_at cells place).byte then before else last_below left cells (cell_at cells place).next place byte)
 
--- a chain's weights halved, rounded up
+-- half of a weight, rounded up
+abbrev pub halve_weight : ℕ → ℕ
+halve_weight weight = weight - weight / 2
+
+-- a cell whose weight is halved
+abbrev pub halved_cell : Cell → Cell
+halved_cell cell = record cell { weight = halve_weight cell.weight }
+
+-- a chain's weights halved
 unfoldable pub halve : ℕ → List Cell → ℕ → List Cell
 halve zero cells place = cells
 halve (suc left) cells place = if place == 0 then cells
-    else halve left (cell_set cells place (record (cell_at cells place) { weight = (cell_at cells place).weight - (cell_at cells place).weight / 2 })) (cell_at cells place).next
+    else halve left (cell_set cells place (halved_cell (cell_at cells place))) (cell_at cells place).next
 
 -- a cell more
 abbrev pub fresh : ℕ → ℕ → ℕ → Cell
@@ -43,21 +51,35 @@ abbrev pub with_first : Coder → ℕ → ℕ → Coder
 with_first m place first = put m place (record (cell_at m.cells place) { first = first })
 
 -- a context has a byte more
+abbrev pub grown_cell : Cell → Cell
+grown_cell cell = record cell { unseen = min (cell.unseen + 5) 65535 }
+
 abbrev pub grown : Coder → ℕ → Coder
-grown m place = put m place (record (cell_at m.cells place) { unseen = min ((cell_at m.cells place).unseen + 5) 65535 })
+grown m place = put m place (grown_cell (cell_at m.cells place))
+
+-- a byte is counted twice more
+abbrev pub weighed_cell : Cell → Cell
+weighed_cell cell = record cell { weight = min (cell.weight + 2) 255 }
 
 abbrev pub weighed : Coder → ℕ → Coder
-weighed m place = put m place (record (cell_at m.cells place) { weight = min ((cell_at m.cells place).weight + 2) 255 })
+weighed m place = put m place (weighed_cell (cell_at m.cells place))
 
--- all weights of a context halved, rounded up
+-- all weights of a context halved
+abbrev pub halved_unseen : Cell → Cell
+halved_unseen cell = record cell { unseen = halve_weight cell.unseen }
+
 abbrev pub halved_in : Coder → ℕ → Coder
 halved_in m context = record m {
-  cells = halve 256 (cell_set m.cells context (record (cell_at m.cells context) { unseen = (cell_at m.cells context).unseen - (cell_at m.cells context).unseen / 2 })) (cell_at m.cells context).first;
+  cells = halve 256 (cell_set m.cells context (halved_unseen (cell_at m.cells context))) (cell_at m.cells context).first;
 }
+
+-- a context is halved once a byte of this weight was counted again
+abbrev pub is_heavy : ℕ → Bool
+is_heavy weight = nat_lt 251 weight
 
 -- a byte that a context has is counted
 unfoldable pub counted : Coder → ℕ → ℕ → Coder
-counted m context place = if nat_lt 251 (cell_at m.cells place).weight then halved_in (weighed m place) context else weighed m place
+counted m context place = if is_heavy (cell_at m.cells place).weight then halved_in (weighed m place) context else weighed m place
 
 -- a new cell stands behind the cell `before` of a context, or is its first where that is 0
 abbrev pub led : Coder → ℕ → ℕ → ℕ → Coder
@@ -86,12 +108,12 @@ unfoldable pub noted_in : Coder → ℕ → ℕ → Noting
 noted_in m context byte = if has m (place_in m context byte) byte then record { memory = counted m context (place_in m context byte); cell = place_in m context byte; is_new = false }
     else record { memory = planted m context (before_in m context byte) (place_in m context byte) byte; cell = m.used; is_new = true }
 
--- the empty context, which has all bytes
-abbrev pub halve_weight : ℕ → ℕ
-halve_weight weight = weight - weight / 2
+-- the empty context has all bytes, each weight less 1; it is halved once a byte where this stands was counted again
+abbrev pub is_heavy_root : ℕ → Bool
+is_heavy_root weight = nat_le 250 weight
 
 unfoldable pub root_weighed : List ℕ → ℕ → List ℕ
-root_weighed weights byte = if nat_le 250 (slice_index weights byte) then map halve_weight (slice_set weights byte (min (slice_index weights byte + 3) 255)) else slice_set weights byte (min (slice_index weights byte + 3) 255)
+root_weighed weights byte = if is_heavy_root (slice_index weights byte) then map halve_weight (slice_set weights byte (min (slice_index weights byte + 3) 255)) else slice_set weights byte (min (slice_index weights byte + 3) 255)
 
 unfoldable pub noted_root : Coder → ℕ → Noting
 noted_root m byte =
@@ -105,18 +127,30 @@ noted m context byte = if context == 0 then noted_root m byte else noted_in m co
 abbrev pub linked : Coder → ℕ → ℕ → Coder
 linked m longer cell = if longer == 0 then record m { here = cell } else with_shorter m longer cell
 
+-- a byte is noted in the next shorter context, too: the empty one has none
+abbrev pub goes_on : Bool → ℕ → Bool
+goes_on is_new context = is_new && not (context == 0)
+
 -- a byte is noted in a context and all shorter ones, at most so many, up to the first that has it
 unfoldable pub learned_from : ℕ → Coder → ℕ → ℕ → ℕ → Coder
 learned_from zero m context longer byte = m
 learned_from (suc left) m context longer byte =
-    if (noted m context byte).is_new && not (context == 0) then learned_from left (linked (noted m context byte).memory longer (noted m context byte).cell)
+    if goes_on (noted m context byte).is_new context then learned_from left (linked (noted m context byte).memory longer (noted m context byte).cell)
     (cell_at (linked (noted m context byte).memory longer (noted m context byte).cell).cells context).shorter (noted m context byte).cell byte
     else linked (noted m context byte).memory longer (noted m context byte).cell
 
--- a context has two bytes at most, and a memory that is full is cleared
+-- a memory of so many cells is full
+abbrev pub is_full : ℕ → Bool
+is_full used = nat_le 4094 used
+
+-- a context has two bytes at most
+abbrev pub is_longest : ℕ → Bool
+is_longest length = nat_le 2 length
+
+-- a memory that is full is cleared
 unfoldable pub stepped : Coder → Coder
-stepped m = if nat_le 4094 m.used then nothing_learned
-    else (if nat_le 2 m.length then record m { here = (cell_at m.cells m.here).shorter } else record m { length = m.length + 1 })
+stepped m = if is_full m.used then nothing_learned
+    else (if is_longest m.length then record m { here = (cell_at m.cells m.here).shorter } else record m { length = m.length + 1 })
 
 abbrev pub learned : Coder → ℕ → Coder
 learned m byte = stepped (learned_from 3 m m.here 0 byte)

@@ -27,10 +27,14 @@ is_apart s = not (s.low / 16777216 == (s.low + s.range) / 16777216)
 abbrev pub is_settled : Span → Bool
 is_settled s = nat_le 65536 s.range && is_apart s
 
+-- a number of 32 bits without its top byte, and a zero byte behind it
+abbrev pub without_top : ℕ → ℕ
+without_top low = low % 16777216 * 256
+
 -- without its top byte; cut at the next multiple of 2 ^ 16 where the top bytes differ
 abbrev pub shifted : Span → Span
 shifted s = record {
-  low = s.low % 16777216 * 256;
+  low = without_top s.low;
   range = (if is_apart s then 65536 - s.low % 65536 else s.range) * 256;
 }
 
@@ -51,7 +55,7 @@ coded s c = put_out 3 (narrowed s c)
 -- the end: the bytes of `low` without zeros behind them
 unfoldable pub ending : ℕ → ℕ → List ℕ
 ending zero low = []
-ending (suc left) low = if low == 0 then [] else low / 16777216 ∷ ending left (low % 16777216 * 256)
+ending (suc left) low = if low == 0 then [] else low / 16777216 ∷ ending left (without_top low)
 
 -- a byte, 0 behind the last
 abbrev pub byte_at : List ℕ → ℕ → ℕ

@@ -2,7 +2,7 @@
 
 ghost use Rattle.std.specs.Prelude.{◌≡◌, ◌%◌, max, slice_set};
 ghost use Rattle.enet_range_coder.specs.Memory.{cell_at};
-ghost use Rattle.enet_range_coder.specs.Learning.{fresh};
+ghost use Rattle.enet_range_coder.specs.Learning.{fresh, halved_cell, grown_cell, weighed_cell, halved_unseen, is_heavy};
 
 /// How many cells there are; the first stands for the empty context.
 pub(crate) const CELLS: usize = 4096;
@@ -45,6 +45,45 @@ impl Cell {
         ensures { result ≡ max self.weight 1 }
     {
         self.weight.max(1) as u32
+    }
+
+    /// Whether its context is halved once it is counted again.
+    pub(crate) fn is_heavy(self) -> bool
+        ensures { result ≡ is_heavy self.weight }
+    {
+        self.weight > 251
+    }
+
+    /// The cell, counted twice more.
+    pub(crate) fn weighed(self) -> Cell
+        ensures { result ≡ weighed_cell self }
+    {
+        let weight = self.weight.saturating_add(2);
+        Cell { weight, ..self }
+    }
+
+    /// The cell with half its weight, rounded up.
+    pub(crate) fn halved(self) -> Cell
+        ensures { result ≡ halved_cell self }
+    {
+        let weight = self.weight - self.weight / 2;
+        Cell { weight, ..self }
+    }
+
+    /// As a context: the cell with a byte more.
+    pub(crate) fn grown(self) -> Cell
+        ensures { result ≡ grown_cell self }
+    {
+        let unseen = self.unseen.saturating_add(5);
+        Cell { unseen, ..self }
+    }
+
+    /// As a context: the cell with half the weight of all bytes that it hasn't, rounded up.
+    pub(crate) fn unseen_halved(self) -> Cell
+        ensures { result ≡ halved_unseen self }
+    {
+        let unseen = self.unseen - self.unseen / 2;
+        Cell { unseen, ..self }
     }
 }
 

@@ -99,7 +99,6 @@ pub(crate) fn halve(cells: &mut [Cell; CELLS], place: u16, left: u16)
         return;
     }
     let cell = cell_at(cells, place);
-    let weight = cell.weight - cell.weight / 2;
-    put_cell(cells, place, Cell { weight, ..cell });
+    put_cell(cells, place, cell.halved());
     halve(cells, cell.next, left - 1)
 }

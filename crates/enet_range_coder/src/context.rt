@@ -1,6 +1,6 @@
 //! How a context shares out an interval.
 
-ghost use Rattle.std.specs.Prelude.{◌≡◌, ◌+◌, ◌≤◌, ◌&&◌, IfSome, nat_lt, nat_le};
+ghost use Rattle.std.specs.Prelude.{◌≡◌, ◌+◌, ◌-◌, ◌≤◌, ◌&&◌, IfSome, nat_lt, nat_le};
 ghost use Rattle.enet_range_coder.specs.Context.{total, weigh, find, reach, share_of, aim_at};
 ghost use Rattle.enet_range_coder.specs.Memory.{context_at};
 ghost use Rattle.enet_range_coder.specs.Private.Meant.{cut_meant, place_meant, share_meant, aim_meant};
@@ -68,6 +68,14 @@ impl Weights {
             size: self.unseen,
             total: self.total,
         }
+    }
+
+    /// How many of so many shares lie above the part of all bytes that a context hasn't.
+    fn above_escape(self, aim: u32) -> u32
+        requires { self.unseen ≤ aim }
+        ensures { result ≡ aim - self.unseen }
+    {
+        aim - self.unseen
     }
 }
 
@@ -143,7 +151,7 @@ impl Coder {
         if aim < weights.unseen {
             return Aim::Leave(weights.escape());
         }
-        match self.reached(context, aim - weights.unseen) {
+        match self.reached(context, weights.above_escape(aim)) {
             None => Aim::Leave(weights.escape()),
             Some(byte) => Aim::At(byte),
         }

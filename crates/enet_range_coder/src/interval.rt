@@ -1,7 +1,7 @@
 //! The interval of 32 bits that a coder narrows.
 
 ghost use Rattle.std.specs.Prelude.{◌≡◌, ◌+◌, ◌-◌, ◌/◌, ◌<◌, ◌≤◌, max, [], ◌∷◌, ◌++◌, IfSome};
-ghost use Rattle.enet_range_coder.specs.Span.{whole, narrowed, is_apart, is_settled, shifted, put_out, coded, ending};
+ghost use Rattle.enet_range_coder.specs.Span.{whole, narrowed, is_apart, is_settled, without_top, shifted, put_out, coded, ending};
 ghost use Rattle.enet_range_coder.specs.Private.Span.{IsSpan, IsWide, IsCut};
 ghost use Rattle.enet_range_coder.specs.Private.Meant.{span_meant, cut_meant, said, Puts};
 
@@ -26,6 +26,13 @@ pub(crate) struct Coded {
     pub(crate) interval: Interval,
     pub(crate) bytes: [u8; 9],
     pub(crate) count: usize,
+}
+
+/// A number of 32 bits without its top byte, and a zero byte behind it.
+fn without_top(low: u64) -> u64
+    ensures { result ≡ without_top low }
+{
+    low % TOP * 256
 }
 
 impl Interval {
@@ -92,7 +99,7 @@ impl Interval {
             self.range
         };
         Interval {
-            low: self.low % TOP * 256,
+            low: without_top(self.low),
             range: range * 256,
         }
     }
@@ -173,7 +180,7 @@ impl Coded {
         if left == 0 || self.interval.low == 0 {
             return self;
         }
-        let low = self.interval.low % TOP * 256;
+        let low = without_top(self.interval.low);
         let next = self.with_top(Interval { low, range: 0 });
         next.end(left - 1)
     }

@@ -2,7 +2,7 @@
 
 ghost use Rattle.std.specs.Prelude.{◌≡◌, ◌+◌, ◌==◌, ◌<◌, if◌then◌else◌};
 ghost use Rattle.enet_range_coder.specs.Memory.{cell_at};
-ghost use Rattle.enet_range_coder.specs.Learning.{add, with_shorter, with_next, with_first, grown, weighed, halved_in, counted, led, planted, before_in, place_in, has, noted_in, noted_root, noted, linked, learned_from, stepped, learned};
+ghost use Rattle.enet_range_coder.specs.Learning.{add, with_shorter, with_next, with_first, grown, weighed, halved_in, counted, led, planted, before_in, place_in, has, noted_in, noted_root, noted, linked, goes_on, learned_from, is_full, is_longest, stepped, learned};
 
 use crate::cell::Cell;
 use crate::chain::{BYTES, halve, last_below};
@@ -20,6 +20,29 @@ struct Noted {
     is_new: bool,
 }
 
+impl Noted {
+    /// Whether the byte is learned in the next shorter context, too: one that had it ends that, and the empty one has none.
+    fn goes_on(self, context: u16) -> bool
+        ensures { result ≡ goes_on self.is_new context }
+    {
+        self.is_new && context != 0
+    }
+}
+
+/// Whether so many cells are too many to go on with.
+fn is_full(used: u16) -> bool
+    ensures { result ≡ is_full used }
+{
+    used >= FULL
+}
+
+/// Whether no context has more bytes.
+fn is_longest(length: u16) -> bool
+    ensures { result ≡ is_longest length }
+{
+    length >= 2
+}
+
 impl Coder {
     /// Learns a byte in each current context up to the first that had it, and goes on to the contexts that end in it.
     pub(crate) fn learn(&mut self, byte: u8)
@@ -33,9 +56,9 @@ impl Coder {
     fn step(&mut self)
         ensures { self.new ≡ stepped self.old }
     {
-        if self.used >= FULL {
+        if is_full(self.used) {
             self.clear();
-        } else if self.length >= 2 {
+        } else if is_longest(self.length) {
             self.here = self.at(self.here).shorter;
         } else {
             self.length += 1;
@@ -51,7 +74,7 @@ impl Coder {
         }
         let noted = self.note(context, byte);
         self.link(longer, noted.cell);
-        if noted.is_new && context != 0 {
+        if noted.goes_on(context) {
             let shorter = self.at(context).shorter;
             self.learn_from(shorter, noted.cell, byte, left - 1);
         }
@@ -155,9 +178,9 @@ impl Coder {
     fn count(&mut self, context: u16, place: u16)
         ensures { self.new ≡ counted self.old context place }
     {
-        let had = self.at(place).weight;
+        let heavy = self.at(place).is_heavy();
         self.weigh(place);
-        if had > 251 {
+        if heavy {
             self.halve_in(context);
         }
     }
@@ -167,8 +190,7 @@ impl Coder {
         ensures { self.new ≡ weighed self.old place }
     {
         let cell = self.at(place);
-        let weight = cell.weight.saturating_add(2);
-        self.put(place, Cell { weight, ..cell });
+        self.put(place, cell.weighed());
     }
 
     /// Puts a byte that a context hasn't behind the cell `before`, 0 for none, and before the cell `place`.
@@ -225,8 +247,7 @@ impl Coder {
         ensures { self.new ≡ grown self.old context }
     {
         let cell = self.at(context);
-        let unseen = cell.unseen.saturating_add(5);
-        self.put(context, Cell { unseen, ..cell });
+        self.put(context, cell.grown());
     }
 
     /// Halves the weights of a context, rounded up.
@@ -234,8 +255,7 @@ impl Coder {
         ensures { self.new ≡ halved_in self.old context }
     {
         let cell = self.at(context);
-        let unseen = cell.unseen - cell.unseen / 2;
-        self.put(context, Cell { unseen, ..cell });
+        self.put(context, cell.unseen_halved());
         halve(&mut self.cells, cell.first, BYTES);
     }
 }

@@ -3,7 +3,7 @@
 ghost use Rattle.std.specs.Prelude.{◌≡◌, ◌+◌, ◌*◌, ◌≤◌, length, drop, map};
 ghost use Rattle.enet_range_coder.specs.Context.{weigh, find, reach};
 ghost use Rattle.enet_range_coder.specs.Memory.{all_from};
-ghost use Rattle.enet_range_coder.specs.Learning.{root_weighed, halve_weight};
+ghost use Rattle.enet_range_coder.specs.Learning.{root_weighed, halve_weight, is_heavy_root};
 ghost use Rattle.enet_range_coder.specs.Private.Meant.{place_meant};
 
 use crate::chain::Place;
@@ -87,9 +87,16 @@ pub(crate) fn weigh_root(weights: &mut [u8; 256], byte: u8)
     let had = weights[byte as usize];
     let up = had.saturating_add(3);
     weights[byte as usize] = up;
-    if had >= 250 {
+    if is_heavy_root(had) {
         halve_root(weights);
     }
+}
+
+/// Whether all that stands there is halved once what stands here is counted again.
+fn is_heavy_root(weight: u8) -> bool
+    ensures { result ≡ is_heavy_root weight }
+{
+    weight >= 250
 }
 
 /// Halves all that stands there, rounded up.

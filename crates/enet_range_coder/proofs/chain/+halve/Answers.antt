@@ -5,4 +5,4 @@ pub returns-then-left-eq0 : goal.returns-then-left-eq0
 returns-then-left-eq0 t c = halve_ends c.args.left c.args.cells.now c.args.place c.then-left-eq0.either
 
 pub returns : goal.returns
-returns t c = halve_goes c.args.left c.args.cells.now c.put_cell.new.cells c.halve.new.cells c.args.place c.cell_at-cell.result c.if-left-eq0.false c.if-place-eq0.false c.cell_at-cell.ensures c.put_cell.ensures c.halve.ensures
+returns t c = halve_goes c.args.left c.args.cells.now c.put_cell.new.cells c.halve.new.cells c.args.place c.cell_at-cell.result c.halved.result c.if-left-eq0.false c.if-place-eq0.false c.cell_at-cell.ensures c.halved.ensures c.put_cell.ensures c.halve.ensures
