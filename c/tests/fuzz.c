@@ -331,6 +331,12 @@ static void call_peer(int i) {
     if (way == 3) enet_peer_throttle_configure(peer, first, second, third);
 }
 
+/* What a packet gets more has whatever was there; it carries no number. */
+static void resize(ENetPacket *packet) {
+    enet_packet_resize(packet, ONE_OF(0, 1, 5000));
+    if (packet->data) memset(packet->data, 0, ENET_MIN(packet->dataLength, MARK));
+}
+
 /* Calls with a packet that the program holds: it may go to several peers, be resized before it is sent, or not be sent at all. */
 static void hold(int i) {
     ENetPacket **at = &held[take() % HELD];
@@ -344,7 +350,7 @@ static void hold(int i) {
         ENetPeer *peer = peer_of(i);
         enet_peer_send(peer, take() % CHANNELS, *at);
     } else if (way < 5) enet_host_broadcast(ends[i].host, take() % CHANNELS, *at);
-    else if ((*at)->referenceCount == 0 && way < 7 && !((*at)->flags & ENET_PACKET_FLAG_NO_ALLOCATE)) enet_packet_resize(*at, ONE_OF(0, 1, 5000));
+    else if ((*at)->referenceCount == 0 && way < 7 && !((*at)->flags & ENET_PACKET_FLAG_NO_ALLOCATE)) resize(*at);
     else if ((*at)->referenceCount == 0) enet_packet_destroy(*at);
 }
 
