@@ -1,8 +1,8 @@
 #!/usr/bin/env bash
 # Tries the edits of edits/CRATE/, which the gate leaves alone, and those of crates/CRATE/must-fail/: `check-edits.sh [--read] [CRATE..]`, where
-# no crate is named each that has some. `rt check` proves the crates as they stand, in a copy of the repository, over what checks in any clone
-# on this machine kept; where that is nothing, it takes an hour and more. Then each edit is made there and checked, in 10 to 40 seconds, and
-# is told by how the prover refuses it:
+# no crate is named each that has some. `rt check` proves the crates as they stand, in a copy of the repository, over the libraries that `rt ci`
+# left here (take-libraries.py); where it left none, that takes an hour and more. Then each edit is made there and checked, in 10 to 40 seconds,
+# and is told by how the prover refuses it:
 #
 #     false   It names values that all facts known at a goal allow and at which the goal is false, and has computed it there ('the facts known
 #             there allow values at which this goal is false'). No proof of the edited code gets past that, as long as nothing else is known.
@@ -16,8 +16,8 @@
 # proof. So is, for one, that of a call which answers 'no memory' where it likes: no clause says when memory is wanting. Passed are those that
 # are false; limit, open and proof neither pass nor fail, and are named. An edit fails of which only a name is gone, that is still proved, that
 # can't be made or read, or came to no result. With --read nothing is proved: in half a minute it shows which edits no longer fit the text, and
-# each that fits passes. Prints what failed, and for each crate how many edits became what, in how many seconds. The last line is 'N passed, M
-# failed'; the status is 1 where one failed, or nothing was tried.
+# each that fits passes. Prints how many libraries it took, what failed, and for each crate how many edits became what, in how many seconds. The
+# last line is 'N passed, M failed'; the status is 1 where one failed, or nothing was tried.
 cd "$(dirname "$0")/.." || exit 1
 . scripts/tally.sh
 
@@ -171,6 +171,7 @@ for crate; do
 done
 if [ ${#known[@]} -gt 0 ]; then
     if copy "${known[@]}"; then
+        [ "$way" = read ] || python3 scripts/take-libraries.py . "$copy"
         for crate in "${known[@]}"; do
             "${way}_all" "$crate"
         done

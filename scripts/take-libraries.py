@@ -1,0 +1,68 @@
+"""take-libraries.py FROM TO: libraries that `rt ci` proved in the checkout FROM, for the checkout TO.
+
+`rt check` builds the libraries below a crate by itself, from nothing, in an hour and more. It takes none that `rt ci` left, since those have no
+stamp, which says of which text they are: they fit one another, and no library that a check built. So here each gets a stamp in TO that is newer
+than all files of its crate in FROM, where the same text stands in TO, and all below it are taken, too. A check in TO then proves only what differs.
+It is a help to whoever writes: `rt ci` takes nothing of it.
+
+Waits until no `rt` works in either checkout. Prints how many were taken. It stands on the kit's `rtlib`.
+"""
+
+import functools
+import importlib.util
+import os
+import shutil
+import subprocess
+import sys
+
+sys.dont_write_bytecode = True
+
+
+def load_rtlib():
+    """Returns the kit's module that knows crates. A stamp is made once here, where the kit makes those of all below anew each time."""
+    page = subprocess.run(["rt", "doc"], check=True, stdout=subprocess.PIPE, text=True).stdout
+    spec = importlib.util.spec_from_file_location("rtlib", f"{os.path.dirname(page)}/bin/rtlib.py")
+    made = importlib.util.module_from_spec(spec)
+    sys.modules["rtlib"] = made
+    spec.loader.exec_module(made)
+    made.Crate.stamp = functools.cache(made.Crate.stamp)
+    return made
+
+
+def is_left(rtlib, crate):
+    """Returns whether `rt ci` left the crate's library, and nothing in its folders was written since."""
+    files = rtlib.files_of(crate.folder)
+    newest = max(os.path.getmtime(it) for it in {*files, *map(os.path.dirname, files)})
+    has_stamp = os.path.exists(f"{os.path.dirname(crate.rlib)}/stamp")
+    return os.path.isdir(crate.rlib) and not has_stamp and os.path.getmtime(crate.rlib) > newest
+
+
+def take(crate, to):
+    """Copies the library of a crate to where the same text stands, with its stamp."""
+    room = os.path.dirname(to.rlib)
+    shutil.rmtree(room, ignore_errors=True)
+    os.makedirs(room)
+    shutil.copytree(crate.rlib, to.rlib)
+    with open(f"{room}/stamp", "w", encoding="utf-8") as it:
+        it.write(to.stamp())
+
+
+def main():
+    if len(sys.argv) != 3 or os.path.samefile(*sys.argv[1:]):
+        sys.exit("usage: take-libraries.py FROM TO, two checkouts")
+    rtlib = load_rtlib()
+    ours, theirs = ({it.name: it for it in rtlib.crates_below(os.path.abspath(top))} for top in sys.argv[1:])
+    held = rtlib.lock([*ours.values(), *theirs.values()])
+    taken = set()
+    for name, crate in sorted(ours.items(), key=lambda it: len(it[1].below())):
+        to = theirs.get(name)
+        has_below = all(it.name in taken for it in crate.below())
+        if to and not to.is_program and has_below and is_left(rtlib, crate) and crate.stamp() == to.stamp():
+            take(crate, to)
+            taken.add(name)
+    for it in held:
+        os.close(it)
+    print(f"{len(taken)} libraries taken")
+
+
+main()
