@@ -49,7 +49,8 @@ outcome_text host to datagram (Err refusal) = label_of refusal
 
 -- What a side did in rounds without losses, and both.
 unfoldable pub share_text : Share → List ℕ
-share_text s = codes "sent " ++ decimal s.sent ++ codes " refused " ++ decimal s.refused ++ codes " taken " ++ decimal s.taken
+share_text s = codes "sent " ++ decimal s.sent ++ codes " refused " ++ decimal s.refused ++ codes " stopped " ++ decimal s.stopped ++ codes " taken " ++ decimal s.taken
+    ++ codes " cut " ++ decimal s.cut_short
 
 abbrev pub calm_text : Calm → List ℕ
 calm_text told = codes "A " ++ share_text told.a ++ codes " B " ++ share_text told.b

@@ -105,10 +105,13 @@ fn share_text(alloc: Global, share: Share) -> Result<String, AllocError>
     let Share {
         sent,
         refused,
+        stopped,
         taken,
-        ..
+        cut_short,
     } = share;
-    format!(in alloc; "sent {sent} refused {refused} taken {taken}")
+    format!(in alloc;
+        "sent {sent} refused {refused} stopped {stopped} taken {taken} cut {cut_short}"
+    )
 }
 
 fn to_text(alloc: Global, to: Option<Recipient>) -> Result<String, AllocError>
