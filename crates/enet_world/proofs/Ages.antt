@@ -1,4 +1,4 @@
--- How long what was sent has waited at the peers of a world, by how much its clocks have gone on since its beginning.
+-- How long what was sent has waited at the peers of a world, by how much its clocks have gone on since its beginning, and how soon they ping.
 use Rattle.std.proofs.Common.{◌≡◌, ℕ, zero, suc, ◌+◌, ◌*◌, ◌%◌, ◌^◌, ◌<◌, ◌≤◌, ◌==◌, ◌&&◌, min, ◌⊎◌, inl, inr, Bool, true, false, cond, List, [], ◌∷◌, ◌++◌, append-nil, refl, sym, ap, subst, ◌∙◌, arith, Option, Some, None, Result, Ok, Err, nat_lt}
 use Rattle.std.proofs.lemmas.Bool.Decides.{nat_tests}
 use Rattle.std.specs.List.{slice_get}
@@ -60,13 +60,14 @@ use Rattle.enet_world.specs.Worlds.{first}
 use Rattle.enet_world.specs.Private.Worlds.{IsReachedIn, passes, all_pass}
 use Rattle.enet_world.specs.Private.Enough.{AreOverIn}
 use Rattle.enet_world.proofs.Lasting.{obeys}
+use Rattle.enet_world.proofs.PingInterval.{PingsSoon, pings-obeyed, pings-takes, pings-went, pings-left, pings-ticked}
 
 same-peer : (p q : Peering) → ◌≡◌ {A = Option Peering} (Some p) (Some q) → p ≡ q
 same-peer p q e = cc
 
 -- ---- what a peer does at a moment
 -- a deed that is none of time, at a moment, and sets nothing of how long the peer waits
-abbrev IsNow : ℕ → Deed → Type 0
+abbrev pub IsNow : ℕ → Deed → Type 0
 IsNow n (deed.Submit packet answer) = Unit {0}
 IsNow n (deed.Emit now given) = now ≡ n
 IsNow n (deed.Come now sent m answer) = now ≡ n
@@ -76,25 +77,32 @@ IsNow n (deed.Disconnect way info answer) = Unit {0}
 IsNow n (deed.Set (setting.ThrottleLimit limit) answer) = Unit {0}
 IsNow n (deed.Set s answer) = ⊥
 
-abbrev AreNow : ℕ → List Deed → Type 0
+abbrev pub AreNow : ℕ → List Deed → Type 0
 AreNow n [] = Unit {0}
 AreNow n (d ∷ ds) = IsNow n d × AreNow n ds
 
-abbrev Keeps : ℕ → ℕ → Peering → Type 0
-Keeps now time p = Ages now time p × IsWide p
+abbrev pub Keeps : ℕ → ℕ → Peering → Type 0
+Keeps now time p = Ages now time p × IsWide p × PingsSoon p
+
+low-now : (n now : ℕ) → n ≡ now % 2 ^ 32 → n < 2 ^ 32
+low-now n now e = omega arith
 
 deed-keeps : (now time : ℕ) (d : Deed) (p q : Peering) → IsNow (now % 2 ^ 32) d → Alone d p q → Keeps now time p → Keeps now time q
-deed-keeps now time (deed.Submit x (Ok done)) p q at a h = subst (Keeps now time) (sym a.1) (fair-submitted (Aged now time) most p x.channel (record { flags = x.flags; body = x.body }) h.0, h.1)
+deed-keeps now time (deed.Submit x (Ok done)) p q at a h = subst (Keeps now time) (sym a.1) (fair-submitted (Aged now time) most p x.channel (record { flags = x.flags; body = x.body }) h.0, h.1, h.2)
 deed-keeps now time (deed.Submit x (Err why)) p q at a h = subst (Keeps now time) (sym a.1) h
 deed-keeps now time (deed.Emit n given) p q at a h =
-    subst (Keeps now time) (sym (a.1 ∙ ap (λ m. emitted p m) at)) (ages-emitted now time p h.0, wide-went (record p { outbox = (filled (pace_of p (now % 2 ^ 32)) p.outbox).outbox }) p.state h.1)
+    subst (Keeps now time) (sym (a.1 ∙ ap (λ m. emitted p m) at)) (
+      ages-emitted now time p h.0,
+      wide-went (record p { outbox = (filled (pace_of p (now % 2 ^ 32)) p.outbox).outbox }) p.state h.1,
+      pings-went (record p { outbox = (filled (pace_of p (now % 2 ^ 32)) p.outbox).outbox }) p.state h.2,
+    )
 deed-keeps now time (deed.Come n sent m answer) p q at a h =
-    obeys (Keeps now time) answer (wants_memory p n sent m) (obeyed p n sent m) p q a h (fair-obeyed (Aged now time) most p n sent m h.0, wide-obeyed p n sent m h.1)
+    obeys (Keeps now time) answer (wants_memory p n sent m) (obeyed p n sent m) p q a h (fair-obeyed (Aged now time) most p n sent m h.0, wide-obeyed p n sent m h.1, pings-obeyed p n sent m (low-now n now at) h.2)
 deed-keeps now time (deed.Tick n) p q at a h = absurd at
 deed-keeps now time (deed.Take None) p q at a h = subst (Keeps now time) (sym a.1) h
-deed-keeps now time (deed.Take (Some e)) p q at a h = subst (λ t. Keeps now time (after_take p t)) a (fair-takes (Aged now time) most p h.0, wide-takes p h.1)
+deed-keeps now time (deed.Take (Some e)) p q at a h = subst (λ t. Keeps now time (after_take p t)) a (fair-takes (Aged now time) most p h.0, wide-takes p h.1, pings-takes p h.2)
 deed-keeps now time (deed.Disconnect way info (Ok done)) p q at a h =
-    subst (λ (o : Option Peering). Keeps now time (after_leave p o)) a (fair-left (Aged now time) most p (leave_by way p.state) info h.0, wide-left p (leave_by way p.state) info h.1)
+    subst (λ (o : Option Peering). Keeps now time (after_leave p o)) a (fair-left (Aged now time) most p (leave_by way p.state) info h.0, wide-left p (leave_by way p.state) info h.1, pings-left p (leave_by way p.state) info h.2)
 deed-keeps now time (deed.Disconnect way info (Err why)) p q at a h = subst (Keeps now time) (sym a.2) h
 deed-keeps now time (deed.Set (setting.ThrottleLimit limit) (Ok done)) p q at a h = (let set = was-set (setting.ThrottleLimit limit) done p q a in subst (Keeps now time) (sym set.1) h)
 deed-keeps now time (deed.Set (setting.ThrottleLimit limit) (Err why)) p q at a h = subst (Keeps now time) (sym (matches.refused (deed.Set (setting.ThrottleLimit limit) (Err why)) p q a refl)) h
@@ -106,7 +114,7 @@ deeds-keep now time (d ∷ ds) p q at a h = deeds-keep now time ds a.0 q at.1 a.
 
 -- ---- what falls to a peer by a call
 -- a call that is none of time, and sets nothing
-abbrev IsStill : Call → Type 0
+abbrev pub IsStill : Call → Type 0
 IsStill (call.Tick ms) = ⊥
 IsStill (call.SetBandwidth incoming outgoing answer) = ⊥
 IsStill (call.ConfigureThrottle name interval acceleration deceleration answer) = ⊥
@@ -114,7 +122,7 @@ IsStill (call.SetPingInterval name ms answer) = ⊥
 IsStill (call.SetTimeout name limit minimum maximum answer) = ⊥
 IsStill c = Unit {0}
 
-if-now : (n : ℕ) (b : Bool) (d : Deed) → IsNow n d → AreNow n (deeds_if b d)
+pub if-now : (n : ℕ) (b : Bool) (d : Deed) → IsNow n d → AreNow n (deeds_if b d)
 if-now n true d at = (at, tt)
 if-now n false d at = tt
 
@@ -137,7 +145,7 @@ reaches-now i s r ds (falling.elsewhere header commands read not-here) = tt
 reaches-now i s r ds (falling.turned_away header commands why read some is refused told) = tt
 reaches-now i s r ds (falling.here header commands ds' read some is taken f) = falls-now _ 0 commands r.answer ds' f
 
-fell-now : (h : Common) (x : Occupied) (c : Call) (ds : List Deed) → IsStill c → Fell h x c ds → AreNow h.clock ds
+pub fell-now : (h : Common) (x : Occupied) (c : Call) (ds : List Deed) → IsStill c → Fell h x c ds → AreNow h.clock ds
 fell-now h x (call.Connect address channels info word answer) ds k f = subst (AreNow h.clock) (sym f) tt
 fell-now h x (call.Submit name channel q answer) ds k f = subst (AreNow h.clock) (sym f) (if-now h.clock (falling.is_meant name x.number x.slot) _ tt)
 fell-now h x (call.Receive from bytes answer) ds k f = reaches-now x.number x.slot _ ds f
@@ -164,24 +172,24 @@ pub record HostAges (time : ℕ) (h : Host) : Type 0 where
   pub peers : (name : PeerRef) (p : Peering) → named h.slots name ≡ Some p → Keeps now time p
 
 host-more : (time more : ℕ) (h : Host) → time ≤ more → HostAges time h → HostAges more h
-host-more time more h low k = record { now = k.now; clock = k.clock; mtu = k.mtu; peers = λ name p is. (let a = k.peers name p is in (ages-more k.now time more p low a.0, a.1)) }
+host-more time more h low k = record { now = k.now; clock = k.clock; mtu = k.mtu; peers = λ name p is. (let a = k.peers name p is in (ages-more k.now time more p low a.0, a.1, a.2)) }
 
 -- a peer that begins has sent nothing
-joined-keeps : (now time : ℕ) (c : Config) → 576 ≤ c.mtu → Keeps now time (peers.joined c.clock (joined_terms c) (limits_of c))
-joined-keeps now time c wide = ((((λ t k. absurd k), none-new (Aged now time) 0 _), record { round_trip = omega arith; variance = omega arith }, refl), wide)
+joined-keeps : (now time : ℕ) (c : Config) → 576 ≤ c.mtu → c.clock < 2 ^ 32 → Keeps now time (peers.joined c.clock (joined_terms c) (limits_of c))
+joined-keeps now time c wide low = ((((λ t k. absurd k), none-new (Aged now time) 0 _), record { round_trip = omega arith; variance = omega arith }, refl), wide, (refl, low))
 
-begun-keeps : (now time : ℕ) (c : Call) (h : Host) (i : ℕ) (s t : SlotState) (p : Peering) → 576 ≤ h.config.mtu → falling.Begins c (common_of h) i s t → t.peer ≡ Some p → Keeps now time p
-begun-keeps now time c h i s t p wide (falling.asks address channels info word is some free) has =
-    subst (Keeps now time) (same-peer _ p has) ((((λ t' k. absurd k), none-new (Aged now time) 0 _), record { round_trip = omega arith; variance = omega arith }, refl), wide)
-begun-keeps now time c h i s t p wide (falling.answers from bytes commands header o is read nobody offer taken new free) has =
-    subst (Keeps now time) (same-peer _ p has) ((((λ t' k. absurd k), none-new (Aged now time) 0 _), record { round_trip = omega arith; variance = omega arith }, refl), at-least o.mtu h.config.mtu)
+begun-keeps : (now time : ℕ) (c : Call) (h : Host) (i : ℕ) (s t : SlotState) (p : Peering) → 576 ≤ h.config.mtu → h.clock < 2 ^ 32 → falling.Begins c (common_of h) i s t → t.peer ≡ Some p → Keeps now time p
+begun-keeps now time c h i s t p wide low (falling.asks address channels info word is some free) has =
+    subst (Keeps now time) (same-peer _ p has) ((((λ t' k. absurd k), none-new (Aged now time) 0 _), record { round_trip = omega arith; variance = omega arith }, refl), wide, (refl, low))
+begun-keeps now time c h i s t p wide low (falling.answers from bytes commands header o is read nobody offer taken new free) has =
+    subst (Keeps now time) (same-peer _ p has) ((((λ t' k. absurd k), none-new (Aged now time) 0 _), record { round_trip = omega arith; variance = omega arith }, refl), at-least o.mtu h.config.mtu, (refl, low))
 
-still-clock : (c : Call) (n : ℕ) → IsStill c → clock_by c n ≡ n
+pub still-clock : (c : Call) (n : ℕ) → IsStill c → clock_by c n ≡ n
 still-clock (call.Tick ms) n k = absurd k
 still-clock c n k = refl
 
 -- what fell to a slot fell to the peer there
-fell-there : (h : Host) (name : PeerRef) (c : Call) (p : Peering) (ds : List Deed) → named h.slots name ≡ Some p → fell_to (common_of h) name.slot (slot_named h.slots name) c ds
+pub fell-there : (h : Host) (name : PeerRef) (c : Call) (p : Peering) (ds : List Deed) → named h.slots name ≡ Some p → fell_to (common_of h) name.slot (slot_named h.slots name) c ds
     → (x : Occupied) × (x.peer ≡ p) × Fell (common_of h) x c ds
 fell-there h name c p ds is f = by (slot_named h.slots name) refl f
   where
@@ -194,10 +202,10 @@ fell-there h name c p ds is f = by (slot_named h.slots name) refl f
     by (Some s) at g = in-slot s at s.peer refl g
 
 -- what one call makes of each peer, where it makes that of what fell to one that was there
-by-one : (c : Call) (h g : Host) (now then' time later : ℕ) → 576 ≤ h.config.mtu → Acts c h g
+by-one : (c : Call) (h g : Host) (now then' time later : ℕ) → 576 ≤ h.config.mtu → h.clock ≡ now % 2 ^ 32 → Acts c h g
     → ((x : Occupied) (q : Peering) (ds : List Deed) → Fell (common_of h) x c ds → AllAlone ds x.peer q → Keeps now time x.peer → Keeps then' later q)
     → ((name : PeerRef) (p : Peering) → named h.slots name ≡ Some p → Keeps now time p) → (name : PeerRef) (p : Peering) → named g.slots name ≡ Some p → Keeps then' later p
-by-one c h g now then' time later wide acts goes old name p is = began l.began
+by-one c h g now then' time later wide clock acts goes old name p is = began l.began
   where
     series : Series (c ∷ [])
     series = record { before = h; after = g; steps = (g, acts, refl) }
@@ -212,7 +220,7 @@ by-one c h g now then' time later wide acts goes old name p is = began l.began
         goes there.0 p fell.0 there.2 (subst (λ (y : Peering). AllAlone fell.0 y p) (sym there.1) (subst (λ (y : List Deed). AllAlone y l.first p) same l.alone)) (subst (Keeps now time) (sym there.1) (old name l.first was))
     began (inr (inl (b, none))) =
         let same : l.first ≡ p = subst (λ (y : List Deed). AllAlone y l.first p) none l.alone in
-        subst (Keeps then' later) same (begun-keeps then' later c h name.slot b.slot b.given l.first wide b.begins b.peer)
+        subst (Keeps then' later) same (begun-keeps then' later c h name.slot b.slot b.given l.first wide (low-now h.clock now clock) b.begins b.peer)
     began (inr (inr never)) = absurd never
 
 still-mtu : (c : Call) (k : Config) → IsStill c → (config_by c k).mtu ≡ k.mtu
@@ -224,7 +232,7 @@ still-call time c h g still acts k = record {
   now = k.now;
   clock = own.1 ∙ still-clock c h.clock still ∙ k.clock;
   mtu = subst (λ n. 576 ≤ n) (sym (ap (λ (x : Config). x.mtu) own.0 ∙ still-mtu c h.config still)) k.mtu;
-  peers = by-one c h g k.now k.now time time k.mtu acts
+  peers = by-one c h g k.now k.now time time k.mtu k.clock acts
       (λ x q ds fell alone was. deeds-keep k.now time ds x.peer q (subst (λ n. AreNow n ds) k.clock (fell-now (common_of h) x c ds still fell)) alone was) k.peers;
 }
   where
@@ -236,7 +244,7 @@ tick-call time ms h g near acts k = record {
   now = k.now + d;
   clock = own.1 ∙ moment;
   mtu = subst (λ n. 576 ≤ n) (sym (ap (λ (x : Config). x.mtu) own.0)) k.mtu;
-  peers = by-one (call.Tick ms) h g k.now (k.now + d) time (time + d) k.mtu acts goes k.peers;
+  peers = by-one (call.Tick ms) h g k.now (k.now + d) time (time + d) k.mtu k.clock acts goes k.peers;
 }
   where
     d : ℕ
@@ -266,13 +274,13 @@ tick-call time ms h g near acts k = record {
         after : AllAlone (deed.Tick n ∷ share) x.peer q → Keeps (k.now + d) (time + d) q
         after (r, tick, rest) =
             let at : r ≡ ticked x.peer ((k.now + d) % 2 ^ 32) = tick ∙ ap (λ m. ticked x.peer m) moment in
-            deeds-keep (k.now + d) (time + d) share r q shares rest (subst (Keeps (k.now + d) (time + d)) (sym at) (ages-ticked k.now time d x.peer was.0 near, wide-ticked x.peer ((k.now + d) % 2 ^ 32) was.1))
+            deeds-keep (k.now + d) (time + d) share r q shares rest (subst (Keeps (k.now + d) (time + d)) (sym at) (ages-ticked k.now time d x.peer was.0 near, wide-ticked x.peer ((k.now + d) % 2 ^ 32) was.1, pings-ticked x.peer ((k.now + d) % 2 ^ 32) was.2))
 
 -- ---- a world
-abbrev WorldAges : ℕ → World → Type 0
+abbrev pub WorldAges : ℕ → World → Type 0
 WorldAges time w = (side : Side) → HostAges time (site_of w side).host
 
-abbrev IsStillThing : Happening → Type 0
+abbrev pub IsStillThing : Happening → Type 0
 IsStillThing (Calls c) = IsStill c
 IsStillThing (Delivers k answer) = Unit {0}
 
@@ -293,7 +301,7 @@ at-sides time more B what old new low h goes k B = goes (by-call (beside old.cou
 at-sides time more B what old new low h goes k A = subst (λ (s : Site). HostAges more s.host) (sym h.there) (host-more time more old.a.host low (k A))
 
 -- an event is a tick, or still
-is-tick-or : (w : World) (e : WorldEvent) (answer : Answer) (what : Happening) → Makes w e answer what → ((ms : ℕ) × (passes e ≡ min ms 60000) × (what ≡ Calls (call.Tick ms))) ⊎ IsStillThing what
+pub is-tick-or : (w : World) (e : WorldEvent) (answer : Answer) (what : Happening) → Makes w e answer what → ((ms : ℕ) × (passes e ≡ min ms 60000) × (what ≡ Calls (call.Tick ms))) ⊎ IsStillThing what
 is-tick-or w (happen.Connect side channels info word) (answers.Peer name) what m = inr (subst IsStillThing (sym m) tt)
 is-tick-or w (happen.Connect side channels info word) answer what m = absurd m
 is-tick-or w (happen.Submit side peer channel flags body) answers.Done what m = inr (subst IsStillThing (sym m) tt)
@@ -358,7 +366,7 @@ joined-ages c address wide low = record {
   now = c.clock;
   clock = low-clock c.clock low;
   mtu = wide;
-  peers = λ name p is. subst (Keeps c.clock 0) (sym (each-beginning.one c address name p is).1) (joined-keeps c.clock 0 c wide);
+  peers = λ name p is. subst (Keeps c.clock 0) (sym (each-beginning.one c address name p is).1) (joined-keeps c.clock 0 c wide low);
 }
 
 first-ages : (joined : Bool) (a b : Config) → (is_in_range a && is_in_range b) ≡ true → a.clock < 2 ^ 32 → b.clock < 2 ^ 32 → WorldAges 0 (first joined a b)

@@ -1,9 +1,7 @@
 -- A datagram that one host puts out and that comes at once to the other, where it isn't stopped: what that is to the two ends.
-use Rattle.std.proofs.Common.{◌≡◌, ◌≢◌, ◌<◌, ◌≤◌, ◌%◌, ◌&&◌, ◌⊎◌, ℕ, zero, suc, ◌+◌, Bool, true, false, cond, List, [], ◌∷◌, ◌++◌, length, map, refl, sym, ap, subst, ◌∙◌, inl, inr, arith, Option, Some, None, Result, Ok, Err, is_some}
+use Rattle.std.proofs.Common.{◌≡◌, ◌≢◌, ℕ, Bool, true, false, cond, List, [], ◌∷◌, ◌++◌, map, refl, sym, ap, subst, ◌∙◌, inl, inr, Option, Some, None, Result, Ok, Err}
 use Rattle.std.proofs.lemmas.List.{append_cancel_left}
-use Rattle.std.specs.List.{slice_get, slice_set}
-use Rattle.enet_codec.specs.declared.address.Addr.{Addr}
-use Rattle.enet_codec.specs.declared.command.Head.{Head}
+use Rattle.std.specs.List.{slice_get}
 use Rattle.enet_codec.specs.declared.command.Offer.{Offer}
 use Rattle.enet_codec.specs.declared.event.PeerRef.{PeerRef}
 use Rattle.enet_codec.specs.declared.event.Received.{Received}
@@ -12,22 +10,21 @@ use Rattle.enet_codec.specs.declared.stop.Stop.{Stop}
 use Rattle.enet_codec.specs.declared.stop.Stop.TheVariants as stop
 use Rattle.enet_codec.specs.Message.{Message, Body, acknowledge, connect, verify_connect, disconnect, ping, send_reliable, send_unreliable, send_fragment, send_unsequenced, send_unreliable_fragment, bandwidth_limit, throttle_configure}
 use Rattle.enet_outbox.specs.Emission.{filled}
-use Rattle.enet_peer.specs.Heading.{IsOffer}
 use Rattle.enet_peer.specs.declared.parts.PeerState.TheVariants as state
 use Rattle.enet_peer.specs.Peering.{Peering}
 use Rattle.enet_peer.specs.Endings.{is_later}
-use Rattle.enet_peer.specs.CommandEffect.{Outcome, obeyed, stopped, is_connect, is_allowed, unless_crowded_out, by_body, by_answer, by_arrival, on_data}
+use Rattle.enet_peer.specs.CommandEffect.{Outcome, obeyed, stopped, is_connect, is_allowed, unless_crowded_out, by_body, by_answer, by_arrival}
 use Rattle.enet_peer.specs.Calls.{pace_of}
 use Rattle.enet_inbox.specs.DataEffect.{arrival, passed_over}
 use Rattle.enet_slot.specs.Receiving.{no_peer}
 use Rattle.enet_slot.specs.Receiving as slots
-use Rattle.enet_slot.specs.Slot.{SlotState, name_of}
+use Rattle.enet_slot.specs.Slot.{SlotState}
 use Rattle.enet_host.specs.Opening.{host_basis}
 use Rattle.enet_host.specs.Receiving.{Arrives}
 use Rattle.enet_host.specs.Receiving as receiving
 use Rattle.law_connection.specs.Connection.{Put, End, messages_of, put_by}
 use Rattle.law_connection.specs.LinkSteps.{Has}
-use Rattle.law_connection.specs.Steps.{Emit, Happens, InTime, with_peer, with_messages, with_emission}
+use Rattle.law_connection.specs.Steps.{Emit, Happens, with_peer, with_emission}
 use Rattle.law_connection.proofs.Emits.{Has-from_map}
 use Rattle.law_network.specs.Log.{Logged}
 use Rattle.law_network.specs.Network.{HostEnd, Site, is_earlier, is_late}
@@ -44,8 +41,8 @@ use Rattle.law_network.proofs.OneThing.{in-none}
 use Rattle.law_network.proofs.Owned.{AreOwned}
 use Rattle.law_network.proofs.Serving.{same-header}
 use Rattle.law_progress.specs.Exchanges.{Comes, AllCome}
-use Rattle.enet_world.proofs.Lasting.{IsIn, Holds, holds-here, is_past, is_begun, past-lasts, begun-lasts, connected-or-past}
 use Rattle.enet_world.proofs.Offers.{NoOffers, filled-plain}
+use Rattle.enet_world.proofs.Staying.{hears-on}
 use Rattle.enet_world.proofs.TwoEnds.{IsOn}
 
 -- ---- where no acknowledgement is asked for, it is all one when a datagram says that it went
@@ -91,19 +88,12 @@ same-obeyed p now time sent m asks = by m.head.acknowledge refl
         ≡ obeyed p now (Some time) (record { head = record { acknowledge = b; unsequenced = m.head.unsequenced; channel = m.head.channel; number = m.head.number }; body = m.body })) (sym e)
         (unasked p now time m.head.channel m.head.number sent m.head.unsequenced m.body)
 
--- ---- what comes and isn't stopped, in the law's words
-lasts-obeyed : (now : ℕ) (sent : Option ℕ) (puts : List Put) (own far new : End) → AllObeyed now sent puts own far new → Holds (IsIn is_past) own → Holds (IsIn is_past) new
-lasts-obeyed now sent [] own far new a h = subst (Holds (IsIn is_past)) (sym a) h
-lasts-obeyed now sent (x ∷ puts) own far new a h =
-    let q : Peering = (obeyed a.0 now sent x.message).after in
-    lasts-obeyed now sent puts (with_peer own q) far new a.4 (q, refl, past-lasts.comes a.0 now sent x.message (holds-here (IsIn is_past) own a.0 a.1 h))
-
-pub all-come : (now time : ℕ) (sent : Option ℕ) (puts : List Put) (from to new : End) → ((x : Put) → Has puts x → x.message.head.acknowledge ≡ true → sent ≡ Some time) → AllObeyed now sent puts to from new → IsOn to
-    → (AllCome now time from puts to new × IsOn new) ⊎ Holds (IsIn is_past) new
+-- ---- what comes and isn't stopped, and is no DISCONNECT, in the law's words
+pub all-come : (now time : ℕ) (sent : Option ℕ) (puts : List Put) (from to new : End) → ((x : Put) → Has puts x → x.message.head.acknowledge ≡ true → sent ≡ Some time) → ((x : Put) (info : ℕ) → Has puts x → x.message.body ≡ disconnect info → ⊥)
+    → AllObeyed now sent puts to from new → IsOn to → AllCome now time from puts to new × IsOn new
 unfolding IsOn
-all-come now time sent [] from to new told a on = inl (a, subst (λ (e : End). (p : Peering) × (e.peer ≡ Some p) × (p.state ≡ state.Connected)) (sym a) on)
-all-come now time sent (x ∷ puts) from to new told a on =
-    by (connected-or-past q.state (begun-lasts.comes p now sent x.message (ap is_begun connected))) (λ stays. all-come now time sent puts from (with_peer to q) new (λ y h. told y (inr h)) a.4 (q, refl, stays))
+all-come now time sent [] from to new told none a on = (a, subst (λ (e : End). (p : Peering) × (e.peer ≡ Some p) × (p.state ≡ state.Connected)) (sym a) on)
+all-come now time sent (x ∷ puts) from to new told none a on = by (λ stays. all-come now time sent puts from (with_peer to q) new (λ y h. told y (inr h)) (λ y info h. none y info (inr h)) a.4 (q, refl, stays))
   where
     p : Peering
     p = a.0
@@ -114,14 +104,17 @@ all-come now time sent (x ∷ puts) from to new told a on =
     same : obeyed p now sent x.message ≡ obeyed p now (Some time) x.message
     same = same-obeyed p now time sent x.message (told x (inl refl))
 
+    some-peer : (b c : Peering) → ◌≡◌ {A = Option Peering} (Some b) (Some c) → b ≡ c
+    some-peer b c e = cc
+
     connected : p.state ≡ state.Connected
     connected = ap (λ (y : Peering). y.state) (some-peer p on.0 (sym a.1 ∙ on.1)) ∙ on.2
-      where
-        some-peer : (b c : Peering) → ◌≡◌ {A = Option Peering} (Some b) (Some c) → b ≡ c
-        some-peer b c e = cc
 
-    comes : q.state ≡ state.Connected → Comes now time from x to (with_peer to q)
-    comes stays = record {
+    stays : q.state ≡ state.Connected
+    stays = hears-on p now sent x.message connected (λ info e. none x info (inl refl) e)
+
+    comes : Comes now time from x to (with_peer to q)
+    comes = record {
       peer = p;
       is = a.1;
       connected = connected;
@@ -129,17 +122,9 @@ all-come now time sent (x ∷ puts) from to new told a on =
       after = inl (p, a.1, a.2, ap (λ (o : Outcome). with_peer to o.after) same);
       stays = λ r is. (let z : q ≡ r = some-peer q r is in ap (λ (y : Peering). y.state) (sym z) ∙ stays);
     }
-      where
-        some-peer : (b c : Peering) → ◌≡◌ {A = Option Peering} (Some b) (Some c) → b ≡ c
-        some-peer b c e = cc
 
-    by : (q.state ≡ state.Connected) ⊎ (is_past q.state ≡ true) → (q.state ≡ state.Connected → (AllCome now time from puts (with_peer to q) new × ((r : Peering) × (new.peer ≡ Some r) × (r.state ≡ state.Connected))) ⊎ Holds (IsIn is_past) new)
-        → (AllCome now time from (x ∷ puts) to new × ((r : Peering) × (new.peer ≡ Some r) × (r.state ≡ state.Connected))) ⊎ Holds (IsIn is_past) new
-    by (inr past) rest = inr (lasts-obeyed now sent puts (with_peer to q) from new a.4 (q, refl, past))
-    by (inl stays) rest = elim (rest stays) [
-      | inl done ↦ inl ((with_peer to q, comes stays, done.0), done.1)
-      | inr past ↦ inr past
-    ]
+    by : (q.state ≡ state.Connected → AllCome now time from puts (with_peer to q) new × ((r : Peering) × (new.peer ≡ Some r) × (r.state ≡ state.Connected))) → AllCome now time from (x ∷ puts) to new × ((r : Peering) × (new.peer ≡ Some r) × (r.state ≡ state.Connected))
+    by rest = (let all = rest stays in ((with_peer to q, comes, all.0), all.1))
 
 -- ---- what a connected end puts out has no CONNECT
 pub puts-plain : (now : ℕ) (own far new : End) (p : Peering) (puts : List Put) → own.peer ≡ Some p → NoOffers p.outbox.control → Happens own far (Emit now) new → new.log ≡ own.log ++ puts → (x : Put) (o : Offer) → Has puts x → x.message.body ≡ connect o → ⊥

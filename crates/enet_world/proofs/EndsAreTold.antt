@@ -1,12 +1,11 @@
 -- Of each peer that is connected before rounds without losses: it is so after them, or its user was told.
-use Rattle.std.proofs.Common.{◌≡◌, ◌≢◌, ◌<◌, ◌≤◌, ◌⊎◌, inl, inr, ℕ, zero, suc, ◌+◌, Bool, true, false, List, [], ◌∷◌, ◌++◌, append-nil, refl, sym, ap, subst, ◌∙◌, arith, Option, Some, None, Result, Ok, Err}
+use Rattle.std.proofs.Common.{◌≡◌, ◌≢◌, ◌<◌, ◌≤◌, ◌⊎◌, ◌&&◌, inl, inr, ℕ, zero, suc, ◌+◌, Bool, true, false, List, [], ◌∷◌, ◌++◌, append-nil, refl, sym, ap, subst, ◌∙◌, arith, Option, Some, None, Result, Ok, Err}
 use Rattle.std.proofs.lemmas.Bool.Decides.{nat_tests}
 use Rattle.std.specs.List.{slice_get}
 use Rattle.std.specs.Option.{option_and_then, option_map}
 use Rattle.enet_codec.specs.declared.event.Event.{Event}
 use Rattle.enet_codec.specs.declared.event.Event.TheVariants as events
 use Rattle.enet_codec.specs.declared.event.PeerRef.{PeerRef}
-use Rattle.enet_codec.specs.declared.event.Received.{Received}
 use Rattle.enet_codec.specs.declared.refusal.Refusal.{Refusal}
 use Rattle.enet_peer.specs.declared.parts.PeerState.{PeerState}
 use Rattle.enet_peer.specs.declared.parts.PeerState.TheVariants as state
@@ -24,14 +23,15 @@ use Rattle.law_network.specs.Network.{HostEnd, Site, end_of}
 use Rattle.law_network.specs.Steps.{Happening, Calls, Delivers}
 use Rattle.law_network.specs.World.{World, HappensAt, Steps, site_of, other}
 use Rattle.law_network.proofs.Names.{spent-nobody}
-use Rattle.law_network.proofs.Runs.{both as both-hold}
 use Rattle.law_network.proofs.Submitting.{same-some}
 use Rattle.enet_site.specs.Standing.{state_at}
 use Rattle.enet_world.specs.declared.calm.Calm.{Calm}
 use Rattle.enet_world.specs.declared.calm.Share.{Share}
 use Rattle.enet_world.specs.Calm.{most, datagram_in, event_in, refusals_in, PutsNone, PutsAllOut, TakesOne as TakesAnother, TakesMany, TakesNone, TakesAll, Round, Rounds, both, is_smooth}
 use Rattle.enet_world.specs.Ended.{share_of, IsUncut, name_at, IsTold, IsToldOrWillBe, StandsOrEnds, is_ending, TellsEnds, AllTaken, ComesOrEnds}
+use Rattle.enet_world.specs.Progress.{AreConnected, AreEnough}
 use Rattle.enet_world.specs.Private.Worlds.{IsReached}
+use Rattle.enet_world.proofs.Habits.{Habits}
 use Rattle.enet_world.proofs.InRounds.{Keeps, kept-many, kept-out}
 use Rattle.enet_world.proofs.Reaching.{reached-step}
 use Rattle.enet_world.proofs.Through.{no-sum, gets-through}
@@ -57,7 +57,7 @@ IsHere joined f was x side w = IsReached joined w × IsEither f was (site_of w s
 refused : (f : PeerState → Bool) (was : HostEnd) (x : ℕ) (side : Side) (w v : World) → v ≡ w → IsEither f was (site_of w side) x → IsEither f was (site_of v side) x
 refused f was x side w v same k = subst (λ (u : World). IsEither f was (site_of u side) x) (sym same) k
 
-ticks : (joined : Bool) (f : PeerState → Bool) → Rises f → (was : HostEnd) (x ms : ℕ) (at side : Side) (w v : World) (answer : Result Answer Refusal) → IsReached joined w → Steps w (happen.Tick at ms) answer v
+pub ticks : (joined : Bool) (f : PeerState → Bool) → Rises f → (was : HostEnd) (x ms : ℕ) (at side : Side) (w v : World) (answer : Result Answer Refusal) → IsReached joined w → Steps w (happen.Tick at ms) answer v
     → IsEither f was (site_of w side) x → IsEither f was (site_of v side) x
 ticks joined f rises was x ms at side w v (Err why) r step k = absurd step.0
 ticks joined f rises was x ms at side w v (Ok answers.Done) r step k =
@@ -69,7 +69,7 @@ ticks joined f rises was x ms at side w v (Ok (answers.Received received)) r ste
 ticks joined f rises was x ms at side w v (Ok (answers.Sent number)) r step k = absurd step.1
 ticks joined f rises was x ms at side w v (Ok (answers.Taken event)) r step k = absurd step.1
 
-turns : (joined : Bool) (f : PeerState → Bool) → Rises f → (was : HostEnd) (x : ℕ) (at side : Side) (w v : World) (answer : Result Answer Refusal) → IsReached joined w → Steps w (happen.Turn at) answer v
+pub turns : (joined : Bool) (f : PeerState → Bool) → Rises f → (was : HostEnd) (x : ℕ) (at side : Side) (w v : World) (answer : Result Answer Refusal) → IsReached joined w → Steps w (happen.Turn at) answer v
     → IsEither f was (site_of w side) x → IsEither f was (site_of v side) x
 turns joined f rises was x at side w v (Err why) r step k = refused f was x side w v step.1 k
 turns joined f rises was x at side w v (Ok (answers.Sent None)) r step k =
@@ -85,7 +85,7 @@ turns joined f rises was x at side w v (Ok (answers.Received received)) r step k
 turns joined f rises was x at side w v (Ok answers.Done) r step k = absurd step.1
 turns joined f rises was x at side w v (Ok (answers.Taken event)) r step k = absurd step.1
 
-delivers : (joined : Bool) (f : PeerState → Bool) → Rises f → (was : HostEnd) (x n : ℕ) (at side : Side) (w v : World) (answer : Result Answer Refusal) → IsReached joined w → Steps w (happen.Deliver at n) answer v
+pub delivers : (joined : Bool) (f : PeerState → Bool) → Rises f → (was : HostEnd) (x n : ℕ) (at side : Side) (w v : World) (answer : Result Answer Refusal) → IsReached joined w → Steps w (happen.Deliver at n) answer v
     → IsEither f was (site_of w side) x → IsEither f was (site_of v side) x
 delivers joined f rises was x n at side w v (Err why) r step k = refused f was x side w v step.1 k
 delivers joined f rises was x n at side w v (Ok (answers.Received received)) r step k =
@@ -97,7 +97,7 @@ delivers joined f rises was x n at side w v (Ok (answers.Peer name)) r step k = 
 delivers joined f rises was x n at side w v (Ok answers.Done) r step k = absurd step.1
 delivers joined f rises was x n at side w v (Ok (answers.Taken event)) r step k = absurd step.1
 
-takes : (joined : Bool) (f : PeerState → Bool) → ((s : PeerState) → f s ≡ true → is_up s ≡ true) → (was : HostEnd) (x : ℕ) (at side : Side) (w v : World) (answer : Result Answer Refusal) → IsReached joined w → Steps w (happen.Take at) answer v
+pub takes : (joined : Bool) (f : PeerState → Bool) → ((s : PeerState) → f s ≡ true → is_up s ≡ true) → (was : HostEnd) (x : ℕ) (at side : Side) (w v : World) (answer : Result Answer Refusal) → IsReached joined w → Steps w (happen.Take at) answer v
     → IsEither f was (site_of w side) x → IsEither f was (site_of v side) x
 takes joined f only was x at side w v (Err why) r step k = refused f was x side w v step.1 k
 takes joined f only was x at side w v (Ok (answers.Taken event)) r step k =
@@ -109,7 +109,7 @@ takes joined f only was x at side w v (Ok (answers.Received received)) r step k 
 takes joined f only was x at side w v (Ok (answers.Peer name)) r step k = absurd step.1
 takes joined f only was x at side w v (Ok answers.Done) r step k = absurd step.1
 
-keeps : (joined : Bool) (f : PeerState → Bool) → Rises f → (was : HostEnd) (x : ℕ) (side : Side) → Keeps (IsHere joined f was x side)
+pub keeps : (joined : Bool) (f : PeerState → Bool) → Rises f → (was : HostEnd) (x : ℕ) (side : Side) → Keeps (IsHere joined f was x side)
 keeps joined f rises was x side = record {
   turns_keep = λ w v at answer step k. (reached-step joined w v (happen.Turn at) answer k.0 step, turns joined f rises was x at side w v answer k.0 step k.1);
   delivers_keep = λ w v at n answer step k. (reached-step joined w v (happen.Deliver at n) answer k.0 step, delivers joined f rises was x n at side w v answer k.0 step k.1);
@@ -196,7 +196,7 @@ pub record Passes (f g h : PeerState → Bool) : Type 0 where
 sums : (m n k : ℕ) → k ≡ 0 → k ≡ m + n → (m ≡ 0) × (n ≡ 0)
 sums m n k none all = (omega arith, omega arith)
 
-ticked : (joined : Bool) (f : PeerState → Bool) → Rises f → (was : HostEnd) (x : ℕ) (side : Side) (ms : ℕ) (told : Calm) (w v : World) (d : Round ms told w v) → IsHere joined f was x side w → IsHere joined f was x side d.ticked
+pub ticked : (joined : Bool) (f : PeerState → Bool) → Rises f → (was : HostEnd) (x : ℕ) (side : Side) (ms : ℕ) (told : Calm) (w v : World) (d : Round ms told w v) → IsHere joined f was x side w → IsHere joined f was x side d.ticked
 ticked joined f rises was x side ms told w v d k =
     let one : IsReached joined d.ticked_a = reached-step joined w d.ticked_a (happen.Tick A ms) d.ticks_a.0 k.0 d.ticks_a.1 in (
       reached-step joined d.ticked_a d.ticked (happen.Tick B ms) d.ticks_b.0 one d.ticks_b.1,
@@ -204,7 +204,7 @@ ticked joined f rises was x side ms told w v d k =
     )
 
 -- at A, to which B's datagrams come once it has put out all
-round-a : (joined : Bool) (f g h : PeerState → Bool) → Passes f g h → Rises g → (was : HostEnd) (x ms : ℕ) (told : Calm) (w v : World) → Round ms told w v → told.a.cut_short ≡ 0 → IsHere joined f was x A w → IsHere joined h was x A v
+pub round-a : (joined : Bool) (f g h : PeerState → Bool) → Passes f g h → Rises g → (was : HostEnd) (x ms : ℕ) (told : Calm) (w v : World) → Round ms told w v → told.a.cut_short ≡ 0 → IsHere joined f was x A w → IsHere joined h was x A v
 round-a joined f g h p rises was x ms told w v d uncut k = takes-all joined h p.only_h was x B A told.b.taken d.cut_b d.taken_a v d.takes_b
     (takes-out joined g h p.only p.unended was x A told.a.taken d.cut_a d.sent d.taken_a d.takes_a cuts.1
     (kept-out (IsHere joined g was x A) (keeps joined g rises was x A) B told.b.sent told.b.refused told.b.stopped d.cut_back d.sent_a d.sent d.back
@@ -214,7 +214,7 @@ round-a joined f g h p rises was x ms told w v d uncut k = takes-all joined h p.
     cuts = sums d.cut_forth d.cut_a told.a.cut_short uncut d.all_a
 
 -- at B, to which A's came before
-round-b : (joined : Bool) (f g h : PeerState → Bool) → Passes f g h → (was : HostEnd) (x ms : ℕ) (told : Calm) (w v : World) → Round ms told w v → told.b.cut_short ≡ 0 → IsHere joined f was x B w → IsHere joined h was x B v
+pub round-b : (joined : Bool) (f g h : PeerState → Bool) → Passes f g h → (was : HostEnd) (x ms : ℕ) (told : Calm) (w v : World) → Round ms told w v → told.b.cut_short ≡ 0 → IsHere joined f was x B w → IsHere joined h was x B v
 round-b joined f g h p was x ms told w v d uncut k = takes-out joined g h p.only p.unended was x B told.b.taken d.cut_b d.taken_a v d.takes_b cuts.1
     (takes-all joined g p.only was x A B told.a.taken d.cut_a d.sent d.taken_a d.takes_a
     (puts-out joined f g p.rises p.goes p.only was x B told.b.sent told.b.refused told.b.stopped d.cut_back d.sent_a d.sent d.back cuts.0
@@ -225,18 +225,18 @@ round-b joined f g h p was x ms told w v d uncut k = takes-out joined g h p.only
 
 -- ---- rounds
 -- a round at a side
-abbrev ARound : Bool → (f h : PeerState → Bool) → HostEnd → ℕ → ℕ → Side → Type 0
+abbrev pub ARound : Bool → (f h : PeerState → Bool) → HostEnd → ℕ → ℕ → Side → Type 0
 ARound joined f h was x ms side = (told : Calm) (w v : World) → Round ms told w v → (share_of told side).cut_short ≡ 0 → IsHere joined f was x side w → IsHere joined h was x side v
 
-uncut-parts : (s t u : Share) → u ≡ both s t → u.cut_short ≡ 0 → (s.cut_short ≡ 0) × (t.cut_short ≡ 0)
+pub uncut-parts : (s t u : Share) → u ≡ both s t → u.cut_short ≡ 0 → (s.cut_short ≡ 0) × (t.cut_short ≡ 0)
 uncut-parts s t u is none = no-sum s.cut_short t.cut_short (sym (ap (λ (y : Share). y.cut_short) is) ∙ none)
 
-share-is : (told one two : Calm) → told ≡ record { a = both one.a two.a; b = both one.b two.b } → (side : Side) → share_of told side ≡ both (share_of one side) (share_of two side)
+pub share-is : (told one two : Calm) → told ≡ record { a = both one.a two.a; b = both one.b two.b } → (side : Side) → share_of told side ≡ both (share_of one side) (share_of two side)
 share-is told one two is A = ap (λ (c : Calm). c.a) is
 share-is told one two is B = ap (λ (c : Calm). c.b) is
 
 -- none was played, or the peer is as after a round
-rounds-go : (joined : Bool) (f h : PeerState → Bool) → ((s : PeerState) → h s ≡ true → f s ≡ true) → (was : HostEnd) (x ms : ℕ) (side : Side) → ARound joined f h was x ms side → (n : ℕ) (told : Calm) (w v : World) → Rounds ms n told w v
+pub rounds-go : (joined : Bool) (f h : PeerState → Bool) → ((s : PeerState) → h s ≡ true → f s ≡ true) → (was : HostEnd) (x ms : ℕ) (side : Side) → ARound joined f h was x ms side → (n : ℕ) (told : Calm) (w v : World) → Rounds ms n told w v
     → (share_of told side).cut_short ≡ 0 → IsHere joined f was x side w → ((n ≡ 0) × (v ≡ w)) ⊎ IsHere joined h was x side v
 rounds-go joined f h less was x ms side one zero told w v d uncut k = inl (refl, d.1)
 rounds-go joined f h less was x ms side one (suc n) told w v d uncut k = inr (by (rounds-go joined f h less was x ms side one n d.0 w d.2 d.3 cuts.0 k))
@@ -249,28 +249,28 @@ rounds-go joined f h less was x ms side one (suc n) told w v d uncut k = inr (by
     by (inr so_far) = one d.1 d.2 v d.4 cuts.1 (so_far.0, weaker h f was (site_of d.2 side) x less so_far.1)
 
 -- ---- which states
-abbrev is_connected : PeerState → Bool
+abbrev pub is_connected : PeerState → Bool
 is_connected state.Connected = true
 is_connected _ = false
 
-abbrev is_open : PeerState → Bool
+abbrev pub is_open : PeerState → Bool
 is_open state.Connected = true
 is_open state.AckDisconnect = true
 is_open _ = false
 
-abbrev is_open_or_over : PeerState → Bool
+abbrev pub is_open_or_over : PeerState → Bool
 is_open_or_over state.Connected = true
 is_open_or_over state.Ended = true
 is_open_or_over _ = false
 
-abbrev has_ended : PeerState → Bool
+abbrev pub has_ended : PeerState → Bool
 has_ended state.Ended = true
 has_ended _ = false
 
-abbrev is_none : PeerState → Bool
+abbrev pub is_none : PeerState → Bool
 is_none s = false
 
-up-rises : Rises is_up
+pub up-rises : Rises is_up
 up-rises = record { only = λ s e. e; acks = λ e. refl; ends = λ s e. refl }
 
 ending-rises : Rises is_ending
@@ -281,19 +281,19 @@ ending-rises = record { only = only; acks = λ e. refl; ends = λ s e. refl }
     only state.Ended e = refl
     only s e = absurd (cc)
 
-ended-rises : Rises has_ended
+pub ended-rises : Rises has_ended
 ended-rises = record { only = only; acks = λ e. absurd (cc); ends = λ s e. refl }
   where
     only : (s : PeerState) → has_ended s ≡ true → is_up s ≡ true
     only state.Ended e = refl
     only s e = absurd (cc)
 
-open-up : (s : PeerState) → is_open s ≡ true → is_up s ≡ true
+pub open-up : (s : PeerState) → is_open s ≡ true → is_up s ≡ true
 open-up state.Connected e = refl
 open-up state.AckDisconnect e = refl
 open-up s e = absurd (cc)
 
-connected-up : (s : PeerState) → is_connected s ≡ true → is_up s ≡ true
+pub connected-up : (s : PeerState) → is_connected s ≡ true → is_up s ≡ true
 connected-up state.Connected e = refl
 connected-up s e = absurd (cc)
 
@@ -328,13 +328,13 @@ ended-open : (s : PeerState) → has_ended s ≡ true → s ≢ state.Ended → 
 ended-open state.Ended e n = absurd (n refl)
 ended-open s e n = absurd (cc)
 
-at-a : Passes is_up is_up is_open
+pub at-a : Passes is_up is_up is_open
 at-a = record { rises = up-rises; goes = λ s e. over-up (gone_by s) (up-gone s e); only = λ s e. e; unended = up-open; only_h = open-up }
 
-at-b : Passes is_up is_open_or_over is_connected
+pub at-b : Passes is_up is_open_or_over is_connected
 at-b = record { rises = up-rises; goes = up-gone; only = over-up; unended = over-open; only_h = connected-up }
 
-at-end : Passes is_ending has_ended is_none
+pub at-end : Passes is_ending has_ended is_none
 at-end = record { rises = ending-rises; goes = ending-gone; only = ended-rises.only; unended = ended-open; only_h = λ s e. absurd (cc) }
 
 -- ---- before and after
@@ -344,16 +344,16 @@ state-so f was s x k =
     ∙ ap (λ (o : Option Peering). option_map (λ (p : Peering). p.state) o) k.is
 
 -- the end that is there after it was this one
-same-named : (old new : World) (x : ℕ) (side : Side) (was e : HostEnd) → end_of x (site_of old side).ends ≡ Some was → end_of x (site_of new side).ends ≡ Some e → e.name ≡ was.name → name_at new x side ≡ name_at old x side
+pub same-named : (old new : World) (x : ℕ) (side : Side) (was e : HostEnd) → end_of x (site_of old side).ends ≡ Some was → end_of x (site_of new side).ends ≡ Some e → e.name ≡ was.name → name_at new x side ≡ name_at old x side
 same-named old new x side was e before after called =
     ap (option_map (λ (y : HostEnd). y.name)) after ∙ ap (λ (n : PeerRef). Some n) called ∙ sym (ap (option_map (λ (y : HostEnd). y.name)) before)
 
-nobody-so : (was : HostEnd) (s : Site) (x : ℕ) → IsOver was s x → state_at s x ≡ None
+pub nobody-so : (was : HostEnd) (s : Site) (x : ℕ) → IsOver was s x → state_at s x ≡ None
 nobody-so was s x k =
     ap (λ (o : Option HostEnd). option_map (λ (p : Peering). p.state) (option_and_then (λ (e : HostEnd). named s.host.slots e.name) o)) k.there
     ∙ ap (λ (o : Option Peering). option_map (λ (p : Peering). p.state) o) (spent-nobody s.host k.e.name k.spent)
 
-told-so : (old new : World) (x : ℕ) (side : Side) (was : HostEnd) → end_of x (site_of old side).ends ≡ Some was → IsOver was (site_of new side) x → IsTold old new x side
+pub told-so : (old new : World) (x : ℕ) (side : Side) (was : HostEnd) → end_of x (site_of old side).ends ≡ Some was → IsOver was (site_of new side) x → IsTold old new x side
 told-so old new x side was before k = record {
   name = was.name;
   called = ap (option_map (λ (y : HostEnd). y.name)) before;
@@ -373,14 +373,14 @@ is-connected state.Connected e = refl
 is-connected s e = absurd (cc)
 
 -- a peer in a state, before
-record Begins (s : Site) (x : ℕ) (t : PeerState) : Type 0 where
-  was : HostEnd
-  there : end_of x s.ends ≡ Some was
-  p : Peering
-  is : named s.host.slots was.name ≡ Some p
-  in_it : p.state ≡ t
+pub record Begins (s : Site) (x : ℕ) (t : PeerState) : Type 0 where
+  pub was : HostEnd
+  pub there : end_of x s.ends ≡ Some was
+  pub p : Peering
+  pub is : named s.host.slots was.name ≡ Some p
+  pub in_it : p.state ≡ t
 
-begins : (s : Site) (x : ℕ) (t : PeerState) → state_at s x ≡ Some t → Begins s x t
+pub begins : (s : Site) (x : ℕ) (t : PeerState) → state_at s x ≡ Some t → Begins s x t
 begins s x t h = by (end_of x s.ends) refl h
   where
     by-peer : (e : HostEnd) → end_of x s.ends ≡ Some e → (o : Option Peering) → named s.host.slots e.name ≡ o → option_map (λ (p : Peering). p.state) o ≡ Some t → Begins s x t
@@ -443,19 +443,14 @@ tells-ends joined ms rounds told old new r d = record { connected = connected; e
         ]
 
 -- ---- all comes, or an end is told
-not-cut : (s : Share) → is_smooth s ≡ true → s.cut_short ≡ 0
-not-cut s e = grind (arith, nat_tests)
-
-pub comes-or-ends : (joined : Bool) (ms rounds : ℕ) (told : Calm) (old new : World) → IsReached joined old → Rounds ms rounds told old new → ComesOrEnds ms rounds told old new
-comes-or-ends joined ms rounds told old new r d x before smooth enough = by (ends.connected x A (not-cut told.a parts.0) before.0) (ends.connected x B (not-cut told.b parts.1) before.1)
+pub comes-or-ends : (joined : Bool) (ms rounds : ℕ) (told : Calm) (old new : World) → IsReached joined old → Habits old → Rounds ms rounds told old new → ComesOrEnds ms rounds told old new
+comes-or-ends joined ms rounds told old new r habits d x before uncut_a uncut_b = by (ends.connected x A uncut_a before.0) (ends.connected x B uncut_b before.1)
   where
     ends : TellsEnds rounds told old new
     ends = tells-ends joined ms rounds told old new r d
 
-    parts : (is_smooth told.a ≡ true) × (is_smooth told.b ≡ true)
-    parts = both-hold (is_smooth told.a) (is_smooth told.b) smooth
-
-    by : StandsOrEnds old new x A → StandsOrEnds old new x B → AllTaken new x ⊎ (IsToldOrWillBe old new x A ⊎ IsToldOrWillBe old new x B)
-    by (inl a) (inl b) = inl (gets-through joined ms rounds told old new r d x before (a.0, b.0) smooth enough)
-    by (inr a) b = inr (inl a)
-    by (inl a) (inr b) = inr (inr b)
+    by : StandsOrEnds old new x A → StandsOrEnds old new x B
+        → (IsToldOrWillBe old new x A ⊎ IsToldOrWillBe old new x B) ⊎ (AreConnected new x × ((is_smooth told.a && is_smooth told.b) ≡ true → AreEnough ms rounds old x → AllTaken new x))
+    by (inl a) (inl b) = inr ((a.0, b.0), λ smooth enough. gets-through joined ms rounds told old new r habits d x before (a.0, b.0) smooth enough)
+    by (inr a) b = inl (inl a)
+    by (inl a) (inr b) = inl (inr b)

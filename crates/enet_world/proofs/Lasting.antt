@@ -1,5 +1,5 @@
 -- What a peer keeps, whatever happens at it: alone, and at its end of a connection.
-use Rattle.std.proofs.Common.{◌≡◌, ℕ, ◌⊎◌, inl, inr, Bool, true, false, List, [], ◌∷◌, refl, sym, ap, subst, ◌∙◌, Option, Some, None, Result, Ok, Err}
+use Rattle.std.proofs.Common.{◌≡◌, ℕ, ◌⊎◌, inl, inr, Bool, true, false, List, [], ◌∷◌, length, refl, sym, ap, subst, ◌∙◌, Option, Some, None, Result, Ok, Err}
 use Rattle.enet_codec.specs.declared.stop.Stop.{Stop}
 use Rattle.enet_codec.specs.declared.stop.Stop.TheVariants as stop
 use Rattle.enet_codec.specs.Message.{Message}
@@ -9,7 +9,7 @@ use Rattle.enet_peer.specs.declared.parts.PeerState.{PeerState}
 use Rattle.enet_peer.specs.declared.parts.PeerState.TheVariants as state
 use Rattle.enet_peer.specs.Peering.{Peering}
 use Rattle.enet_peer.specs.CommandEffect.{Outcome, Obeys, obeyed, wants_memory}
-use Rattle.enet_peer.specs.Calls.{left, submitted, ticked, next_event}
+use Rattle.enet_peer.specs.Calls.{submission_refusal, left, submitted, ticked, next_event}
 use Rattle.law_connection.specs.Connection.{Put, End}
 use Rattle.law_connection.specs.Steps.{Way, leave_by, Setting, MaySet, with_setting, Happens, Event}
 use Rattle.law_connection.specs.Steps as event
@@ -22,7 +22,7 @@ use Rattle.law_network.specs.Shown.{RunsAt}
 
 -- what a peer keeps
 pub record Lasts (P : Peering → Type 0) : Type 0 where
-  pub submits : (p : Peering) (channel : ℕ) (q : Packet) → P p → P (submitted p channel q)
+  pub submits : (p : Peering) (channel : ℕ) (q : Packet) → submission_refusal p channel (length q.body) ≡ None → P p → P (submitted p channel q)
   pub emits : (p : Peering) (now : ℕ) → P p → P (emitted p now)
   pub comes : (p : Peering) (now : ℕ) (sent : Option ℕ) (m : Message) → P p → P (obeyed p now sent m).after
   pub ticks : (p : Peering) (now : ℕ) → P p → P (ticked p now)
@@ -37,7 +37,7 @@ obeys P (Err stop.Memory) wants o p q a h after = subst P (sym a.2) h
 obeys P (Err why) wants o p q a h after = subst P (sym a.1) after
 
 pub lasts-alone : (P : Peering → Type 0) → Lasts P → (d : Deed) (p q : Peering) → Alone d p q → P p → P q
-lasts-alone P k (deed.Submit x (Ok done)) p q a h = subst P (sym a.1) (k.submits p x.channel (record { flags = x.flags; body = x.body }) h)
+lasts-alone P k (deed.Submit x (Ok done)) p q a h = subst P (sym a.1) (k.submits p x.channel (record { flags = x.flags; body = x.body }) a.0 h)
 lasts-alone P k (deed.Submit x (Err why)) p q a h = subst P (sym a.1) h
 lasts-alone P k (deed.Emit now given) p q a h = subst P (sym a.1) (k.emits p now h)
 lasts-alone P k (deed.Come now sent m answer) p q a h = obeys P answer (wants_memory p now sent m) (obeyed p now sent m) p q a h (k.comes p now sent m h)
@@ -70,7 +70,7 @@ held P new after q same is h = (q, ap (λ (e : End). e.peer) same ∙ is, h)
 pub lasts-event : (P : Peering → Type 0) → Lasts P → (own other new : End) (e : Event) → Happens own other e new → Holds P own → Holds P new
 lasts-event P k own other new (event.Answer put offer now server limits) x h = absurd (let z : ◌≡◌ {A = Option Peering} None (Some h.0) = sym x.0 ∙ h.1 in cc)
 lasts-event P k own other new (event.Submit q) x h =
-    held P new (event.with_submission own x.0 q) (submitted x.0 q.channel (record { flags = q.flags; body = q.body })) x.3 refl (k.submits x.0 q.channel (record { flags = q.flags; body = q.body }) (holds-here P own x.0 x.1 h))
+    held P new (event.with_submission own x.0 q) (submitted x.0 q.channel (record { flags = q.flags; body = q.body })) x.3 refl (k.submits x.0 q.channel (record { flags = q.flags; body = q.body }) x.2 (holds-here P own x.0 x.1 h))
 lasts-event P k own other new (event.Emit now) x h = held P new (event.with_emission own other x.0 now) (emitted x.0 now) x.2 refl (k.emits x.0 now (holds-here P own x.0 x.1 h))
 lasts-event P k own other new (event.Come put now sent) x h =
     held P new (event.with_peer own (obeyed x.0 now sent put.message).after) (obeyed x.0 now sent put.message).after x.3 refl (k.comes x.0 now sent put.message (holds-here P own x.0 x.1 h))
@@ -87,7 +87,7 @@ lasts-run P k (e ∷ es) own far new r h = lasts-run P k es r.0 far new r.2 (las
 pub changes-last : (P : Peering → Type 0) → Changes P → ((p : Peering) (channel : ℕ) (q : Packet) → P p → P (submitted p channel q))
     → ((p q : Peering) → q.state ≡ p.state → q.outbox.control ≡ p.outbox.control → P p → P q) → ((p : Peering) → p.state ≡ state.Ended → P p → P (record p { state = state.Free })) → Lasts P
 changes-last P k submits same frees = record {
-  submits = submits;
+  submits = λ p channel q free h. submits p channel q h;
   emits = λ p now h. kept-emitted P k p now h;
   comes = λ p now sent m h. kept-obeyed P k p m.head now sent m.body h;
   ticks = λ p now h. kept-ticked P k p now h;

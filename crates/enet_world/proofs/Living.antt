@@ -44,9 +44,9 @@ use Rattle.enet_world.proofs.Offers.{AsksAlone, asks-lasts, none-asks, asking-as
 
 -- each beginning of a peer has it
 pub record Starts (P : Peering → Type 0) : Type 0 where
-  joined : (c : Config) → c.mtu ≤ 4096 → P (peers.joined c.clock (joined_terms c) (limits_of c))
-  asks : (c : Config) (now i : ℕ) (s : SlotState) (question : Question) → c.mtu ≤ 4096 → P (peers.connecting now (offer_from c i s question) (limits_of c))
-  answers : (c : Config) (now i : ℕ) (s : SlotState) (o : Offer) → P (peers.answering now o (server_from c i s) (limits_of c))
+  pub joined : (c : Config) → c.mtu ≤ 4096 → P (peers.joined c.clock (joined_terms c) (limits_of c))
+  pub asks : (c : Config) (now i : ℕ) (s : SlotState) (question : Question) → c.mtu ≤ 4096 → P (peers.connecting now (offer_from c i s question) (limits_of c))
+  pub answers : (c : Config) (now i : ℕ) (s : SlotState) (o : Offer) → P (peers.answering now o (server_from c i s) (limits_of c))
 
 same-peer : (p q : Peering) → ◌≡◌ {A = Option Peering} (Some p) (Some q) → p ≡ q
 same-peer p q e = cc
@@ -114,7 +114,7 @@ named-has P k s joined w r side name p is =
 -- ---- all fits
 fits-lasts : Lasts Fits
 fits-lasts = record {
-  submits = λ p channel q f. fits-submitted p channel q f;
+  submits = λ p channel q free f. fits-submitted p channel q f;
   emits = λ p now f. (let o = (filled (pace_of p now) p.outbox).outbox in
       fits-went (record p { outbox = o }) p.state (record { mtu = f.mtu; small = small-filled (room_of p.terms.mtu) (pace_of p now) p.outbox f.small }));
   comes = λ p now sent m f. fits-obeyed p now sent m f;

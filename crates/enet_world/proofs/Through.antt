@@ -1,5 +1,5 @@
 -- Rounds in which nothing stood in the way bring all through, between two peers that stay connected.
-use Rattle.std.proofs.Common.{◌≡◌, ◌≢◌, ◌<◌, ◌≤◌, ◌%◌, ◌&&◌, ◌||◌, ◌==◌, ◌⊎◌, ℕ, zero, suc, ◌+◌, ◌*◌, min, not, Bool, true, false, cond, List, [], ◌∷◌, ◌++◌, append-nil, append_assoc, map, length, refl, sym, ap, subst, ◌∙◌, inl, inr, arith, Option, Some, None, Result, Ok, Err}
+use Rattle.std.proofs.Common.{◌≡◌, ◌<◌, ◌≤◌, ◌%◌, ◌&&◌, ◌||◌, ◌==◌, ◌⊎◌, ℕ, zero, suc, ◌+◌, ◌*◌, min, not, Bool, true, false, cond, List, [], ◌∷◌, ◌++◌, append-nil, append_assoc, map, length, refl, sym, ap, subst, ◌∙◌, inl, inr, arith, Option, Some, None, Result, Ok, Err}
 use Rattle.std.proofs.lemmas.Bool.Decides.{nat_tests}
 use Rattle.std.proofs.lemmas.List.{length-append}
 use Rattle.std.specs.Option.{option_and_then, option_map}
@@ -14,14 +14,13 @@ use Rattle.enet_peer.specs.declared.parts.PeerState.TheVariants as state
 use Rattle.enet_peer.specs.Peering.{Peering}
 use Rattle.enet_sender.specs.CommandChoice.{carried_from, goes_reliable, is_long, is_flagged_unreliable_fragment}
 use Rattle.enet_sender.specs.CommandChoice as command_choice
-use Rattle.enet_outbox.specs.Outbox.{is_unsequenced, is_flagged_unsequenced}
+use Rattle.enet_outbox.specs.Outbox.{has_ended, is_unsequenced, is_flagged_unsequenced}
 use Rattle.enet_slot.specs.Calls.{event_of}
 use Rattle.enet_host.specs.Host.{named}
 use Rattle.enet_host.specs.Ticking.{clock_after}
 use Rattle.law_connection.specs.Connection.{End, Connection, of_channel, packets_of, in_sequence}
 use Rattle.law_connection.specs.Law.{mtu_of}
 use Rattle.law_connection.specs.LinkSteps.{Has, bodies_of}
-use Rattle.law_connection.specs.Steps as event
 use Rattle.law_network.specs.Calls as call
 use Rattle.law_network.specs.declared.event.Answer.{Answer}
 use Rattle.law_network.specs.declared.event.Answer.TheVariants as answers
@@ -39,10 +38,10 @@ use Rattle.law_network.specs.World.{World, HappensAt, Steps, site_of, other}
 use Rattle.law_network.proofs.Agreed.{same-peer}
 use Rattle.law_network.proofs.Delivering.{end-there}
 use Rattle.law_network.proofs.Own.{of-the-host}
-use Rattle.law_network.proofs.Runs.{Sound, less-or-not}
+use Rattle.law_network.proofs.Runs.{Sound}
 use Rattle.law_network.proofs.Submitting.{same-some}
-use Rattle.law_network.proofs.Worlds.{IsHost, KeptEither, Pair, acts-of, shown-end}
-use Rattle.law_progress.specs.Exchanges.{PutsAll, Takes, IsOpen, BothThrough, IsThrough, AllOver, outstanding_over}
+use Rattle.law_network.proofs.Worlds.{IsHost, KeptEither, Pair, acts-of}
+use Rattle.law_progress.specs.Exchanges.{IsOpen, BothThrough, IsThrough, AllOver, outstanding_over}
 use Rattle.law_progress.specs.InTurn.{RoundInTurn, RoundsInTurn}
 use Rattle.law_progress.specs.Links.{AllDispatched}
 use Rattle.law_progress.proofs.Exchanges.{Joint, joint-swap}
@@ -53,17 +52,18 @@ use Rattle.enet_site.specs.Standing.{peer_at, state_at}
 use Rattle.enet_world.specs.declared.calm.Calm.{Calm}
 use Rattle.enet_world.specs.declared.calm.Share.{Share}
 use Rattle.enet_world.specs.Calm.{Round, Rounds, both, is_smooth, sum}
-use Rattle.enet_world.specs.Progress.{AreConnected, clock_by_rounds, AreEnough, AllCame, WasTaken, GetsThrough}
+use Rattle.enet_world.specs.Progress.{clock_by_rounds, AllCame, WasTaken, GetsThrough}
 use Rattle.enet_world.specs.Private.Worlds.{IsReached}
 use Rattle.enet_world.proofs.Delivering.{standing}
-use Rattle.enet_world.proofs.InRounds.{clock_at, StandStill, Keeps, kept-out, kept-taken, still-keeps, reached-keeps, lost-keeps, IsLost, lost-step, ticked, puts-all-out, takes-all, IsEmpty, named-up}
-use Rattle.enet_world.proofs.Lasting.{IsIn, Holds, is_past, not-past}
+use Rattle.enet_world.proofs.Habits.{Habits, habits-step}
+use Rattle.enet_world.proofs.InRounds.{clock_at, StandStill, Keeps, kept-out, kept-taken, still-keeps, reached-keeps, habits-keeps, lost-keeps, IsLost, lost-step, Ticked, ticked, ticked-on, PutsOutAll, puts-all-out, TakesOut, takes-all, IsEmpty, named-up}
+use Rattle.enet_world.proofs.Lasting.{is_past, not-past}
 use Rattle.enet_world.proofs.Living.{named-fits}
 use Rattle.enet_world.proofs.Reaching.{reached-step}
-use Rattle.enet_world.proofs.TwoEnds.{from_start, sound, host-at, Ends, IsDown, Up, up-swapped}
+use Rattle.enet_world.proofs.TwoEnds.{from_start, sound, IsDown, down-step, Up, up-swapped}
 
 -- ---- the clocks in a round
-tick-clock : (w v : World) (side : Side) (ms : ℕ) (told : Result Answer Refusal) → Steps w (happen.Tick side ms) told v → (clock_at v side ≡ clock_after (clock_at w side) ms) × (clock_at v (other side) ≡ clock_at w (other side))
+pub tick-clock : (w v : World) (side : Side) (ms : ℕ) (told : Result Answer Refusal) → Steps w (happen.Tick side ms) told v → (clock_at v side ≡ clock_after (clock_at w side) ms) × (clock_at v (other side) ≡ clock_at w (other side))
 tick-clock w v side ms (Err why) step = absurd step.0
 tick-clock w v side ms (Ok answers.Done) step =
     let h : HappensAt side (Calls (call.Tick ms)) w v = subst (λ (e : Happening). HappensAt side e w v) step.1 step.2 in
@@ -76,33 +76,39 @@ tick-clock w v side ms (Ok (answers.Taken event')) step = absurd step.1
 
 -- ---- one round
 -- what stands in no way
-record Smooth (s : Share) : Type 0 where
-  refused : s.refused ≡ 0
-  stopped : s.stopped ≡ 0
-  cut : s.cut_short ≡ 0
+pub record Smooth (s : Share) : Type 0 where
+  pub refused : s.refused ≡ 0
+  pub stopped : s.stopped ≡ 0
+  pub cut : s.cut_short ≡ 0
 
-record Rounded (joined : Bool) (v : World) (x now there : ℕ) (own far : End) : Type 0 where
-  one : End
-  two : End
-  up : Up joined v x A one two
-  round : RoundInTurn now there (record { one = own; two = far }) (record { one = one; two = two })
-  empty_one : IsEmpty one
-  empty_two : IsEmpty two
+pub record Rounded (joined : Bool) (v : World) (x now there : ℕ) (own far : End) : Type 0 where
+  pub one : End
+  pub two : End
+  pub up : Up joined v x A one two
+  pub round : RoundInTurn now there (record { one = own; two = far }) (record { one = one; two = two })
+  pub empty_one : IsEmpty one
+  pub empty_two : IsEmpty two
 
 -- what the steps of a round after the clocks went on keep
-kept-round : (P : World → Type 0) → Keeps P → (ms : ℕ) (told : Calm) (w v : World) (d : Round ms told w v) → P d.ticked → P v
+pub kept-round : (P : World → Type 0) → Keeps P → (ms : ℕ) (told : Calm) (w v : World) (d : Round ms told w v) → P d.ticked → P v
 kept-round P k ms told w v d h =
     kept-taken P k B told.b.taken d.cut_b d.taken_a v d.takes_b (kept-taken P k A told.a.taken d.cut_a d.sent d.taken_a d.takes_a
     (kept-out P k B told.b.sent told.b.refused told.b.stopped d.cut_back d.sent_a d.sent d.back (kept-out P k A told.a.sent told.a.refused told.a.stopped d.cut_forth d.ticked d.sent_a d.forth h)))
 
-reached-ticked : (joined : Bool) (ms : ℕ) (told : Calm) (w v : World) (d : Round ms told w v) → IsReached joined w → IsReached joined d.ticked
+pub reached-ticked : (joined : Bool) (ms : ℕ) (told : Calm) (w v : World) (d : Round ms told w v) → IsReached joined w → IsReached joined d.ticked
 reached-ticked joined ms told w v d r =
     reached-step joined d.ticked_a d.ticked (happen.Tick B ms) d.ticks_b.0 (reached-step joined w d.ticked_a (happen.Tick A ms) d.ticks_a.0 r d.ticks_a.1) d.ticks_b.1
+
+pub habits-ticked : (ms : ℕ) (told : Calm) (w v : World) (d : Round ms told w v) → Habits w → Habits d.ticked
+habits-ticked ms told w v d h = habits-step d.ticked_a d.ticked (happen.Tick B ms) d.ticks_b.0 d.ticks_b.1 (habits-step w d.ticked_a (happen.Tick A ms) d.ticks_a.0 d.ticks_a.1 h)
+
+pub habits-round : (ms : ℕ) (told : Calm) (w v : World) → Round ms told w v → Habits w → Habits v
+habits-round ms told w v d h = kept-round Habits habits-keeps ms told w v d (habits-ticked ms told w v d h)
 
 pub reached-round : (joined : Bool) (ms : ℕ) (told : Calm) (w v : World) → Round ms told w v → IsReached joined w → IsReached joined v
 reached-round joined ms told w v d r = kept-round (IsReached joined) (reached-keeps joined) ms told w v d (reached-ticked joined ms told w v d r)
 
-ticked-clocks : (ms : ℕ) (told : Calm) (w v : World) (d : Round ms told w v) → (side : Side) → clock_at d.ticked side ≡ clock_after (clock_at w side) ms
+pub ticked-clocks : (ms : ℕ) (told : Calm) (w v : World) (d : Round ms told w v) → (side : Side) → clock_at d.ticked side ≡ clock_after (clock_at w side) ms
 ticked-clocks ms told w v d A =
     let a = tick-clock w d.ticked_a A ms d.ticks_a.0 d.ticks_a.1 in
     let b = tick-clock d.ticked_a d.ticked B ms d.ticks_b.0 d.ticks_b.1 in
@@ -112,7 +118,7 @@ ticked-clocks ms told w v d B =
     let b = tick-clock d.ticked_a d.ticked B ms d.ticks_b.0 d.ticks_b.1 in
     b.0 ∙ ap (λ (c : ℕ). clock_after c ms) a.1
 
-round-clocks : (ms : ℕ) (told : Calm) (w v : World) → Round ms told w v → (side : Side) → clock_at v side ≡ clock_after (clock_at w side) ms
+pub round-clocks : (ms : ℕ) (told : Calm) (w v : World) → Round ms told w v → (side : Side) → clock_at v side ≡ clock_after (clock_at w side) ms
 round-clocks ms told w v d side = kept-round (StandStill d.ticked) (still-keeps d.ticked) ms told w v d (λ at. refl) side ∙ ticked-clocks ms told w v d side
 
 lost-round : (joined : Bool) (x ms : ℕ) (told : Calm) (w v : World) → Round ms told w v → IsLost joined x w → IsLost joined x v
@@ -126,19 +132,98 @@ patient joined w x side own far u p is = ap (λ (y : Peering). y.state) (same-so
 parts : (m n k : ℕ) → k ≡ 0 → k ≡ m + n → (m ≡ 0) × (n ≡ 0)
 parts m n k none all = (omega arith, omega arith)
 
--- a round is one of the law of progress, or an end is past
-round-goes : (joined : Bool) (ms : ℕ) (told : Calm) (w v : World) (x : ℕ) (own far : End) → IsReached joined w → Up joined w x A own far → (d : Round ms told w v) → Smooth told.a → Smooth told.b
-    → Rounded joined v x (clock_after (clock_at w A) ms) (clock_after (clock_at w B) ms) own far ⊎ IsDown v x
-round-goes joined ms told w v x own far r u d a b = first-tick (ticked joined w d.ticked_a x A ms d.ticks_a.0 own far r d.ticks_a.1 u)
+-- both clocks went on, and both ends are connected still
+pub record AtMoment (joined : Bool) (v : World) (x now there : ℕ) (own far : End) : Type 0 where
+  pub one : End
+  pub two : End
+  pub up : Up joined v x A one two
+  pub ticks_one : Ticks now own far one
+  pub ticks_two : Ticks there far one two
+
+-- or an end is past
+at-moment : (joined : Bool) (ms : ℕ) (told : Calm) (w v : World) (x : ℕ) (own far : End) → IsReached joined w → Up joined w x A own far → (d : Round ms told w v)
+    → AtMoment joined d.ticked x (clock_after (clock_at w A) ms) (clock_after (clock_at w B) ms) own far ⊎ IsDown d.ticked x
+at-moment joined ms told w v x own far r u d = first (ticked joined w d.ticked_a x A ms d.ticks_a.0 own far r d.ticks_a.1 u)
+  where
+    now : ℕ
+    now = clock_after (clock_at w A) ms
+
+    r_a : IsReached joined d.ticked_a
+    r_a = reached-step joined w d.ticked_a (happen.Tick A ms) d.ticks_a.0 r d.ticks_a.1
+
+    a_still : clock_at d.ticked_a B ≡ clock_at w B
+    a_still = (tick-clock w d.ticked_a A ms d.ticks_a.0 d.ticks_a.1).1
+
+    Both : Type 0
+    Both = AtMoment joined d.ticked x now (clock_after (clock_at w B) ms) own far ⊎ IsDown d.ticked x
+
+    first : Ticked joined d.ticked_a x A now own far ⊎ IsDown d.ticked_a x → Both
+    first (inr down) = inr (down-step joined d.ticked_a d.ticked x (happen.Tick B ms) d.ticks_b.0 r_a d.ticks_b.1 down)
+    first (inl t) = elim (ticked joined d.ticked_a d.ticked x B ms d.ticks_b.0 far t.0 r_a d.ticks_b.1 (up-swapped joined d.ticked_a x A t.0 far t.1)) [
+      | inr down ↦ inr down
+      | inl s ↦ inl (record { one = t.0; two = s.0; up = up-swapped joined d.ticked x B s.0 t.0 s.1; ticks_one = t.2; ticks_two = subst (λ (c : ℕ). Ticks (clock_after c ms) far t.0 s.0) a_still s.2 })
+    ]
+
+-- not where the patience of both lasts
+pub at-moment-on : (joined : Bool) (ms : ℕ) (told : Calm) (w v : World) (x : ℕ) (own far : End) → IsReached joined w → (u : Up joined w x A own far) → (d : Round ms told w v)
+    → has_ended u.p.outbox (clock_after (clock_at w A) ms) u.p.patience u.p.heard ≡ false → has_ended u.q.outbox (clock_after (clock_at w B) ms) u.q.patience u.q.heard ≡ false
+    → AtMoment joined d.ticked x (clock_after (clock_at w A) ms) (clock_after (clock_at w B) ms) own far
+at-moment-on joined ms told w v x own far r u d lasts_a lasts_b =
+    record { one = t.0; two = s.0; up = up-swapped joined d.ticked x B s.0 t.0 s.1; ticks_one = t.2; ticks_two = subst (λ (c : ℕ). Ticks (clock_after c ms) far t.0 s.0) a_still s.2 }
+  where
+    r_a : IsReached joined d.ticked_a
+    r_a = reached-step joined w d.ticked_a (happen.Tick A ms) d.ticks_a.0 r d.ticks_a.1
+
+    a_still : clock_at d.ticked_a B ≡ clock_at w B
+    a_still = (tick-clock w d.ticked_a A ms d.ticks_a.0 d.ticks_a.1).1
+
+    t : Ticked joined d.ticked_a x A (clock_after (clock_at w A) ms) own far
+    t = ticked-on joined w d.ticked_a x A ms d.ticks_a.0 own far r d.ticks_a.1 u lasts_a
+
+    back : Up joined d.ticked_a x B far t.0
+    back = up-swapped joined d.ticked_a x A t.0 far t.1
+
+    same : back.p ≡ u.q
+    same = same-some back.p u.q (sym back.is_p ∙ u.is_q)
+
+    s : Ticked joined d.ticked x B (clock_after (clock_at d.ticked_a B) ms) far t.0
+    s = ticked-on joined d.ticked_a d.ticked x B ms d.ticks_b.0 far t.0 r_a d.ticks_b.1 back
+        (ap (λ (y : Peering). has_ended y.outbox (clock_after (clock_at d.ticked_a B) ms) y.patience y.heard) same ∙ ap (λ (c : ℕ). has_ended u.q.outbox (clock_after c ms) u.q.patience u.q.heard) a_still ∙ lasts_b)
+
+-- and all else that happens in the round leaves both connected: it is one of the law of progress
+pub round-goes-on : (joined : Bool) (ms : ℕ) (told : Calm) (w v : World) (x : ℕ) (own far : End) → IsReached joined w → Habits w → (d : Round ms told w v) → Smooth told.a → Smooth told.b
+    → AtMoment joined d.ticked x (clock_after (clock_at w A) ms) (clock_after (clock_at w B) ms) own far → Rounded joined v x (clock_after (clock_at w A) ms) (clock_after (clock_at w B) ms) own far
+round-goes-on joined ms told w v x own far r habits d a b m = record {
+  one = k.1;
+  two = l.1;
+  up = up-swapped joined v x B l.1 k.1 l.2;
+  round = record {
+    one = m.one;
+    ticks_one = m.ticks_one;
+    patient_one = patient joined d.ticked x A m.one m.two m.up;
+    two = m.two;
+    ticks_two = m.ticks_two;
+    patient_two = patient joined d.ticked x B m.two m.one (up-swapped joined d.ticked x A m.one m.two m.up);
+    one_out = f.0;
+    two_in = f.1;
+    forth = f.3;
+    two_out = g.0;
+    one_in = g.1;
+    back = g.3;
+    events_one = k.0;
+    takes_one = k.3;
+    events_two = l.0;
+    takes_two = l.3;
+  };
+  empty_one = k.4;
+  empty_two = l.4;
+}
   where
     now : ℕ
     now = clock_after (clock_at w A) ms
 
     there : ℕ
     there = clock_after (clock_at w B) ms
-
-    r_a : IsReached joined d.ticked_a
-    r_a = reached-step joined w d.ticked_a (happen.Tick A ms) d.ticks_a.0 r d.ticks_a.1
 
     r_t : IsReached joined d.ticked
     r_t = reached-ticked joined ms told w v d r
@@ -152,6 +237,12 @@ round-goes joined ms told w v x own far r u d a b = first-tick (ticked joined w 
     r_ta : IsReached joined d.taken_a
     r_ta = kept-taken (IsReached joined) (reached-keeps joined) A told.a.taken d.cut_a d.sent d.taken_a d.takes_a r_s
 
+    h_t : Habits d.ticked
+    h_t = habits-ticked ms told w v d habits
+
+    h_sa : Habits d.sent_a
+    h_sa = kept-out Habits habits-keeps A told.a.sent told.a.refused told.a.stopped d.cut_forth d.ticked d.sent_a d.forth h_t
+
     cuts_a : (d.cut_forth ≡ 0) × (d.cut_a ≡ 0)
     cuts_a = parts d.cut_forth d.cut_a told.a.cut_short a.cut d.all_a
 
@@ -164,77 +255,25 @@ round-goes joined ms told w v x own far r u d a b = first-tick (ticked joined w 
     still : StandStill d.ticked d.sent_a
     still = kept-out (StandStill d.ticked) (still-keeps d.ticked) A told.a.sent told.a.refused told.a.stopped d.cut_forth d.ticked d.sent_a d.forth (λ at. refl)
 
-    -- past at some moment, past at the end
-    from-taken : IsDown d.taken_a x → IsDown v x
-    from-taken h = (let l = kept-taken (IsLost joined x) (lost-keeps joined x) B told.b.taken d.cut_b d.taken_a v d.takes_b (r_ta, h) in l.1)
+    f : PutsOutAll joined d.sent_a x A now there m.one m.two
+    f = puts-all-out joined d.ticked d.sent_a x A m.one m.two now there told.a.sent told.a.refused told.a.stopped d.cut_forth (clocks A) (clocks B) r_t h_t m.up d.forth a.refused a.stopped cuts_a.0
 
-    from-sent : IsDown d.sent x → IsDown v x
-    from-sent h = (let l = kept-taken (IsLost joined x) (lost-keeps joined x) A told.a.taken d.cut_a d.sent d.taken_a d.takes_a (r_s, h) in from-taken l.1)
+    g : PutsOutAll joined d.sent x B there now f.1 f.0
+    g = puts-all-out joined d.sent_a d.sent x B f.1 f.0 there now told.b.sent told.b.refused told.b.stopped d.cut_back (still B ∙ clocks B) (still A ∙ clocks A) r_sa h_sa (up-swapped joined d.sent_a x A f.0 f.1 f.2) d.back b.refused b.stopped cuts_b.0
 
-    from-sent-a : IsDown d.sent_a x → IsDown v x
-    from-sent-a h = (let l = kept-out (IsLost joined x) (lost-keeps joined x) B told.b.sent told.b.refused told.b.stopped d.cut_back d.sent_a d.sent d.back (r_sa, h) in from-sent l.1)
+    k : TakesOut joined d.taken_a x A g.1 g.0
+    k = takes-all joined d.sent d.taken_a x A g.1 g.0 told.a.taken d.cut_a r_s (up-swapped joined d.sent x B g.0 g.1 g.2) d.takes_a cuts_a.1
 
-    from-ticked : IsDown d.ticked x → IsDown v x
-    from-ticked h = (let l = kept-out (IsLost joined x) (lost-keeps joined x) A told.a.sent told.a.refused told.a.stopped d.cut_forth d.ticked d.sent_a d.forth (r_t, h) in from-sent-a l.1)
+    l : TakesOut joined v x B g.0 k.1
+    l = takes-all joined d.taken_a v x B g.0 k.1 told.b.taken d.cut_b r_ta (up-swapped joined d.taken_a x A k.1 g.0 k.2) d.takes_b cuts_b.1
 
-    from-ticked-a : IsDown d.ticked_a x → IsDown v x
-    from-ticked-a h = (let l = lost-step joined x d.ticked_a d.ticked (happen.Tick B ms) d.ticks_b.0 d.ticks_b.1 (r_a, h) in from-ticked l.1)
-
-    Result' : Type 0
-    Result' = Rounded joined v x now there own far ⊎ IsDown v x
-
-    first-tick : ((new : End) × Up joined d.ticked_a x A new far × Ticks now own far new) ⊎ IsDown d.ticked_a x → Result'
-    first-tick (inr down) = inr (from-ticked-a down)
-    first-tick (inl t) =
-        second-tick (ticked joined d.ticked_a d.ticked x B ms d.ticks_b.0 far t.0 r_a d.ticks_b.1 (up-swapped joined d.ticked_a x A t.0 far t.1))
-      where
-        a_still : clock_at d.ticked_a B ≡ clock_at w B
-        a_still = (tick-clock w d.ticked_a A ms d.ticks_a.0 d.ticks_a.1).1
-
-        second-tick : ((new : End) × Up joined d.ticked x B new t.0 × Ticks (clock_after (clock_at d.ticked_a B) ms) far t.0 new) ⊎ IsDown d.ticked x → Result'
-        second-tick (inr down) = inr (from-ticked down)
-        second-tick (inl s) = forth (puts-all-out joined d.ticked d.sent_a x A t.0 s.0 now there told.a.sent told.a.refused told.a.stopped d.cut_forth (clocks A) (clocks B) r_t (up-swapped joined d.ticked x B s.0 t.0 s.1) d.forth a.refused a.stopped cuts_a.0)
-          where
-            forth : ((new new_far : End) × Up joined d.sent_a x A new new_far × PutsAll now there t.0 s.0 new new_far) ⊎ IsDown d.sent_a x → Result'
-            forth (inr down) = inr (from-sent-a down)
-            forth (inl f) =
-                back (puts-all-out joined d.sent_a d.sent x B f.1 f.0 there now told.b.sent told.b.refused told.b.stopped d.cut_back (still B ∙ clocks B) (still A ∙ clocks A) r_sa (up-swapped joined d.sent_a x A f.0 f.1 f.2) d.back b.refused b.stopped cuts_b.0)
-              where
-                back : ((new new_far : End) × Up joined d.sent x B new new_far × PutsAll there now f.1 f.0 new new_far) ⊎ IsDown d.sent x → Result'
-                back (inr down) = inr (from-sent down)
-                back (inl g) = takes-a (takes-all joined d.sent d.taken_a x A g.1 g.0 told.a.taken d.cut_a r_s (up-swapped joined d.sent x B g.0 g.1 g.2) d.takes_a cuts_a.1)
-                  where
-                    takes-a : ((m : ℕ) × (new : End) × Up joined d.taken_a x A new g.0 × Takes m g.1 g.0 new × IsEmpty new) ⊎ IsDown d.taken_a x → Result'
-                    takes-a (inr down) = inr (from-taken down)
-                    takes-a (inl k) = takes-b (takes-all joined d.taken_a v x B g.0 k.1 told.b.taken d.cut_b r_ta (up-swapped joined d.taken_a x A k.1 g.0 k.2) d.takes_b cuts_b.1)
-                      where
-                        takes-b : ((m : ℕ) × (new : End) × Up joined v x B new k.1 × Takes m g.0 k.1 new × IsEmpty new) ⊎ IsDown v x → Result'
-                        takes-b (inr down) = inr down
-                        takes-b (inl l) = inl (record {
-                          one = k.1;
-                          two = l.1;
-                          up = up-swapped joined v x B l.1 k.1 l.2;
-                          round = record {
-                            one = t.0;
-                            ticks_one = t.2;
-                            patient_one = patient joined d.ticked_a x A t.0 far t.1;
-                            two = s.0;
-                            ticks_two = subst (λ (c : ℕ). Ticks (clock_after c ms) far t.0 s.0) a_still s.2;
-                            patient_two = patient joined d.ticked x B s.0 t.0 s.1;
-                            one_out = f.0;
-                            two_in = f.1;
-                            forth = f.3;
-                            two_out = g.0;
-                            one_in = g.1;
-                            back = g.3;
-                            events_one = k.0;
-                            takes_one = k.3;
-                            events_two = l.0;
-                            takes_two = l.3;
-                          };
-                          empty_one = k.4;
-                          empty_two = l.4;
-                        })
+-- a round is one of the law of progress, or an end is past
+round-goes : (joined : Bool) (ms : ℕ) (told : Calm) (w v : World) (x : ℕ) (own far : End) → IsReached joined w → Habits w → Up joined w x A own far → (d : Round ms told w v) → Smooth told.a → Smooth told.b
+    → Rounded joined v x (clock_after (clock_at w A) ms) (clock_after (clock_at w B) ms) own far ⊎ IsDown v x
+round-goes joined ms told w v x own far r habits u d a b = elim (at-moment joined ms told w v x own far r u d) [
+  | inl m ↦ inl (round-goes-on joined ms told w v x own far r habits d a b m)
+  | inr down ↦ (let l = kept-round (IsLost joined x) (lost-keeps joined x) ms told w v d (reached-ticked joined ms told w v d r, down) in inr l.1)
+]
 
 -- ---- rounds
 abbrev moments : ℕ → ℕ → ℕ → ℕ → List (ℕ × ℕ)
@@ -257,7 +296,7 @@ none-summed m n most some e = (grind arith, grind arith)
 pub no-sum : (m n : ℕ) → sum m n ≡ 0 → (m ≡ 0) × (n ≡ 0)
 no-sum m n e = none-summed m n 18446744073709551615 (omega arith) e
 
-smooth-parts : (s t u : Share) → u ≡ both s t → Smooth u → Smooth s × Smooth t
+pub smooth-parts : (s t u : Share) → u ≡ both s t → Smooth u → Smooth s × Smooth t
 smooth-parts s t u e k =
     let refused = no-sum s.refused t.refused (ap (λ (y : Share). y.refused) (sym e) ∙ k.refused) in
     let stopped = no-sum s.stopped t.stopped (ap (λ (y : Share). y.stopped) (sym e) ∙ k.stopped) in
@@ -280,11 +319,15 @@ pub reached-rounds : (joined : Bool) (ms n : ℕ) (told : Calm) (w v : World) �
 reached-rounds joined ms zero told w v d r = subst (IsReached joined) (sym d.1) r
 reached-rounds joined ms (suc n) told w v d r = reached-round joined ms d.1 d.2 v d.4 (reached-rounds joined ms n d.0 w d.2 d.3 r)
 
-rounds-go : (joined : Bool) (ms n : ℕ) (told : Calm) (w v : World) (x : ℕ) (own far : End) → IsReached joined w → Up joined w x A own far → Rounds ms n told w v → Smooth told.a → Smooth told.b
+pub habits-rounds : (ms n : ℕ) (told : Calm) (w v : World) → Rounds ms n told w v → Habits w → Habits v
+habits-rounds ms zero told w v d h = subst Habits (sym d.1) h
+habits-rounds ms (suc n) told w v d h = habits-round ms d.1 d.2 v d.4 (habits-rounds ms n d.0 w d.2 d.3 h)
+
+rounds-go : (joined : Bool) (ms n : ℕ) (told : Calm) (w v : World) (x : ℕ) (own far : End) → IsReached joined w → Habits w → Up joined w x A own far → Rounds ms n told w v → Smooth told.a → Smooth told.b
     → AllRounded joined n ms w v x own far ⊎ IsDown v x
-rounds-go joined ms zero told w v x own far r u d a b =
+rounds-go joined ms zero told w v x own far r habits u d a b =
     inl (record { one = own; two = far; up = subst (λ (y : World). Up joined y x A own far) (sym d.1) u; rounds = refl; empty_one = λ h. absurd (omega arith); empty_two = λ h. absurd (omega arith) })
-rounds-go joined ms (suc n) told w v x own far r u d a b = by (rounds-go joined ms n d.0 w d.2 x own far r u d.3 parts_a.0 parts_b.0)
+rounds-go joined ms (suc n) told w v x own far r habits u d a b = by (rounds-go joined ms n d.0 w d.2 x own far r habits u d.3 parts_a.0 parts_b.0)
   where
     parts_a : Smooth d.0.a × Smooth d.1.a
     parts_a = smooth-parts d.0.a d.1.a told.a (ap (λ (y : Calm). y.a) d.5) a
@@ -303,7 +346,7 @@ rounds-go joined ms (suc n) told w v x own far r u d a b = by (rounds-go joined 
 
     by : AllRounded joined n ms w d.2 x own far ⊎ IsDown d.2 x → AllRounded joined (suc n) ms w v x own far ⊎ IsDown v x
     by (inr down) = inr (let l = lost-round joined x ms d.1 d.2 v d.4 (between, down) in l.1)
-    by (inl k) = elim (round-goes joined ms d.1 d.2 v x k.one k.two between k.up d.4 parts_a.1 parts_b.1) [
+    by (inl k) = elim (round-goes joined ms d.1 d.2 v x k.one k.two between (habits-rounds ms n d.0 w d.2 d.3 habits) k.up d.4 parts_a.1 parts_b.1) [
       | inr down ↦ inr down
       | inl l ↦
           let round : RoundInTurn (clock_by_rounds (suc n) ms (clock_at w A)) (clock_by_rounds (suc n) ms (clock_at w B)) (record { one = k.one; two = k.two }) (record { one = l.one; two = l.two }) =
@@ -428,7 +471,7 @@ connected-at s x h = by (end_of x s.ends) refl h
     by (Some e) there k = by-peer e there (named s.host.slots e.name) refl k
 
 -- the peer that stands there
-peer-stands : (s : Site) (x : ℕ) (a : Stands s x) (p : Peering) → peer_at s x ≡ Some p → a.peer ≡ p
+pub peer-stands : (s : Site) (x : ℕ) (a : Stands s x) (p : Peering) → peer_at s x ≡ Some p → a.peer ≡ p
 peer-stands s x a p h = same-some a.peer p (sym a.is ∙ ap (λ (o : Option HostEnd). option_and_then (λ (e : HostEnd). named s.host.slots e.name) o) (sym a.there) ∙ h)
 
 -- a host that is connected shows an end whose peer is
@@ -450,7 +493,7 @@ not-down joined w x r a b d = elim d.past [
 equal-so : (a b : ℕ) → (a == b) ≡ true → a ≡ b
 equal-so a b e = grind (arith, nat_tests)
 
-end-has : (ends : List HostEnd) (x : ℕ) (e : HostEnd) → end_of x ends ≡ Some e → Has ends e × (e.connection ≡ x)
+pub end-has : (ends : List HostEnd) (x : ℕ) (e : HostEnd) → end_of x ends ≡ Some e → Has ends e × (e.connection ≡ x)
 end-has [] x e is = absurd (let z : ◌≡◌ {A = Option HostEnd} None (Some e) = is in cc)
 end-has (f ∷ ends) x e is = by (f.connection == x) refl is (λ h. end-has ends x e h)
   where
@@ -509,10 +552,10 @@ begun joined w x r a b = record {
     two : Shows w.b b.stands.end pair.two
     two = standing w.b w.count x pair.two s.b pair.there b.stands
 
-smooth-so : (s : Share) → is_smooth s ≡ true → Smooth s
+pub smooth-so : (s : Share) → is_smooth s ≡ true → Smooth s
 smooth-so s e = record { refused = grind (arith, nat_tests); stopped = grind (arith, nat_tests); cut = grind (arith, nat_tests) }
 
-both-so : (a b : Bool) → (a && b) ≡ true → (a ≡ true) × (b ≡ true)
+pub both-so : (a b : Bool) → (a && b) ≡ true → (a ≡ true) × (b ≡ true)
 both-so true true h = (refl, refl)
 both-so true false h = absurd (cc)
 both-so false b h = absurd (cc)
@@ -525,9 +568,9 @@ parted n zero h = (n, omega arith)
 parted zero (suc m) h = absurd (omega arith)
 parted (suc n) (suc m) h = (let g = parted n m (omega arith) in (g.0, let e : n ≡ g.0 + m = g.1 in omega arith))
 
-pub gets-through : (joined : Bool) (ms rounds : ℕ) (told : Calm) (old new : World) → IsReached joined old → Rounds ms rounds told old new → GetsThrough ms rounds told old new
-gets-through joined ms rounds told old new r d x before after smooth enough channel low =
-    by (rounds-go joined ms rounds told old new x first.own first.far r first.up d (smooth-so told.a parts_of.0) (smooth-so told.b parts_of.1))
+pub gets-through : (joined : Bool) (ms rounds : ℕ) (told : Calm) (old new : World) → IsReached joined old → Habits old → Rounds ms rounds told old new → GetsThrough ms rounds told old new
+gets-through joined ms rounds told old new r habits d x before after smooth enough channel low =
+    by (rounds-go joined ms rounds told old new x first.own first.far r habits first.up d (smooth-so told.a parts_of.0) (smooth-so told.b parts_of.1))
   where
     here : IsConnected old.a x
     here = connected-at old.a x before.0

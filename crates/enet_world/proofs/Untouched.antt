@@ -179,7 +179,7 @@ obeyed-next : (p : Peering) (now : ℕ) (sent : Option ℕ) (m : Message) → is
 obeyed-next p now sent m up = each-up (λ s q. Next s (obeyed q now sent m).after.state) (λ r. connected-obeyed r now sent m.head m.body) (λ r. acknowledging-obeyed r now sent m.head m.body) (λ r. ended-obeyed r now sent m.head m.body) p up
 
 -- ---- time goes on
-pinged-state : (q : Peering) (now : ℕ) → (pinged q now).state ≡ q.state
+pub pinged-state : (q : Peering) (now : ℕ) → (pinged q now).state ≡ q.state
 pinged-state q now = by (is_pinged q now)
   where
     by : (b : Bool) → (cond b (record q { outbox = with_control q.outbox control.Ping }) q).state ≡ q.state

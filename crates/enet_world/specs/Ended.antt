@@ -66,9 +66,10 @@ pub record TellsEnds (rounds : ℕ) (counts : Calm) (old new : World) : Type 0 w
 abbrev pub AllTaken : World → ℕ → Type 0
 AllTaken w x = (channel : ℕ) → channel < 255 → WasTaken w x A channel × WasTaken w x B channel
 
--- so of a connection whose peers are both connected before the rounds all comes, both ways, or it ends at a side whose user is told or will be, where
--- nothing stood in the way and they were enough
+-- so of a connection whose peers are both connected before the rounds, where neither side is cut short: it ends at a side whose user is told or will
+-- be; or it stands after them, and all comes, both ways, where nothing stood in the way and the rounds were enough
 abbrev pub ComesOrEnds : ℕ → ℕ → Calm → World → World → Type 0
 ComesOrEnds ms rounds counts old new =
-    (x : ℕ) → AreConnected old x → (is_smooth counts.a && is_smooth counts.b) ≡ true → AreEnough ms rounds old x
-    → AllTaken new x ⊎ (IsToldOrWillBe old new x A ⊎ IsToldOrWillBe old new x B)
+    (x : ℕ) → AreConnected old x → IsUncut counts A → IsUncut counts B
+    → (IsToldOrWillBe old new x A ⊎ IsToldOrWillBe old new x B)
+    ⊎ (AreConnected new x × ((is_smooth counts.a && is_smooth counts.b) ≡ true → AreEnough ms rounds old x → AllTaken new x))

@@ -6,3 +6,5 @@ pub mod Delivered
 pub mod Progress
 pub mod Needed
 pub mod Ended
+pub mod Alone
+pub mod Stands

@@ -2,9 +2,11 @@
 
 ghost use Rattle.std.specs.Prelude.{◌≡◌, ◌≤◌, ◌&&◌, is_some};
 ghost use Rattle.law_network.specs.Headline.{HasHeadline};
+ghost use Rattle.enet_world.specs.Alone.{TellsAlone};
 ghost use Rattle.enet_world.specs.Delivered.{HasDelivered};
 ghost use Rattle.enet_world.specs.Progress.{GetsThrough};
 ghost use Rattle.enet_world.specs.Ended.{ComesOrEnds, TellsEnds};
+ghost use Rattle.enet_world.specs.Stands.{BothStand};
 ghost use Rattle.enet_world.specs.Worlds.{passed_by_rounds};
 ghost use Rattle.enet_world.specs.Calm.{PutsAllOut, Round, Rounds, TakesAll, both, datagram_in, event_in, is_smooth, refusals_in, stops_in};
 
@@ -146,18 +148,32 @@ impl World {
     /// also for want of memory, is counted, and doesn't come again. `passed`: both clocks' time is counted, too.
     ///
     /// `progress`: once the network loses nothing, all comes. Of each connection that is connected at both sides before the rounds and
-    /// after them (`World::state`): where nothing stood in the way (`Calm::is_smooth`), and the rounds were enough, each user has taken
-    /// each packet flagged RELIABLE that the other has submitted on a channel below 255, in order. Rounds are enough where in one of them
-    /// all timeouts of what waited for its acknowledgement at first are over, at both, and twice as many come after it as data commands
-    /// were queued or waited at first, at both, on all channels: so are as many as `World::rounds_needed` tells.
+    /// after them (`World::state`): where nothing stood in the way (`Calm::is_smooth`: no datagram of any connection was refused or
+    /// stopped), and the rounds were enough, each user has taken each packet flagged RELIABLE that the other has submitted on a channel
+    /// below 255, in order. Rounds are enough where in one of them all timeouts of what waited for its acknowledgement at first are over,
+    /// at both, and twice as many come after it as data commands were queued or waited at first, at both, on all channels: so are as many
+    /// as `World::rounds_needed` tells.
     ///
-    /// `told`: no peer that was connected goes in silence. Of each that is connected at a side before the rounds, where that side wasn't cut
-    /// short (`Share::cut_short` is 0): it is connected after them, under the same name, or it is gone, and the last event that its user has
-    /// taken of it, in the rounds, is its Disconnect. Or the side is A, which puts out first in a round, and the other's DISCONNECT has yet to
-    /// be acknowledged (`PeerState::AckDisconnect`): of such a peer, and of one that has ended, a round that isn't cut short there tells its
-    /// user. `all`: so once the network loses nothing, of a connection that is connected at both sides before the rounds all comes, both ways,
-    /// or it ends at a side, whose user is told or will be; where nothing stood in the way (what comes to a peer that has ended is stopped),
-    /// and the rounds were enough. That peers stay connected isn't said, nor that a peer's user is told once the other end is gone.
+    /// `stands`: no connection is lost. Of each that is connected at both sides before the rounds both peers are connected after them,
+    /// under the same names, whatever is queued, where nothing stood in the way before the last of them (in that an end would itself be in
+    /// the way of what comes after it), a round takes less than 30 seconds, and what waited for its acknowledgement at first, at either,
+    /// was young for rounds of this length: once its timeout is over, and two rounds are, it is less than 30 seconds since it first went;
+    /// and it went at most four times, or one round later it is less than 5 seconds since it first went or since an acknowledgement last
+    /// came, whichever is later. So it is where nothing waited.
+    ///
+    /// `told`: no peer that was connected goes in silence. Of each that is connected at a side before the rounds, where that side wasn't
+    /// cut short (`Share::cut_short` is 0): it is connected after them, under the same name, or it is gone, and the last event that its
+    /// user has taken of it, in the rounds, is its Disconnect. Or the side is A, which puts out first in a round, and the other's
+    /// DISCONNECT has yet to be acknowledged (`PeerState::AckDisconnect`): of such a peer, and of one that has ended, a round that isn't
+    /// cut short there tells its user. `all`: so of a connection that is connected at both sides before the rounds, where neither side is
+    /// cut short: it ends at a side, whose user is told or will be; or it stands after them, and all comes, both ways, if nothing stood in
+    /// the way and the rounds were enough. Where something did, nothing is said of what comes.
+    ///
+    /// `alone`: who is left alone is told. Of each connection whose peer is connected at a side before the rounds, while the other side's
+    /// has Ended or is gone: its user has taken its Disconnect in the rounds, where its side wasn't cut short and there are 358,175 /
+    /// min(`ms`, 60,000) + 5 rounds or more, rounded down: four more than take longer than a ping's interval (500 ms), the greatest
+    /// patience (30,000) and the longest timeout (327,675) together. `ms` isn't 0, and both clocks together had gone on by less than
+    /// 4,293,000,000 ms (49 days) before. Of one whose other end is only about to end this says nothing before that has.
     ///
     /// `delivered`: what a side has nothing left of has arrived. Where the peer of an end stands, still sends, and has no reliable command
     /// of a channel queued or unacknowledged after the rounds, each reliable packet that its user submitted there, and that went in order,
@@ -171,6 +187,8 @@ impl World {
         ensures progress { GetsThrough ms rounds result self.old.world self.new.world }
         ensures told { TellsEnds rounds result self.old.world self.new.world }
         ensures all { ComesOrEnds ms rounds result self.old.world self.new.world }
+        ensures stands { BothStand ms rounds self.old.world self.new.world }
+        ensures alone { TellsAlone ms rounds self.old.passed result self.old.world self.new.world }
     {
         self.is_reached();
         let mut told = Calm {

@@ -7,12 +7,14 @@
 //! of every connection, end and channel, whatever was connected before, at the same time or after, slots used again included
 //! (`HasHeadline`), and what a host has nothing left to send of was delivered at the other (`HasDelivered`). `calm` is the stated rounds of
 //! such events in which the network loses nothing (`Rounds`), counted. Where nothing stood in the way, enough of them bring all that was
-//! submitted reliably, of a connection that stands before and after them (`GetsThrough`); who was connected is so still, or its user is told,
-//! then or in one more round (`TellsEnds`), so all comes or an end is told (`ComesOrEnds`). `rounds_needed` tells how many are enough
-//! (`AreEnough`): the stated number, where it is stated to tell one (specs/Needed), which needn't be the least.
+//! submitted reliably, of a connection that stands before and after them (`GetsThrough`), and no connection is lost on which nothing had waited
+//! long (`BothStand`). Who was connected is so still, or its user is told, then or in one more round (`TellsEnds`): so an end is told, or both
+//! stand and all comes (`ComesOrEnds`). Who is connected while the other side's peer has ended or is gone is told within six minutes and
+//! five rounds (`TellsAlone`). `rounds_needed` tells how many are enough (`AreEnough`): the stated number, where it is stated to tell one (specs/Needed),
+//! which needn't be the least.
 //! Only tested, by scripts/rows, `check_lists` and check-memory.sh: that calls succeed with ample memory, worked runs with their
 //! answers and bytes, and that a call which was refused for want of memory is answered as wanted when it is made again.
-//! Neither: that a datagram arrives, or that memory is there; nor that a connection stands through rounds without losses.
+//! Neither: that a datagram arrives, or that memory is there.
 #![tactic(auto)]
 
 mod calm;

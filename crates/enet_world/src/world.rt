@@ -11,7 +11,7 @@ ghost use Rattle.enet_world.specs.Transcript.{IsOnEachFront};
 ghost use Rattle.enet_world.specs.Worlds.{begun, passed_by, passed_in};
 ghost use Rattle.enet_world.specs.Needed.{is_timed, rounds_of_a_wait};
 ghost use Rattle.enet_world.specs.Private.Enough.{AreOverIn};
-ghost use Rattle.enet_world.specs.Private.Worlds.{IsReached};
+ghost use Rattle.enet_world.specs.Private.Worlds.{IsReachedIn};
 
 use crate::enough::rounds_of_a_wait;
 use crate::hosts::Hosts;
@@ -166,9 +166,9 @@ impl World {
         let _ = &self.hosts;
     }
 
-    /// Every world is one that steps made of two hosts to which nothing had happened.
+    /// Every world is one that steps made of two hosts to which nothing had happened, and the time that has passed is counted.
     pub(crate) fn is_reached(&self)
-        ensures { IsReached self.now.joined self.now.world }
+        ensures { IsReachedIn self.now.passed self.now.joined self.now.world }
     {
         // The field is looked at, so that what holds of every world is known here.
         let _ = &self.hosts;

@@ -1,9 +1,12 @@
 use Rattle.std.proofs.Common.{◌≡◌, ◌∙◌, arith, subst}
 use Rattle.enet_world.specs.Calm.{Rounds}
 use Rattle.enet_world.specs.Worlds.{passed_by_rounds}
+use Rattle.enet_world.proofs.AloneIsTold.{tells-alone}
 use Rattle.enet_world.proofs.Calming.{rounds-more}
 use Rattle.enet_world.proofs.EndsAreTold.{tells-ends, comes-or-ends}
+use Rattle.enet_world.proofs.Habits.{habits}
 use Rattle.enet_world.proofs.Reaching.{passed-more}
+use Rattle.enet_world.proofs.Stands.{both-stand}
 use Rattle.enet_world.proofs.Through.{gets-through}
 use Rattle.enet_world.proofs.world.World.calm.Goals as goal
 
@@ -29,17 +32,29 @@ returns-clause-passed c =
 pub returns-clause-progress : goal.returns-clause-progress
 returns-clause-progress c =
     let all : c.rounds.played ≡ c.args.rounds = omega (arith, c.rounds-test.false, c.rounds.invariant.end) in
-    gets-through c.args.self.now.joined c.args.ms c.args.rounds c.rounds.told c.args.self.now.world c.rounds.self.world c.is_reached.ensures
+    gets-through c.args.self.now.joined c.args.ms c.args.rounds c.rounds.told c.args.self.now.world c.rounds.self.world c.is_reached.ensures.reached
+    (habits c.args.self.now.passed c.args.self.now.joined c.args.self.now.world c.is_reached.ensures)
     (subst (λ n. Rounds c.args.ms n c.rounds.told c.args.self.now.world c.rounds.self.world) all c.rounds.invariant.rounds)
 
 pub returns-clause-told : goal.returns-clause-told
 returns-clause-told c =
     let all : c.rounds.played ≡ c.args.rounds = omega (arith, c.rounds-test.false, c.rounds.invariant.end) in
-    tells-ends c.args.self.now.joined c.args.ms c.args.rounds c.rounds.told c.args.self.now.world c.rounds.self.world c.is_reached.ensures
+    tells-ends c.args.self.now.joined c.args.ms c.args.rounds c.rounds.told c.args.self.now.world c.rounds.self.world c.is_reached.ensures.reached
     (subst (λ n. Rounds c.args.ms n c.rounds.told c.args.self.now.world c.rounds.self.world) all c.rounds.invariant.rounds)
 
 pub returns-clause-all : goal.returns-clause-all
 returns-clause-all c =
     let all : c.rounds.played ≡ c.args.rounds = omega (arith, c.rounds-test.false, c.rounds.invariant.end) in
-    comes-or-ends c.args.self.now.joined c.args.ms c.args.rounds c.rounds.told c.args.self.now.world c.rounds.self.world c.is_reached.ensures
+    comes-or-ends c.args.self.now.joined c.args.ms c.args.rounds c.rounds.told c.args.self.now.world c.rounds.self.world c.is_reached.ensures.reached
+    (habits c.args.self.now.passed c.args.self.now.joined c.args.self.now.world c.is_reached.ensures)
     (subst (λ n. Rounds c.args.ms n c.rounds.told c.args.self.now.world c.rounds.self.world) all c.rounds.invariant.rounds)
+
+pub returns-clause-alone : goal.returns-clause-alone
+returns-clause-alone c =
+    let all : c.rounds.played ≡ c.args.rounds = omega (arith, c.rounds-test.false, c.rounds.invariant.end) in
+    tells-alone c.args.self.now.joined c.args.ms c.args.rounds c.args.self.now.passed c.rounds.told c.args.self.now.world c.rounds.self.world c.is_reached.ensures
+    (subst (λ n. Rounds c.args.ms n c.rounds.told c.args.self.now.world c.rounds.self.world) all c.rounds.invariant.rounds)
+
+pub returns-clause-stands : goal.returns-clause-stands
+returns-clause-stands c = both-stand c.args.self.now.joined c.args.ms c.args.rounds c.args.self.now.world c.rounds.self.world c.is_reached.ensures.reached
+    (habits c.args.self.now.passed c.args.self.now.joined c.args.self.now.world c.is_reached.ensures)

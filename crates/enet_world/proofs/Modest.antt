@@ -1,0 +1,248 @@
+-- What a peer of which nothing is set has to send on channel 0xFF, whatever happens: while the connection stands at most one PING, and while a
+-- server awaits the client at most one command.
+use Rattle.std.proofs.Common.{◌≡◌, ℕ, ◌&&◌, leb, Bool, true, false, cond, List, [], ◌∷◌, length, refl, sym, ap, subst, Option, Some, None, is_some, nat_lt}
+use Rattle.std.specs.List.{slice_get, list_all}
+use Rattle.enet_codec.specs.declared.packet.Packet as codec
+use Rattle.enet_codec.specs.Message.{Message, Body, acknowledge, connect, verify_connect, disconnect, ping, send_reliable, send_unreliable, send_fragment, send_unsequenced, send_unreliable_fragment, bandwidth_limit, throttle_configure}
+use Rattle.enet_codec.specs.declared.command.Verify.{Verify}
+use Rattle.enet_codec.specs.declared.stop.Stop.TheVariants as stop
+use Rattle.enet_connect.specs.declared.terms.Terms.{Terms}
+use Rattle.enet_connect.specs.Verification.{confirmed}
+use Rattle.enet_rtt.specs.Clock.{elapsed_time}
+use Rattle.enet_rtt.specs.declared.expiry.Expiry.{Expiry}
+use Rattle.enet_rtt.specs.declared.expiry.Expiry.TheVariants.{No, Resend, End as Ends}
+use Rattle.enet_senders.specs.declared.control.Control.TheVariants as control
+use Rattle.enet_senders.specs.Controlling.{Commands}
+use Rattle.enet_senders.specs.Controlling as controlling
+use Rattle.enet_sender.specs.CommandChoice.{Packet}
+use Rattle.enet_sender.specs.Due.{SendingEnd}
+use Rattle.enet_outbox.specs.declared.parts.Matched.{Matched}
+use Rattle.enet_outbox.specs.declared.parts.Matched.TheVariants as matched
+use Rattle.enet_outbox.specs.Outbox.{matched_by, with_control, has_nothing_reliable, has_no_reliable, lateness}
+use Rattle.enet_outbox.specs.Outbox as outbox
+use Rattle.enet_outbox.specs.Emission.{filled}
+use Rattle.enet_peer.specs.declared.parts.PeerState.{PeerState}
+use Rattle.enet_peer.specs.declared.parts.PeerState.TheVariants as state
+use Rattle.enet_peer.specs.Peering.{Peering}
+use Rattle.enet_peer.specs.Endings.{settled, disconnecting, freed, cut_off_in, is_later}
+use Rattle.enet_peer.specs.CommandEffect.{obeyed, unless_crowded_out, stopped, is_allowed, is_connect, by_body, answered, answered_at, is_answered_in, on_acknowledge, on_match, acknowledged, welcomed, on_last_disconnect, on_disconnect_in}
+use Rattle.enet_peer.specs.Calls.{Leave, AtOnce, TellsOnce, Asks, AsksLater, Refused, left, is_connected, pace_of, pinged, is_pinged, after_timeouts_by, growth_bound, ticked, submitted, gone_on, gone_on_in, next_event, event_after, packet_event, last_event}
+use Rattle.enet_peer.proofs.Obeying.{unless-holds}
+use Rattle.law_progress.specs.Attempts.{after_take}
+use Rattle.law_progress.specs.Waits.{after_leave}
+use Rattle.enet_world.proofs.Lasting.{is_past, past-lasts}
+use Rattle.enet_world.proofs.Pings.{IsLone, Idle, is_ping, is_any, idle-lists, queued-lone, marked-lone, acknowledged-lone, answered-lone, filled-lone, connected, meets-connected}
+
+abbrev pub Controlled : PeerState → Commands → Type 0
+Controlled state.Connected c = IsLone is_ping c
+Controlled state.Answering c = IsLone is_any c
+Controlled s c = Unit {0}
+
+abbrev pub IsModest : Peering → Type 0
+IsModest p = Controlled p.state p.outbox.control
+
+-- nothing is asked of a peer that is past its connection
+past-modest : (p : Peering) → is_past p.state ≡ true → IsModest p
+past-modest p h = by p.state h
+  where
+    by : (s : PeerState) → is_past s ≡ true → Controlled s p.outbox.control
+    by state.Connected e = absurd (let z : false ≡ true = e in cc)
+    by state.Answering e = absurd (let z : false ≡ true = e in cc)
+    by s e = tt
+
+controlled-by : (s : PeerState) (c d : Commands) → ((f : _) → IsLone f c → IsLone f d) → Controlled s c → Controlled s d
+controlled-by state.Connected c d g h = g is_ping h
+controlled-by state.Answering c d g h = g is_any h
+controlled-by s c d g h = tt
+
+answered-modest : (q : Peering) (m : Message) (sent : Option ℕ) (may : Bool) → IsModest q → IsModest (answered q m sent may).after
+answered-modest q m sent may h = go (m.head.acknowledge && may && is_answered_in q.state m.body) sent
+  where
+    go : (b : Bool) (o : Option ℕ) → IsModest (cond b (answered_at q m.head o) (record { stop = None; after = q })).after
+    go false o = h
+    go true None = h
+    go true (Some time) = h
+
+-- ---- a command comes
+meets-stands : (p : Peering) (now : ℕ) (sent : Option ℕ) (m : Message) → IsLone is_ping p.outbox.control → IsModest (obeyed (connected p) now sent m).after
+meets-stands p now sent m h = meets-connected IsModest p now sent m (record {
+  same = h;
+  holds = λ b. h;
+  acknowledges = λ channel number time. acknowledged-lone is_ping p.outbox channel number h;
+  hears = λ n. h;
+  paces = λ interval acceleration deceleration. h;
+  ends = λ b info e. ends b info;
+  answers = λ q a k. k;
+})
+  where
+    ends : (b : Bool) (info : ℕ) → IsModest (on_last_disconnect (connected p) b info)
+    ends true info = tt
+    ends false info = tt
+
+abbrev in_state : PeerState → Peering → Peering
+in_state s p = record p { state = s }
+
+was-in : (p : Peering) (s : PeerState) → p.state ≡ s → in_state s p ≡ p
+was-in p s e = ap (λ (t : PeerState). record p { state = t }) (sym e)
+
+meets-answering : (p : Peering) (now : ℕ) (sent : Option ℕ) (m : Message) → IsLone is_any p.outbox.control → IsModest (obeyed (in_state state.Answering p) now sent m).after
+meets-answering p now sent m h = by m.body
+  where
+    old : Peering
+    old = record p { state = state.Answering }
+
+    gone : (channel number time : ℕ) → IsModest (on_acknowledge old now channel number time)
+    gone channel number time = go (matched_by p.outbox channel number) refl
+      where
+        less : IsLone is_any (outbox.after_acknowledgement p.outbox channel number).control
+        less = acknowledged-lone is_any p.outbox channel number h
+
+        go : (x : Matched) → matched_by p.outbox channel number ≡ x → IsModest (on_match x old (acknowledged old now channel number time))
+        go matched.Nothing e = h
+        go matched.Data e = less
+        go (matched.Control (control.VerifyConnect verify)) e = answered-lone is_any is_ping p.outbox channel number (control.VerifyConnect verify) e h
+        go (matched.Control what) e = less
+
+    effect-of : (b : Body) → IsModest (by_body old now sent m b).after → IsModest (unless_crowded_out old m (by_body old now sent m b)).after
+    effect-of b k = unless-holds IsModest old m (by_body old now sent m b) h k
+
+    by : (b : Body) → IsModest (cond (is_connect b) (stopped old stop.BadCommand) (cond (is_allowed state.Answering b) (unless_crowded_out old m (by_body old now sent m b)) (stopped old stop.NotConnected))).after
+    by (acknowledge number time) = effect-of (acknowledge number time) (answered-modest (on_acknowledge old now m.head.channel number time) m sent true (gone m.head.channel number time))
+    by (connect offer) = h
+    by (verify_connect v) = effect-of (verify_connect v) (answered-modest old m sent true h)
+    by (disconnect info) = effect-of (disconnect info) (answered-modest (freed old) m sent true tt)
+    by ping = h
+    by (send_reliable payload) = h
+    by (send_unreliable number payload) = h
+    by (send_fragment fragment payload) = h
+    by (send_unsequenced group payload) = h
+    by (send_unreliable_fragment fragment payload) = h
+    by (bandwidth_limit incoming outgoing) = h
+    by (throttle_configure interval acceleration deceleration) = h
+
+meets-asking : (p : Peering) (now : ℕ) (sent : Option ℕ) (m : Message) → IsModest (obeyed (in_state state.Connecting p) now sent m).after
+meets-asking p now sent m = by m.body
+  where
+    old : Peering
+    old = record p { state = state.Connecting }
+
+    greets : (v : Verify) (o : Option Terms) → IsModest (welcomed old v o)
+    greets v None = tt
+    greets v (Some terms) = Idle refl refl
+
+    effect-of : (b : Body) → IsModest (by_body old now sent m b).after → IsModest (unless_crowded_out old m (by_body old now sent m b)).after
+    effect-of b k = unless-holds IsModest old m (by_body old now sent m b) tt k
+
+    by : (b : Body) → IsModest (cond (is_connect b) (stopped old stop.BadCommand) (cond (is_allowed state.Connecting b) (unless_crowded_out old m (by_body old now sent m b)) (stopped old stop.NotConnected))).after
+    by (acknowledge number time) = effect-of (acknowledge number time) (answered-modest old m sent true tt)
+    by (connect offer) = tt
+    by (verify_connect v) = effect-of (verify_connect v) (answered-modest (welcomed old v (confirmed old.offer v)) m sent true (greets v (confirmed old.offer v)))
+    by (disconnect info) = effect-of (disconnect info) (answered-modest (on_disconnect_in state.Connecting old (m.head.acknowledge && is_some sent) info) m sent true tt)
+    by ping = tt
+    by (send_reliable payload) = tt
+    by (send_unreliable number payload) = tt
+    by (send_fragment fragment payload) = tt
+    by (send_unsequenced group payload) = tt
+    by (send_unreliable_fragment fragment payload) = tt
+    by (bandwidth_limit incoming outgoing) = tt
+    by (throttle_configure interval acceleration deceleration) = tt
+
+pub modest-obeyed : (p : Peering) (now : ℕ) (sent : Option ℕ) (m : Message) → IsModest p → IsModest (obeyed p now sent m).after
+modest-obeyed p now sent m h = by p.state refl
+  where
+    by : (s : PeerState) → p.state ≡ s → IsModest (obeyed p now sent m).after
+    by state.Connected e = subst (λ (x : Peering). IsModest (obeyed x now sent m).after) (was-in p state.Connected e) (meets-stands p now sent m (subst (λ (s : PeerState). Controlled s p.outbox.control) e h))
+    by state.Answering e = subst (λ (x : Peering). IsModest (obeyed x now sent m).after) (was-in p state.Answering e) (meets-answering p now sent m (subst (λ (s : PeerState). Controlled s p.outbox.control) e h))
+    by state.Connecting e = subst (λ (x : Peering). IsModest (obeyed x now sent m).after) (was-in p state.Connecting e) (meets-asking p now sent m)
+    by s e = past-modest (obeyed p now sent m).after (past-lasts.comes p now sent m (ap is_past e))
+
+-- ---- time goes on
+both-so : (a b : Bool) → (a && b) ≡ true → (a ≡ true) × (b ≡ true)
+both-so true true h = (refl, refl)
+both-so true false h = absurd (let z : false ≡ true = h in cc)
+both-so false b h = absurd (let z : false ≡ true = h in cc)
+
+pinged-modest : (q : Peering) (now : ℕ) → IsModest q → IsModest (pinged q now)
+pinged-modest q now h = by (is_pinged q now) refl
+  where
+    one : (s : PeerState) → is_connected s ≡ true → controlling.is_idle q.outbox.control ≡ true → Controlled s (controlling.with_queued q.outbox.control control.Ping)
+    one state.Connected on idle = (let z = idle-lists q.outbox.control idle in queued-lone is_ping q.outbox.control control.Ping refl z.0 z.1)
+    one s on idle = absurd (let z : false ≡ true = on in cc)
+
+    by : (b : Bool) → is_pinged q now ≡ b → IsModest (cond b (record q { outbox = with_control q.outbox control.Ping }) q)
+    by false e = h
+    by true e =
+        let first = both-so (is_connected q.state && has_nothing_reliable q.outbox) (leb q.ping_interval (elapsed_time now q.heard)) e in
+        let second = both-so (is_connected q.state) (has_nothing_reliable q.outbox) first.0 in
+        let third = both-so (controlling.is_idle q.outbox.control) (list_all has_no_reliable q.outbox.senders) second.1 in
+        one q.state second.0 third.0
+
+pub modest-ticked : (p : Peering) (now : ℕ) → IsModest p → IsModest (ticked p now)
+modest-ticked p now h = pinged-modest (after_timeouts_by (lateness p.outbox now p.patience p.heard) p now) now (by (lateness p.outbox now p.patience p.heard))
+  where
+    cut : (s : PeerState) → IsModest (cut_off_in s p)
+    cut state.Answering = tt
+    cut s = tt
+
+    by : (x : Expiry) → IsModest (after_timeouts_by x p now)
+    by Ends = cut p.state
+    by Resend = controlled-by p.state p.outbox.control (controlling.with_marked (growth_bound p) now p.outbox.control) (λ f. marked-lone f (growth_bound p) now p.outbox.control) h
+    by No = h
+
+-- ---- a datagram goes, or none
+settled-modest : (p : Peering) → IsModest p → IsModest (settled p)
+settled-modest p h = by (is_later p.state && outbox.is_done p.outbox)
+  where
+    by : (b : Bool) → IsModest (cond b (disconnecting p p.info) p)
+    by true = tt
+    by false = h
+
+pub modest-went : (p : Peering) (s : PeerState) → IsModest p → IsModest (gone_on_in s p)
+modest-went p state.AckDisconnect h = tt
+modest-went p state.Parting h = by (nat_lt 0 (length p.outbox.control.queued))
+  where
+    by : (b : Bool) → IsModest (cond b p (freed p))
+    by true = h
+    by false = tt
+modest-went p s h = settled-modest p h
+
+pub modest-emitted : (p : Peering) (now : ℕ) → IsModest p → IsModest (gone_on (record p { outbox = (filled (pace_of p now) p.outbox).outbox }))
+modest-emitted p now h =
+    modest-went (record p { outbox = (filled (pace_of p now) p.outbox).outbox }) p.state (controlled-by p.state p.outbox.control (filled (pace_of p now) p.outbox).outbox.control (λ f. filled-lone f (pace_of p now) p.outbox) h)
+
+-- ---- the user's calls
+pub modest-submitted : (p : Peering) (channel : ℕ) (q : Packet) → IsModest p → IsModest (submitted p channel q)
+modest-submitted p channel q h = by (outbox.is_unsequenced p.terms.mtu q)
+  where
+    on : (x : Option SendingEnd) → IsModest (record p { outbox = outbox.with_sequenced p.outbox p.terms.mtu channel q x })
+    on None = h
+    on (Some s) = h
+
+    by : (b : Bool) → IsModest (record p { outbox = cond b (outbox.with_unsequenced p.outbox channel q) (outbox.with_sequenced p.outbox p.terms.mtu channel q (slice_get p.outbox.senders channel)) })
+    by true = h
+    by false = on (slice_get p.outbox.senders channel)
+
+pub modest-takes : (p : Peering) → IsModest p → IsModest (after_take p (next_event p))
+modest-takes p h = by p.greeting
+  where
+    last : (s : PeerState) → IsModest (after_take p (last_event s p))
+    last state.Ended = tt
+    last s = h
+
+    packets : (untaken : List codec.Packet) → IsModest (after_take p (packet_event p untaken))
+    packets [] = last p.state
+    packets (q ∷ rest) = h
+
+    by : (greeting : Option ℕ) → IsModest (after_take p (event_after p greeting))
+    by (Some info) = h
+    by None = packets p.inbox.untaken
+
+pub modest-left : (p : Peering) (leave : Leave) (info : ℕ) → IsModest p → IsModest (after_leave p (left leave p info))
+modest-left p AtOnce info h = tt
+modest-left p TellsOnce info h = tt
+modest-left p Asks info h = tt
+modest-left p AsksLater info h = settled-modest (record p { state = state.DisconnectLater; info = info }) tt
+modest-left p Refused info h = h
+
+pub modest-pings : (p : Peering) → p.state ≡ state.Connected → IsModest p → IsLone is_ping p.outbox.control
+modest-pings p on h = subst (λ (s : PeerState). Controlled s p.outbox.control) on h

@@ -1,0 +1,121 @@
+-- Whatever was sent is due to go again, or its timeout isn't over: at each peer, however long ago it was sent.
+use Rattle.std.proofs.Common.{◌≡◌, ℕ, ◌^◌, ◌<◌, ◌≤◌, ◌&&◌, not, leb, Bool, true, false, cond, List, map, refl, sym, ap, subst, ◌∙◌, inl, inr, ◌⊎◌, arith}
+use Rattle.std.proofs.lemmas.Bool.Decides.{nat_tests}
+use Rattle.std.specs.List.{list_any}
+use Rattle.enet_rtt.specs.Clock.{elapsed_time}
+use Rattle.enet_rtt.specs.Timing.{timeout}
+use Rattle.enet_rtt.specs.Transmission as transmission
+use Rattle.enet_rtt.specs.declared.transmission.Transmission.{Transmission}
+use Rattle.enet_rtt.specs.declared.expiry.Expiry.TheVariants.{No, Resend, End}
+use Rattle.enet_senders.specs.Controlling as controlling
+use Rattle.enet_senders.specs.declared.control.Control.TheVariants as control
+use Rattle.enet_senders.specs.declared.control.SentControl.{SentControl}
+use Rattle.law_connection.specs.LinkSteps.{Has}
+use Rattle.enet_sender.specs.declared.sent.Sent.{Sent}
+use Rattle.enet_sender.specs.Sender as sender
+use Rattle.enet_sender.specs.Due.{SendingEnd}
+use Rattle.enet_outbox.specs.Outbox.{has_ended, has_late, marked_sender, cleared_sender}
+use Rattle.enet_outbox.specs.Outbox as outbox
+use Rattle.enet_outbox.specs.Emission.{filled}
+use Rattle.enet_peer.specs.declared.parts.PeerState.{PeerState}
+use Rattle.enet_peer.specs.declared.parts.PeerState.TheVariants as state
+use Rattle.enet_peer.specs.Peering.{Peering}
+use Rattle.enet_peer.specs.Endings.{cut_off_in}
+use Rattle.enet_peer.specs.Calls.{pace_of, gone_on_in, ticked, pinged, is_pinged, after_timeouts_by, growth_bound}
+use Rattle.law_progress.proofs.Waiting.{Fair, Sends, each-filled, fair-went, none-of, or-both, Has-mapped}
+
+-- at this moment a sent command is due to go again, or its timeout isn't over
+abbrev pub Rests : ℕ → Transmission → Type 0
+Rests now t = (t.due ≡ true) ⊎ ((t.last < 2 ^ 32) × (elapsed_time now t.last ≤ t.timeout))
+
+-- the greatest patience is ENet's
+abbrev pub most : ℕ
+most = 30000
+
+no-time : (now : ℕ) → elapsed_time now now ≡ 0
+no-time now = omega arith
+
+rests-now : (now wait : ℕ) → now < 2 ^ 32 → (now < 2 ^ 32) × (elapsed_time now now ≤ wait)
+rests-now now wait low = (low, (let z = no-time now in omega arith))
+
+-- time comes: what isn't late then has time left
+rests-marked : (bound now : ℕ) (t : Transmission) → (t.due ≡ true) ⊎ (t.last < 2 ^ 32) → Rests now (transmission.marked bound now t)
+rests-marked bound now t k = by t.due refl (leb t.timeout (elapsed_time now t.last)) refl k
+  where
+    grows : Transmission
+    grows = record t { timeout = transmission.grown_time bound t.timeout; due = true }
+
+    same : transmission.is_late now t ≡ false → Rests now t → Rests now (transmission.marked bound now t)
+    same e r = subst (λ b. Rests now (cond b grows t)) (sym e) r
+
+    below : (m n : ℕ) → leb m n ≡ false → n ≤ m
+    below m n e = grind (arith, nat_tests)
+
+    by : (due : Bool) → t.due ≡ due → (late : Bool) → leb t.timeout (elapsed_time now t.last) ≡ late → (t.due ≡ true) ⊎ (t.last < 2 ^ 32) → Rests now (transmission.marked bound now t)
+    by true e late f j = same (ap (λ b. not b && leb t.timeout (elapsed_time now t.last)) e) (inl e)
+    by false e false f (inl due) = absurd (let z : true ≡ false = sym due ∙ e in cc)
+    by false e false f (inr low) = same (λ i. not (e i) && f i) (inr (low, below t.timeout (elapsed_time now t.last) f))
+    by false e true f j = subst (λ b. Rests now (cond b grows t)) (sym (λ i. not (e i) && f i)) (inl refl)
+
+dated : (now : ℕ) (t : Transmission) → Rests now t → (t.due ≡ true) ⊎ (t.last < 2 ^ 32)
+dated now t (inl due) = inl due
+dated now t (inr k) = inr k.0
+
+none-cleared : (R : Transmission → Type 0) (xs : List SendingEnd) → (s : SendingEnd) → Has (map cleared_sender xs) s → (t : Sent) → Has s.sender.sent t → R t.transmission
+none-cleared R xs s h t k = let c = Has-mapped cleared_sender xs s h in absurd (subst (λ (x : SendingEnd). Has x.sender.sent t) (sym c.2) k)
+
+pub rests-ticked : (now next : ℕ) (p : Peering) → Fair (Rests now) most p → Fair (Rests next) most (ticked p next)
+rests-ticked now next p h = go (has_ended p.outbox next p.patience p.heard) (has_late p.outbox next) refl
+  where
+    goes : (bound : ℕ) (t : Transmission) → Rests now t → Rests next (transmission.marked bound next t)
+    goes bound t r = rests-marked bound next t (dated now t r)
+
+    marks : (bound : ℕ) → Fair (Rests next) most (record p { outbox = outbox.marked p.outbox bound next })
+    marks bound = (
+      (
+        (λ t k. (let c = Has-mapped (controlling.marked bound next) p.outbox.control.sent t k in subst (λ (x : SentControl). Rests next x.transmission) c.2 (goes bound c.0.transmission (h.0.0 c.0 c.1)))),
+        (λ s k t j. (let d = Has-mapped (marked_sender bound next) p.outbox.senders s k in
+            let c = Has-mapped (sender.marked bound next) d.0.sender.sent t (subst (λ (x : SendingEnd). Has x.sender.sent t) (sym d.2) j) in
+            subst (λ (x : Sent). Rests next x.transmission) c.2 (goes bound c.0.transmission (h.0.1 d.0 d.1 c.0 c.1)))),
+      ),
+      h.1,
+      h.2,
+    )
+
+    -- nothing is late: all stays as it was
+    same : (t : Transmission) → transmission.is_late next t ≡ false → transmission.marked 0 next t ≡ t
+    same t e = ap (λ b. cond b (record t { timeout = transmission.grown_time 0 t.timeout; due = true }) t) e
+
+    stays : has_late p.outbox next ≡ false → Fair (Rests next) most p
+    stays f = (let both = or-both (list_any (controlling.is_late next) p.outbox.control.sent) _ f in (
+      (
+        (λ t k. subst (λ (x : Transmission). Rests next x) (same t.transmission (none-of (controlling.is_late next) p.outbox.control.sent t both.0 k)) (goes 0 t.transmission (h.0.0 t k))),
+        (λ s k t j. subst (λ (x : Transmission). Rests next x)
+            (same t.transmission (none-of (sender.is_late next) s.sender.sent t (none-of (λ (x : SendingEnd). list_any (sender.is_late next) x.sender.sent) p.outbox.senders s both.1 k) j))
+            (goes 0 t.transmission (h.0.1 s k t j))),
+      ),
+      h.1,
+      h.2,
+    ))
+
+    cut : (s : PeerState) → Fair (Rests next) most (cut_off_in s p)
+    cut state.Answering = (((λ t k. absurd k), none-cleared (Rests next) p.outbox.senders), h.1, h.2)
+    cut s = (((λ t k. absurd k), none-cleared (Rests next) p.outbox.senders), h.1, h.2)
+
+    pings : (q : Peering) → Fair (Rests next) most q → Fair (Rests next) most (pinged q next)
+    pings q k = by (is_pinged q next)
+      where
+        by : (b : Bool) → Fair (Rests next) most (cond b (record q { outbox = outbox.with_control q.outbox control.Ping }) q)
+        by true = k
+        by false = k
+
+    go : (e late : Bool) → has_late p.outbox next ≡ late → Fair (Rests next) most (pinged (after_timeouts_by (cond e End (cond late Resend No)) p next) next)
+    go true late f = pings (cut_off_in p.state p) (cut p.state)
+    go false true f = pings (record p { outbox = outbox.marked p.outbox (growth_bound p) next }) (marks (growth_bound p))
+    go false false f = pings p (stays f)
+
+pub rests-emitted : (now : ℕ) (p : Peering) → now < 2 ^ 32 → Fair (Rests now) most p → Fair (Rests now) most (gone_on_in p.state (record p { outbox = (filled (pace_of p now) p.outbox).outbox }))
+rests-emitted now p low h =
+    let f = filled (pace_of p now) p.outbox in
+    let sends : Sends (Rests now) now (timeout p.estimate) = record { first = inr (rests-now now (timeout p.estimate) low); again = λ t r due. inr (rests-now now t.timeout low) } in
+    fair-went (Rests now) most (record p { outbox = f.outbox }) p.state (each-filled (Rests now) (pace_of p now) p.outbox sends h.0, h.1, h.2)

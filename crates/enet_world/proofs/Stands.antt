@@ -1,0 +1,222 @@
+-- Rounds in which nothing stood in the way leave two connected peers connected, where what waited before them was young.
+use Rattle.std.proofs.Common.{refl, ◌≡◌, ◌<◌, inl, inr, ℕ, zero, suc, min, Bool, true, sym, ap, subst, ◌∙◌, Option, Some, None, ◌+◌, ◌*◌, ◌≤◌, arith, [], append-nil}
+use Rattle.std.specs.Option.{option_and_then, option_map}
+use Rattle.enet_rtt.specs.Clock.{elapsed_time, since_later}
+use Rattle.enet_rtt.specs.declared.transmission.Transmission.{Transmission}
+use Rattle.enet_peer.specs.declared.parts.PeerState.{PeerState}
+use Rattle.enet_peer.specs.declared.parts.PeerState.TheVariants as state
+use Rattle.enet_peer.specs.Peering.{Peering}
+use Rattle.enet_host.specs.Host.{named}
+use Rattle.enet_host.specs.Ticking.{clock_after}
+use Rattle.law_connection.specs.Connection.{End}
+use Rattle.law_network.specs.declared.event.Side.{Side}
+use Rattle.law_network.specs.declared.event.Side.TheVariants.{A, B}
+use Rattle.law_network.specs.Network.{HostEnd}
+use Rattle.law_network.specs.World.{World, site_of}
+use Rattle.law_progress.proofs.Exchanges.{same-peer}
+use Rattle.law_progress.proofs.Waiting.{Each}
+use Rattle.enet_site.specs.Standing.{peer_at, state_at}
+use Rattle.enet_world.specs.declared.calm.Calm.{Calm}
+use Rattle.enet_world.specs.Calm.{Round, Rounds, is_smooth}
+use Rattle.enet_world.specs.Ended.{IsStill}
+use Rattle.enet_world.specs.Private.Worlds.{IsReached}
+use Rattle.enet_world.specs.Stands.{IsYoung, AllYoung, BothStand}
+use Rattle.enet_world.proofs.AnyRound.{AreUp, round-on}
+use Rattle.enet_world.proofs.EndsAreTold.{IsHere, keeps, ticked, up-rises, same-named, nobody-so, Begins, begins as begins-in}
+use Rattle.enet_world.proofs.Untouched.{is_up}
+use Rattle.enet_world.proofs.Habits.{Habits, HostHabits}
+use Rattle.enet_world.proofs.InRounds.{clock_at, named-up, lone-up}
+use Rattle.enet_world.proofs.Punctual.{Rests}
+use Rattle.enet_world.proofs.Steady.{IsPlain, Ready, one-lasts, two-lasts, ready-first, ReadyAgain, steady-round}
+use Rattle.enet_world.proofs.Through.{Smooth, smooth-so, smooth-parts, both-so, AtMoment, at-moment-on, Rounded, round-goes-on, round-clocks, habits-rounds, reached-rounds, IsConnected, connected-at, Begun, begun, shown-end-of, kept-round, reached-round}
+use Rattle.enet_world.proofs.Youth.{IsYoungBy}
+use Rattle.enet_world.proofs.TwoEnds.{from_start, sound, host-at, Up, up-swapped}
+
+-- ---- rounds
+plain-up : (joined : Bool) (w : World) (x : ℕ) (side : Side) (own far : End) → Habits w → (u : Up joined w x side own far) → IsPlain u.p
+plain-up joined w x side own far k u = record {
+  on = u.on_p;
+  patience = (let h : HostHabits (site_of w side).host = k side in let p = h.peers u.ends.e.name u.p (named-up joined w x side own far u) in p.1);
+  lone = lone-up joined w x side own far k u;
+}
+
+plain-far : (joined : Bool) (w : World) (x : ℕ) (own far : End) → Habits w → (u : Up joined w x A own far) → IsPlain u.q
+plain-far joined w x own far k u = by (up-swapped joined w x A own far u)
+  where
+    by : Up joined w x B far own → IsPlain u.q
+    by y = subst IsPlain (same-peer far y.p u.q y.is_p u.is_q) (plain-up joined w x B far own k y)
+
+-- both ends are connected, and ready for the next round
+record StandsReady (joined : Bool) (v : World) (x d : ℕ) : Type 0 where
+  one : End
+  two : End
+  up : Up joined v x A one two
+  ready : Ready d (clock_at v A) (clock_at v B) up.p up.q
+
+-- the next moments come, by which neither patience is over
+moments-stand : (joined : Bool) (ms : ℕ) (told : Calm) (w v : World) (x : ℕ) → IsReached joined w → Habits w → min ms 60000 < 30000 → (k : StandsReady joined w x (min ms 60000)) → (d : Round ms told w v)
+    → AtMoment joined d.ticked x (clock_after (clock_at w A) ms) (clock_after (clock_at w B) ms) k.one k.two
+moments-stand joined ms told w v x r habits low k d = at-moment-on joined ms told w v x k.one k.two r k.up d
+    (one-lasts (min ms 60000) (clock_at w A) (clock_at w B) k.up.p k.up.q low (plain-up joined w x A k.one k.two habits k.up) k.ready)
+    (two-lasts (min ms 60000) (clock_at w A) (clock_at w B) k.up.p k.up.q low (plain-far joined w x k.one k.two habits k.up) k.ready)
+
+one-stands : (joined : Bool) (ms : ℕ) (told : Calm) (w v : World) (x : ℕ) → IsReached joined w → Habits w → min ms 60000 < 30000 → StandsReady joined w x (min ms 60000) → Round ms told w v → Smooth told.a → Smooth told.b → StandsReady joined v x (min ms 60000)
+one-stands joined ms told w v x r habits low k round a b = record {
+  one = l.one;
+  two = l.two;
+  up = l.up;
+  ready = subst (λ c. Ready d c (clock_at v B) l.up.p l.up.q) (sym (clocks A)) (subst (λ c. Ready d now c l.up.p l.up.q) (sym (clocks B))
+      (subst (λ p. Ready d now there p l.up.q) (same-peer l.one s.one l.up.p s.is_one l.up.is_p) (subst (λ q. Ready d now there s.one q) (same-peer l.two s.two l.up.q s.is_two l.up.is_q) s.ready)));
+}
+  where
+    d : ℕ
+    d = min ms 60000
+
+    now : ℕ
+    now = clock_after (clock_at w A) ms
+
+    there : ℕ
+    there = clock_after (clock_at w B) ms
+
+    l : Rounded joined v x now there k.one k.two
+    l = round-goes-on joined ms told w v x k.one k.two r habits round a b (moments-stand joined ms told w v x r habits low k round)
+
+    s : ReadyAgain d now there (record { one = l.one; two = l.two })
+    s = steady-round (from_start joined x) d (clock_at w A) (clock_at w B) (record { one = k.one; two = k.two }) (record { one = l.one; two = l.two }) k.up.p k.up.q low k.up.joint k.up.is_p k.up.is_q
+        (plain-up joined w x A k.one k.two habits k.up) (plain-far joined w x k.one k.two habits k.up) k.ready l.round
+
+    clocks : (side : Side) → clock_at v side ≡ clock_after (clock_at w side) ms
+    clocks = round-clocks ms told w v round
+
+rounds-stand : (joined : Bool) (ms n : ℕ) (told : Calm) (w v : World) (x : ℕ) → IsReached joined w → Habits w → min ms 60000 < 30000 → StandsReady joined w x (min ms 60000) → Rounds ms n told w v → Smooth told.a → Smooth told.b → StandsReady joined v x (min ms 60000)
+rounds-stand joined ms zero told w v x r habits low u d a b = subst (λ (y : World). StandsReady joined y x (min ms 60000)) (sym d.1) u
+rounds-stand joined ms (suc n) told w v x r habits low u d a b =
+    let parts_a = smooth-parts d.0.a d.1.a told.a (ap (λ (y : Calm). y.a) d.5) a in
+    let parts_b = smooth-parts d.0.b d.1.b told.b (ap (λ (y : Calm). y.b) d.5) b in
+    one-stands joined ms d.1 d.2 v x (reached-rounds joined ms n d.0 w d.2 d.3 r) (habits-rounds ms n d.0 w d.2 d.3 habits) low (rounds-stand joined ms n d.0 w d.2 x r habits low u d.3 parts_a.0 parts_b.0) d.4 parts_a.1 parts_b.1
+
+-- ---- before and after
+up-state : (joined : Bool) (w : World) (x : ℕ) (side : Side) (own far : End) → IsReached joined w → (u : Up joined w x side own far) → state_at (site_of w side) x ≡ Some state.Connected
+up-state joined w x side own far r u =
+    ap (λ (o : Option HostEnd). option_map (λ (p : Peering). p.state) (option_and_then (λ (e : HostEnd). named (site_of w side).host.slots e.name) o))
+    (shown-end-of (site_of w side) w.count x u.ends.e (host-at (from_start joined) w (sound joined w r) side) u.ends.here u.ends.of_e)
+    ∙ ap (λ (o : Option Peering). option_map (λ (p : Peering). p.state) o) (named-up joined w x side own far u) ∙ ap (λ (s : PeerState). Some s) u.on_p
+
+-- an end is there still, with its name, or its peer is gone
+here-round : (joined : Bool) (ms : ℕ) (told : Calm) (was : HostEnd) (x : ℕ) (side : Side) (w v : World) → Round ms told w v → IsHere joined is_up was x side w → IsHere joined is_up was x side v
+here-round joined ms told was x side w v d k = kept-round (IsHere joined is_up was x side) (keeps joined is_up up-rises was x side) ms told w v d (ticked joined is_up up-rises was x side ms told w v d k)
+
+here-rounds : (joined : Bool) (ms n : ℕ) (told : Calm) (was : HostEnd) (x : ℕ) (side : Side) (w v : World) → Rounds ms n told w v → IsHere joined is_up was x side w → IsHere joined is_up was x side v
+here-rounds joined ms zero told was x side w v d k = subst (IsHere joined is_up was x side) (sym d.1) k
+here-rounds joined ms (suc n) told was x side w v d k = here-round joined ms d.1 was x side d.2 v d.4 (here-rounds joined ms n d.0 was x side w d.2 d.3 k)
+
+still-connected : (joined : Bool) (old new : World) (x : ℕ) (side : Side) (a : Begins (site_of old side) x state.Connected) → IsHere joined is_up a.was x side new → state_at (site_of new side) x ≡ Some state.Connected → IsStill state.Connected old new x side
+still-connected joined old new x side a (r, inl k) on = (on, same-named old new x side a.was k.e a.there k.there k.called)
+still-connected joined old new x side a (r, inr over) on = absurd (let z : ◌≡◌ {A = Option PeerState} (Some state.Connected) None = sym on ∙ nobody-so a.was (site_of new side) x over in cc)
+
+-- a clock goes on by no more than a round's milliseconds
+low : (ms : ℕ) → ms < 30000 → min ms 60000 < 30000
+low ms h = grind arith
+
+young-by : (ms clock heard : ℕ) (t : Transmission) → IsYoung ms clock heard t → IsYoungBy (min ms 60000) clock heard t
+young-by ms clock heard t y = (elim y.0 [ inl few ↦ inl few | inr near ↦ inr (sooner (since_later clock t.first heard) (min ms 60000) (least ms) near) ], fewer (elapsed_time clock t.first + t.timeout) (min ms 60000) (least ms) y.1)
+  where
+    least : (n : ℕ) → min n 60000 ≤ n
+    least n = grind arith
+
+    sooner : (a d : ℕ) → d ≤ ms → a + ms < 5000 → a + d < 5000
+    sooner a d h k = omega arith
+
+    fewer : (a d : ℕ) → d ≤ ms → a + 2 * ms < 30000 → a + 2 * d < 30000
+    fewer a d h k = omega arith
+
+pub both-stand : (joined : Bool) (ms rounds : ℕ) (old new : World) → IsReached joined old → Habits old → BothStand ms rounds old new
+both-stand joined ms rounds old new r habits x before brief young all side = still side
+  where
+    parts : (is_smooth all.before.a ≡ true) × (is_smooth all.before.b ≡ true)
+    parts = both-so (is_smooth all.before.a) (is_smooth all.before.b) all.smooth
+
+    here : IsConnected old.a x
+    here = connected-at old.a x before.0
+
+    there : IsConnected old.b x
+    there = connected-at old.b x before.1
+
+    first : Begun joined old x here.stands.peer there.stands.peer
+    first = begun joined old x r here there
+
+    -- the peer that stands at a side
+    standing-a : peer_at old.a x ≡ Some first.up.p
+    standing-a = at-a ∙ ap (λ (p : Peering). Some p) (sym first.same_p)
+      where
+        at-a : peer_at old.a x ≡ Some here.stands.peer
+        at-a = ap (λ (o : Option HostEnd). option_and_then (λ (e : HostEnd). named old.a.host.slots e.name) o) here.stands.there ∙ here.stands.is
+
+    standing-b : peer_at old.b x ≡ Some first.up.q
+    standing-b = at-b ∙ ap (λ (p : Peering). Some p) (sym first.same_q)
+      where
+        at-b : peer_at old.b x ≡ Some there.stands.peer
+        at-b = ap (λ (o : Option HostEnd). option_and_then (λ (e : HostEnd). named old.b.host.slots e.name) o) there.stands.there ∙ there.stands.is
+
+    young-a : AllYoung ms (clock_at old A) first.up.p
+    young-a = young A first.up.p standing-a
+
+    young-b : AllYoung ms (clock_at old B) first.up.q
+    young-b = young B first.up.q standing-b
+
+    begins : StandsReady joined old x (min ms 60000)
+    begins = record {
+      one = first.own;
+      two = first.far;
+      up = first.up;
+      ready = ready-first (min ms 60000) (clock_at old A) (clock_at old B) first.up.p first.up.q
+          (λ t h. young-by ms (clock_at old A) first.up.p.heard t.transmission (young-a.controls t h)) (λ s h t k. young-by ms (clock_at old A) first.up.p.heard t.transmission (young-a.channels s h t k))
+          (λ t h. young-by ms (clock_at old B) first.up.q.heard t.transmission (young-b.controls t h)) (λ s h t k. young-by ms (clock_at old B) first.up.q.heard t.transmission (young-b.channels s h t k)) rests-a rests-b;
+    }
+      where
+        h_a : HostHabits old.a.host
+        h_a = habits A
+
+        h_b : HostHabits old.b.host
+        h_b = habits B
+
+        rests-a : Each (Rests (clock_at old A)) first.up.p.outbox.control.sent first.up.p.outbox.senders
+        rests-a = (let k = h_a.peers first.up.ends.e.name first.up.p (named-up joined old x A first.own first.far first.up) in k.0.0)
+
+        here-b : Up joined old x B first.far first.own
+        here-b = up-swapped joined old x A first.own first.far first.up
+
+        rests-at : (p : Peering) → first.far.peer ≡ Some p → Each (Rests (clock_at old B)) p.outbox.control.sent p.outbox.senders
+        rests-at p is = (let k = h_b.peers here-b.ends.e.name here-b.p (named-up joined old x B first.far first.own here-b) in
+            subst (λ (y : Peering). Each (Rests (clock_at old B)) y.outbox.control.sent y.outbox.senders) (same-peer first.far here-b.p p here-b.is_p is) k.0.0)
+
+        rests-b : Each (Rests (clock_at old B)) first.up.q.outbox.control.sent first.up.q.outbox.senders
+        rests-b = rests-at first.up.q first.up.is_q
+
+    mid : StandsReady joined all.between x (min ms 60000)
+    mid = rounds-stand joined ms all.earlier all.before old all.between x r habits (low ms brief) begins all.rounds_before (smooth-so all.before.a parts.0) (smooth-so all.before.b parts.1)
+
+    reached : IsReached joined all.between
+    reached = reached-rounds joined ms all.earlier all.before old all.between all.rounds_before r
+
+    habits' : Habits all.between
+    habits' = habits-rounds ms all.earlier all.before old all.between all.rounds_before habits
+
+    last : AreUp joined new x A
+    last = round-on joined ms all.counts all.between new x (clock_after (clock_at all.between A) ms) (clock_after (clock_at all.between B) ms) mid.one mid.two reached habits' all.last
+        (moments-stand joined ms all.counts all.between new x reached habits' (low ms brief) mid all.last)
+
+    at-last : IsReached joined new
+    at-last = reached-round joined ms all.counts all.between new all.last reached
+
+    begins-at : (at : Side) → Begins (site_of old at) x state.Connected
+    begins-at A = begins-in old.a x state.Connected before.0
+    begins-at B = begins-in old.b x state.Connected before.1
+
+    here-at : (at : Side) (a : Begins (site_of old at) x state.Connected) → IsHere joined is_up a.was x at new
+    here-at at a = here-round joined ms all.counts a.was x at all.between new all.last (here-rounds joined ms all.earlier all.before a.was x at old all.between all.rounds_before
+        (r, inl (record { e = a.was; there = a.there; more = []; called = refl; took = sym (append-nil a.was.events); p = a.p; is = a.is; up = ap is_up a.in_it })))
+
+    still : (at : Side) → IsStill state.Connected old new x at
+    still A = still-connected joined old new x A (begins-at A) (here-at A (begins-at A)) (up-state joined new x A last.0 last.1 at-last last.2)
+    still B = still-connected joined old new x B (begins-at B) (here-at B (begins-at B)) (up-state joined new x B last.1 last.0 at-last (up-swapped joined new x A last.0 last.1 last.2))
