@@ -42,9 +42,23 @@ python3 scripts/quotes.py
 python3 scripts/check-documents.py
 bash scripts/check-trials.sh
 END
-# One check a processor: several processors on one check take twice the processor time for the same proof.
-RT_JOBS=${RT_JOBS:-$(nproc)} rt ci
+# The gate, with one check a processor: several processors on one check take twice the processor time for the same proof.
+prove() {
+    RT_JOBS=${RT_JOBS:-$(nproc)} rt ci 2>&1 | tee "$room/gate"
+    return "${PIPESTATUS[0]}"
+}
+prove
 gate=$?
+# Where the disk is full for a while, crates that are proved just then aren't built. Once it has the 3 GB that the gate wants, in ten minutes at
+# most, what failed is tried once more; what passed is kept.
+if [ "$gate" != 0 ] && grep -qE 'could not write its statements|the disk is full' "$room/gate"; then
+    for _ in {1..20}; do
+        [ "$(df -m --output=avail . | tail -n 1)" -lt 3000 ] || break
+        sleep 30
+    done
+    prove
+    gate=$?
+fi
 echo "rt ci ended with status $gate after $((SECONDS - begun)) seconds"
 if [ "$gate" != 0 ]; then
     show texts
