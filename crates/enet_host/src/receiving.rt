@@ -115,7 +115,8 @@ pub(crate) fn receive(
     if let Some(why) = refused_by(slots, from, &header) {
         return stopped(why);
     }
-    sleepers.wake(usize::from(header.peer));
-    let slot = &mut slots[usize::from(header.peer)];
-    slot.receive(start.clock, header.sent, commands)
+    let number = usize::from(header.peer);
+    let answer = slots[number].receive(start.clock, header.sent, commands);
+    sleepers.hear(slots, number, start.clock);
+    answer
 }

@@ -4,6 +4,7 @@ use Rattle.std.specs.Option.{option_map}
 use Rattle.std.proofs.lemmas.Bool.{cases_eq, cases_lt}
 use Rattle.std.proofs.lemmas.List.{get_or-set_other, get_or-set_same, get_or_past, get_or-replicate, length-set, length-map, length-replicate}
 use Rattle.std.proofs.lemmas.Option.{slice_get_within, slice_get-get_or, slice_get_read, get_or_from_slice_get, slice_get-map}
+use Rattle.enet_codec.specs.declared.address.Addr.{Addr}
 use Rattle.enet_deadlines.specs.Clock.{HappensAt}
 use Rattle.enet_deadlines.specs.Moments.{IsAt}
 use Rattle.enet_deadlines.specs.Sets.{IsIn, IsOut}
@@ -12,7 +13,7 @@ use Rattle.enet_slot.specs.Slot.{SlotState, is_due}
 use Rattle.enet_slot.specs.Giving.{is_vacant}
 use Rattle.enet_slot.specs.Waiting.{waits_in, Waits}
 use Rattle.enet_sleepers.specs.Marks.{mark_of, Names}
-use Rattle.enet_sleepers.specs.Sleeping.{Noted, Sleeps, KeepsSleepers, woken, Wakes}
+use Rattle.enet_sleepers.specs.Sleeping.{Noted, Sleeps, KeepsSleepers, KeepsOthers, woken, Wakes}
 use Rattle.enet_sleepers.specs.Private.Sleepers.{AllIn}
 
 pub some-same : {X : Type 0} (o : Option X) (x y : X) → o ≡ Some x → o ≡ Some y → x ≡ y
@@ -25,6 +26,9 @@ get-set-other xs i j y t other h =
     let read : get_or (slice_set xs i y) j t ≡ t = get_or_from_slice_get (slice_set xs i y) j t t h in
     let len = length-set xs i y in
     slice_get_read xs (length xs) j t refl (omega (arith, within, len)) (sym read ∙ get_or-set_other xs i j y t other)
+
+get-set-same : (xs : List SlotState) (i : ℕ) (y t : SlotState) → i < length xs → slice_get (slice_set xs i y) i ≡ Some t → y ≡ t
+get-set-same xs i y t inside h = sym (get_or-set_same xs i y t inside) ∙ get_or_from_slice_get (slice_set xs i y) i t t h
 
 -- it sleeps
 pub sleeps-waits : (v : Noted) (i : ℕ) (s : SlotState) → Sleeps v i s → Waits s
@@ -51,10 +55,24 @@ sleeps-still v w i s free due clock marks (inr h) =
 out-in : (set : List Bool) (i : ℕ) → IsOut set i → IsIn set i → ⊥
 out-in set i out is = let x : false ≡ true = sym out ∙ is in absurd (cc)
 
--- a slot is woken
-pub keeps-woken : (now n : ℕ) (v : Noted) (slots : List SlotState) → n < length v.awake → length v.free ≡ length v.awake → length v.due ≡ length v.awake → KeepsSleepers now v slots
+-- what is true of all is so of all but one
+sleeps-marked : (v : Noted) (i : ℕ) (s : SlotState) → IsOut v.free i → Sleeps v i s → Names (mark_of v.marks s.address) i
+sleeps-marked v i s unlisted (inl f) = absurd (out-in v.free i unlisted f.listed)
+sleeps-marked v i s unlisted (inr h) = h.marked
+
+keeps-rest : (now n : ℕ) (v : Noted) (slots : List SlotState) → KeepsSleepers now v slots → KeepsOthers now n v slots
+keeps-rest now n v slots k = record {
+  count = k.count;
+  shown = k.shown;
+  blank = k.blank;
+  asleep = λ i s other there out. k.asleep i s there out;
+  marked = λ s there out unlisted. sleeps-marked v n s unlisted (k.asleep n s there out);
+}
+
+-- one to which something came is woken
+pub keeps-risen : (now n : ℕ) (v : Noted) (slots : List SlotState) → n < length v.awake → length v.free ≡ length v.awake → length v.due ≡ length v.awake → KeepsOthers now n v slots
     → KeepsSleepers now (woken v n) slots
-keeps-woken now n v slots inside free due k = record {
+keeps-risen now n v slots inside free due k = record {
   count = length-set v.awake n true ∙ k.count;
   shown = k.shown;
   blank = λ i is. elim (cases_eq i n) [
@@ -72,9 +90,45 @@ keeps-woken now n v slots inside free due k = record {
         absurd (out-in (slice_set v.awake n true) i out is)
     | inr other ↦
         sleeps-still v (woken v n) i s (get_or-set_other v.free n i false false other) (get_or-set_other v.due n i None None other) refl (λ unlisted names. names)
-        (k.asleep i s there (sym (get_or-set_other v.awake n i true false other) ∙ out))
+        (k.asleep i s other there (sym (get_or-set_other v.awake n i true false other) ∙ out))
   ];
 }
+
+-- so is any slot
+pub keeps-woken : (now n : ℕ) (v : Noted) (slots : List SlotState) → n < length v.awake → length v.free ≡ length v.awake → length v.due ≡ length v.awake → KeepsSleepers now v slots
+    → KeepsSleepers now (woken v n) slots
+keeps-woken now n v slots inside free due k = keeps-risen now n v slots inside free due (keeps-rest now n v slots k)
+
+-- one to which something came sleeps on
+pub keeps-on : (now n moment : ℕ) (v : Noted) (slots : List SlotState) (s : SlotState) → n < length v.awake → length v.due ≡ length v.awake → slice_get slots n ≡ Some s
+    → Waits s → is_vacant s.peer ≡ false → IsOut v.awake n → IsOut v.free n → v.clock < moment → moment < v.clock + 4294967295 → HappensAt (λ (t : ℕ). is_due t s) v.clock moment
+    → KeepsOthers now n v slots → KeepsSleepers now (record v { due = slice_set v.due n (Some moment) }) slots
+keeps-on now n moment v slots s inside size here waits held asleep unlisted ahead near due k =
+    let w : Noted = record v { due = slice_set v.due n (Some moment) } in
+    record {
+      count = k.count;
+      shown = k.shown;
+      blank = λ i is. elim (cases_eq i n) [
+        | inl same ↦ absurd (out-in v.awake n asleep (subst (IsIn v.awake) same is))
+        | inr other ↦ ((k.blank i is).0, get_or-set_other v.due n i (Some moment) None other ∙ (k.blank i is).1)
+      ];
+      asleep = λ i t there out. elim (cases_eq i n) [
+        | inl same ↦
+            let is : s ≡ t = some-same (slice_get slots n) s t here (subst (λ (j : ℕ). slice_get slots j ≡ Some t) same there) in
+            subst (λ (x : SlotState). Sleeps w i x) is (inr (record {
+              waits = waits;
+              held = held;
+              unlisted = subst (IsOut v.free) (sym same) unlisted;
+              marked = subst (Names (mark_of v.marks s.address)) (sym same) (k.marked s here asleep unlisted);
+              moment = moment;
+              at = ap (λ (j : ℕ). get_or (slice_set v.due n (Some moment)) j None) same ∙ get_or-set_same v.due n (Some moment) None (omega (arith, inside, size));
+              ahead = ahead;
+              near = near;
+              due = due;
+            }))
+        | inr other ↦ sleeps-still v w i t refl (get_or-set_other v.due n i (Some moment) None other) refl (λ unlisted names. names) (k.asleep i t other there out)
+      ];
+    }
 
 -- time goes on, and none of those that sleep is due by then
 sleeps-later : (v : Noted) (clock i : ℕ) (s : SlotState) → v.clock ≤ clock → ((j due : ℕ) → IsAt v.due j due → clock < due) → Sleeps v i s → Sleeps (record v { clock = clock }) i s
@@ -192,6 +246,19 @@ keeps-set now i v slots t awake k = record {
         absurd (out-in v.awake i (subst (IsOut v.awake) same out) (awake inside))
     | inr other ↦ k.asleep j s (get-set-other slots i j t s other there) out
   ];
+}
+
+-- where something comes to slot i, so it is of all others
+pub keeps-others : (now i : ℕ) (v : Noted) (slots : List SlotState) (s t : SlotState) → slice_get slots i ≡ Some s → t.address ≡ s.address → KeepsSleepers now v slots
+    → KeepsOthers now i v (slice_set slots i t)
+keeps-others now i v slots s t here same k = record {
+  count = k.count ∙ sym (length-set slots i t);
+  shown = k.shown;
+  blank = k.blank;
+  asleep = λ j u other there out. k.asleep j u (get-set-other slots i j t u other there) out;
+  marked = λ u there out unlisted.
+      let is : t ≡ u = get-set-same slots i t u (slice_get_within slots i s here) there in
+      subst (λ (a : Addr). Names (mark_of v.marks a) i) (sym same ∙ ap (λ (x : SlotState). x.address) is) (sleeps-marked v i s unlisted (k.asleep i s here out));
 }
 
 -- all may, if those that sleep do so afterwards

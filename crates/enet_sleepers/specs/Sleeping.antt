@@ -1,5 +1,5 @@
 -- Slots that sleep: they have nothing to put out and nothing to tell, and time brings them something at a moment that is noted.
-use Rattle.std.specs.Prelude.{◌≡◌, ℕ, ◌+◌, ◌%◌, ◌^◌, ◌<◌, ◌≤◌, ◌⊎◌, Bool, true, false, Option, None, Some, List, length, slice_get, slice_set, slice_index_or}
+use Rattle.std.specs.Prelude.{◌≡◌, ◌≢◌, ℕ, ◌+◌, ◌%◌, ◌^◌, ◌<◌, ◌≤◌, ◌⊎◌, Bool, true, false, Option, None, Some, List, length, slice_get, slice_set, slice_index_or}
 use Rattle.enet_deadlines.specs.Clock.{HappensAt}
 use Rattle.enet_deadlines.specs.Moments.{IsAt}
 use Rattle.enet_deadlines.specs.Sets.{IsIn, IsOut}
@@ -51,6 +51,14 @@ pub record KeepsSleepers (now : ℕ) (v : Noted) (slots : List SlotState) : Type
   pub shown : v.clock % 2 ^ 32 ≡ now
   pub blank : (i : ℕ) → IsIn v.awake i → IsOut v.free i × (slice_index_or v.due i None ≡ None)
   pub asleep : (i : ℕ) (s : SlotState) → slice_get slots i ≡ Some s → IsOut v.awake i → Sleeps v i s
+
+-- So it is of all slots but n, to which something came: if it slept, it is where it was.
+pub record KeepsOthers (now n : ℕ) (v : Noted) (slots : List SlotState) : Type 0 where
+  pub count : length v.awake ≡ length slots
+  pub shown : v.clock % 2 ^ 32 ≡ now
+  pub blank : (i : ℕ) → IsIn v.awake i → IsOut v.free i × (slice_index_or v.due i None ≡ None)
+  pub asleep : (i : ℕ) (s : SlotState) → i ≢ n → slice_get slots i ≡ Some s → IsOut v.awake i → Sleeps v i s
+  pub marked : (s : SlotState) → slice_get slots n ≡ Some s → IsOut v.awake n → IsOut v.free n → Names (mark_of v.marks s.address) n
 
 -- slot i is awake from now on
 abbrev pub woken : Noted → ℕ → Noted

@@ -2,14 +2,15 @@
 //!
 //! A slot sleeps where it is free, or its peer only waits and time brings it something later; a host passes it over where slots are asked
 //! for datagrams and events, and at a tick. It is woken (`wake`) before anything comes to it, and by time at the moment at which it is due
-//! (`advance`); it falls asleep where it is looked at and has nothing to do (`rest`, `settle`). Times are in milliseconds.
+//! (`advance`); it falls asleep where it is looked at and has nothing to do (`rest`, `settle`). Behind a datagram that leaves it nothing to
+//! do it sleeps on (`hear`). Times are in milliseconds.
 //!
 //! Proved: what is noted of the slots stays true of them at each call, whatever the slots are (`KeepsSleepers`): one that sleeps is free,
 //! or has nothing to put out or to tell, and is due first at the moment that is noted. Which slot is awake next is exact (`IsNextFrom`), as
 //! are the first slot that can be given out (`first_available`), where an offer is to go (`IsSeat`), and in how many milliseconds time brings
 //! a slot anything, as far as that is within a second (`is_due_soon`). E1 only at `new`; no other call takes memory.
-//! Neither proved nor tested here: that a slot which has nothing falls asleep, and what a call looks at. `wake` takes a step for each
-//! doubling of the slots at most; `advance` that for each slot that is due; `settle` looks at those that are awake alone, `due_in` at
+//! Neither proved nor tested here: that a slot which has nothing falls asleep, and what a call looks at. `wake` and `hear` take a step for
+//! each doubling of the slots at most; `advance` that for each slot that is due; `settle` looks at those that are awake alone, `due_in` at
 //! these, too; `first_available` at those that are awake or sleep and are free, up to the one that it finds. An offer looks at those that are
 //! awake and at one that sleeps at most, unless two that sleep had one mark: then it looks at all.
 #![tactic(auto)]

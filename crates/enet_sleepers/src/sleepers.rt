@@ -1,11 +1,11 @@
 //! Which slots of a host sleep, and when time brings them something.
 
-ghost use Rattle.std.specs.Prelude.{◌≡◌, ℕ, ◌^◌, ◌<◌, ◌≤◌, List, length, slice_get, Some, IfOk, IfErr, false, ◌≢◌};
+ghost use Rattle.std.specs.Prelude.{◌≡◌, ℕ, ◌^◌, ◌<◌, ◌≤◌, List, length, slice_get, Some, IfOk, IfErr, IsTrue, false, ◌≢◌};
 ghost use Rattle.enet_deadlines.specs.Moments.{IsAt};
 ghost use Rattle.enet_deadlines.specs.Sets.{IsIn, IsOut, IsNextFrom};
 ghost use Rattle.enet_slot.specs.Slot.{SlotState};
 ghost use Rattle.enet_slot.specs.Slotted.{all_shown};
-ghost use Rattle.enet_sleepers.specs.Sleeping.{KeepsSleepers, woken, Wakes};
+ghost use Rattle.enet_sleepers.specs.Sleeping.{KeepsSleepers, KeepsOthers, woken, Wakes};
 ghost use Rattle.enet_sleepers.specs.Private.Sleepers.{AllIn};
 ghost use Rattle.enet_sleepers.specs.Marks.{place_of, mark_of, Names};
 
@@ -25,7 +25,7 @@ const NAPS: u32 = 4;
 /// Which slots of a host sleep. They are free, or their peer is connected, asks for a connection or for its end, or has answered, and
 /// has nothing to tell and nothing that goes, though what was sent may be unacknowledged; and time brings it something later. Where slots
 /// are asked in turn, and at a tick, these are passed over. A slot falls asleep where it is looked at (`settle`), and is woken before
-/// anything comes to it. Contracts see what is noted of the slots.
+/// anything comes to it; behind a datagram it may sleep on (`hear`). Contracts see what is noted of the slots.
 #[derive(Drop)]
 pub struct Sleepers {
     /// The slots that are awake.
@@ -108,6 +108,47 @@ impl Sleepers {
         if number < self.awake.len() && !self.awake.contains(number) {
             self.rise(number);
         }
+    }
+
+    /// Something came to the slot of this number, which may have slept: it sleeps on if it has nothing to do, and when time brings it something
+    /// is noted anew; else it is awake from now on. So it is with a datagram that only acknowledges.
+    #[inline(always)]
+    pub fn hear(&mut self, slots: &[Slot], number: usize, now: u32)
+        requires within { number < length slots.now }
+        requires others { KeepsOthers now number self.old (all_shown slots.now) }
+        ensures { KeepsSleepers now self.new (all_shown slots.now) }
+    {
+        if self.awake.contains(number) {
+            return;
+        }
+        if !self.sleeps_on(slots, number, now) {
+            self.rise(number);
+        }
+    }
+
+    /// The slot of this number, which slept, sleeps on if it has nothing to do; whether it does. Nothing has changed where it doesn't.
+    fn sleeps_on(&mut self, slots: &[Slot], number: usize, now: u32) -> bool
+        requires within { number < length slots.now }
+        requires others { KeepsOthers now number self.old (all_shown slots.now) }
+        requires asleep { IsOut self.old.awake number }
+        ensures slept { IsTrue result → KeepsSleepers now self.new (all_shown slots.now) }
+        ensures same { result ≡ false → self.new ≡ self.old }
+    {
+        let slot = &slots[number];
+        if self.free.contains(number) || slot.is_vacant() {
+            return false;
+        }
+        if !slot.only_waits() {
+            return false;
+        }
+        moments_are_right();
+        let wait = slot.due_in(now);
+        if wait == 0 || wait == u32::MAX {
+            return false;
+        }
+        let moment = self.clock + u64::from(wait);
+        self.due.set(number, moment);
+        true
     }
 
     /// The slot of this number is awake from now on.

@@ -1,11 +1,11 @@
-use Rattle.std.proofs.Common.{◌≡◌, ℕ, slice_set, arith, sym, subst, ◌∙◌}
+use Rattle.std.proofs.Common.{List, arith, sym, subst}
 use Rattle.enet_codec.specs.declared.event.Received.{Received}
 use Rattle.enet_host.specs.Receiving.{Arrives, unreadable, no_offer, offered, turned_away}
+use Rattle.enet_slot.specs.declared.slot.Slot.{Slot}
 use Rattle.enet_slot.specs.Giving.{basis_of}
 use Rattle.enet_slot.specs.Slotted.{all_shown}
-use Rattle.enet_host.proofs.Receptions.{refused-in, heard-at}
-use Rattle.enet_sleepers.specs.Sleeping.{KeepsSleepers}
-use Rattle.enet_host.proofs.Sleeping.{keeps-woken-at}
+use Rattle.enet_host.proofs.Receptions.{refused-in, heard-at, keeps-heard}
+use Rattle.enet_sleepers.specs.Sleeping.{KeepsOthers}
 use Rattle.enet_host.proofs.receiving.receive.Goals as goal
 
 pub returns-in-Err-clause-arrives : goal.returns-in-Err-clause-arrives
@@ -29,15 +29,18 @@ returns-in-Some-refused_by-clause-arrives c =
     (turned_away c.in-Ok.found.0 c.in-Ok.found.1.now c.in-Some-refused_by.why c.in-Ok.ensures.read c.if-header-eq-NO_PEER.false
     (refused-in c.args.slots.now.items c.deref.result.now c.args.from c.in-Ok.found.0 _ _ c.refused_by.ensures.stop c.deref.ensures.value c.in-Some-refused_by.is))
 
+pub hear-requires-clause-others : goal.hear-requires-clause-others
+hear-requires-clause-others c =
+    subst (λ (xs : List Slot). KeepsOthers c.args.start.now.clock c.from-number.result c.args.sleepers.now (all_shown xs)) (sym c.deref-2.ensures.value)
+    (keeps-heard c.args.start.now.clock c.from-number.result c.args.sleepers.now c.args.slots.now.items c.index_mut.result.now c.receive-answer.new.self
+    (record { now = c.args.start.now.clock; sent = c.in-Ok.found.0.sent }) c.in-Ok.found.1.now c.receive-answer.result
+    (let within = c.in_default.ensures.within in let len = c.deref.ensures.len in let e = c.from-number.ensures in grind (arith, within, len, e)) c.index_mut.ensures.value
+    c.receive-answer.ensures.receives c.receive-answer.ensures.vacant c.requires.sleepers)
+
 pub returns-clause-arrives : goal.returns-clause-arrives
 returns-clause-arrives c =
-    heard-at (basis_of c.args.start.now) c.args.slots.now.items c.args.from c.args.bytes.now c.in-Ok.found.0 c.in-Ok.found.1.now c.from-2.result c.index_mut-slot.result.now c.receive.new.self
-    c.receive.result c.in-Ok.ensures.read c.if-header-eq-NO_PEER.false
-    (refused-in c.args.slots.now.items c.deref.result.now c.args.from c.in-Ok.found.0 _ _ c.refused_by.ensures.stop c.deref.ensures.value c.in_default.is) c.from-2.ensures
-    (let within = c.in_default.ensures.within in let len = c.deref.ensures.len in let e = c.from-2.ensures in grind (arith, within, len, e)) c.index_mut-slot.ensures.value c.receive.ensures.receives
-
-pub returns-clause-sleepers : goal.returns-clause-sleepers
-returns-clause-sleepers c =
-    let same : c.from.result ≡ c.from-2.result = c.from.ensures ∙ sym c.from-2.ensures in
-    subst (λ (i : ℕ). KeepsSleepers c.args.start.now.clock c.wake.new.self (all_shown (slice_set c.args.slots.now.items i c.receive.new.self))) same
-    (keeps-woken-at c.args.start.now.clock c.from.result c.args.sleepers.now c.wake.new.self c.args.slots.now.items c.receive.new.self c.requires.sleepers c.wake.ensures.kept c.wake.ensures.awake)
+    heard-at (basis_of c.args.start.now) c.args.slots.now.items c.args.from c.args.bytes.now c.in-Ok.found.0 c.in-Ok.found.1.now c.from-number.result c.index_mut.result.now
+    c.receive-answer.new.self c.receive-answer.result c.in-Ok.ensures.read c.if-header-eq-NO_PEER.false
+    (refused-in c.args.slots.now.items c.deref.result.now c.args.from c.in-Ok.found.0 _ _ c.refused_by.ensures.stop c.deref.ensures.value c.in_default.is) c.from-number.ensures
+    (let within = c.in_default.ensures.within in let len = c.deref.ensures.len in let e = c.from-number.ensures in grind (arith, within, len, e)) c.index_mut.ensures.value
+    c.receive-answer.ensures.receives
