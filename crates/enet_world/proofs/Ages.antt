@@ -1,400 +1,29 @@
--- How long what was sent has waited at the peers of a world, by how much its clocks have gone on since its beginning, and how soon they ping.
-use Rattle.std.proofs.Common.{◌≡◌, ℕ, zero, suc, ◌+◌, ◌*◌, ◌%◌, ◌^◌, ◌<◌, ◌≤◌, ◌==◌, ◌&&◌, min, ◌⊎◌, inl, inr, Bool, true, false, cond, List, [], ◌∷◌, ◌++◌, append-nil, refl, sym, ap, subst, ◌∙◌, arith, Option, Some, None, Result, Ok, Err, nat_lt}
-use Rattle.std.proofs.lemmas.Bool.Decides.{nat_tests}
-use Rattle.std.specs.List.{slice_get}
+-- After as many rounds as the longest wait takes, all that was sent before them is due to go again or has waited out its timeout.
+use Rattle.std.proofs.Common.{◌≡◌, ℕ, zero, suc, ◌+◌, ◌*◌, ◌%◌, ◌^◌, ◌<◌, ◌≤◌, min, Bool, sym, ap, subst, ◌∙◌, arith, Option, Some, None}
 use Rattle.std.specs.Option.{option_and_then}
-use Rattle.enet_codec.specs.declared.address.Addr.{Addr}
-use Rattle.enet_codec.specs.declared.config.Config.{Config}
-use Rattle.enet_codec.specs.Config.{is_in_range}
-use Rattle.enet_codec.specs.declared.event.Event.TheVariants as tells
 use Rattle.enet_codec.specs.declared.event.PeerRef.{PeerRef}
-use Rattle.enet_codec.specs.declared.event.Received.{Received}
-use Rattle.enet_codec.specs.declared.refusal.Refusal.{Refusal}
 use Rattle.enet_peer.specs.Peering.{Peering}
-use Rattle.enet_peer.specs.Peering as peers
-use Rattle.enet_peer.specs.CommandEffect.{obeyed, wants_memory}
-use Rattle.enet_outbox.specs.Emission.{filled}
-use Rattle.enet_peer.specs.Calls.{pace_of, ticked}
-use Rattle.enet_slot.specs.Giving.{limits_of, joined_terms}
-use Rattle.enet_slot.specs.Slot.{SlotState}
-use Rattle.enet_host.specs.Host.{Host, named, peer_in, slot_named}
-use Rattle.enet_host.specs.Opening as opening
+use Rattle.enet_host.specs.Host.{named}
 use Rattle.enet_host.specs.Ticking.{clock_after}
-use Rattle.law_connection.specs.Steps.{leave_by}
-use Rattle.law_connection.specs.Steps as setting
-use Rattle.law_network.specs.Beginnings.{BeganBy, Lived, WasThere}
-use Rattle.law_network.specs.Calls.{Call, Acts, Steps, Series}
-use Rattle.law_network.specs.Calls as call
-use Rattle.law_network.specs.Common.{Common, common_of}
-use Rattle.law_network.specs.Deeds.{Deed, Alone, AllAlone, emitted}
-use Rattle.law_network.specs.Deeds as deed
-use Rattle.law_network.specs.Falling.{Fell, Falls, Reaches, Receipt, Occupied, fell_to, fell_in, occupied_in, deeds_if, up_to, share_of}
-use Rattle.law_network.specs.Falling as falling
-use Rattle.law_network.specs.declared.event.Answer.{Answer}
-use Rattle.law_network.specs.declared.event.Answer.TheVariants as answers
-use Rattle.law_network.specs.declared.event.Side.{Side}
-use Rattle.law_network.specs.declared.event.Side.TheVariants.{A, B}
-use Rattle.law_network.specs.declared.event.WorldEvent.{WorldEvent}
-use Rattle.law_network.specs.declared.event.WorldEvent.TheVariants as happen
-use Rattle.law_network.specs.Log.{Logged}
 use Rattle.law_network.specs.Network.{HostEnd, Site, end_of}
-use Rattle.law_network.specs.Alone.{call_by, received_from}
-use Rattle.law_network.specs.Own.{IsOwn, config_by, clock_by}
-use Rattle.law_network.specs.Steps.{Happening, Calls, Delivers, beside}
-use Rattle.law_network.specs.World.{World, HappensAt, Makes, Runs, site_of, side_of, other, address_of, joined_config}
-use Rattle.law_network.specs.World as world
-use Rattle.law_network.proofs.Alone.{by-call}
-use Rattle.law_network.proofs.Beginning.{each-beginning, lived-all}
-use Rattle.law_network.proofs.Matching.{was-set, matches}
-use Rattle.law_network.proofs.Own.{of-the-host}
-use Rattle.law_network.proofs.Runs.{both}
-use Rattle.law_progress.specs.Attempts.{after_take}
-use Rattle.law_progress.specs.Waits.{after_leave}
+use Rattle.law_network.specs.World.{World, site_of}
 use Rattle.law_progress.specs.Exchanges.{AllOver}
-use Rattle.law_progress.proofs.Ageing.{Aged, Ages, most, ages-ticked, ages-emitted, ages-more, ages-over}
-use Rattle.law_progress.proofs.Waiting.{none-new, fair-obeyed, fair-takes, fair-submitted, fair-left}
-use Rattle.law_progress.proofs.Wide.{IsWide, at-least, wide-obeyed, wide-takes, wide-went, wide-left, wide-ticked}
+use Rattle.law_progress.proofs.Ageing.{ages-over}
 use Rattle.enet_site.specs.Standing.{peer_at}
 use Rattle.enet_world.specs.Progress.{clock_by_rounds}
-use Rattle.enet_world.specs.Worlds.{first}
-use Rattle.enet_world.specs.Private.Worlds.{IsReachedIn, passes, all_pass}
+use Rattle.enet_world.specs.Private.Worlds.{IsReachedIn}
 use Rattle.enet_world.specs.Private.Enough.{AreOverIn}
-use Rattle.enet_world.proofs.Lasting.{obeys}
-use Rattle.enet_world.proofs.PingInterval.{PingsSoon, pings-obeyed, pings-takes, pings-went, pings-left, pings-ticked}
+use Rattle.enet_world.proofs.Habits.{HostHabits, WorldHabits, habits-in, clock-sum}
 
-same-peer : (p q : Peering) → ◌≡◌ {A = Option Peering} (Some p) (Some q) → p ≡ q
-same-peer p q e = cc
-
--- ---- what a peer does at a moment
--- a deed that is none of time, at a moment, and sets nothing of how long the peer waits
-abbrev pub IsNow : ℕ → Deed → Type 0
-IsNow n (deed.Submit packet answer) = Unit {0}
-IsNow n (deed.Emit now given) = now ≡ n
-IsNow n (deed.Come now sent m answer) = now ≡ n
-IsNow n (deed.Tick now) = ⊥
-IsNow n (deed.Take given) = Unit {0}
-IsNow n (deed.Disconnect way info answer) = Unit {0}
-IsNow n (deed.Set (setting.ThrottleLimit limit) answer) = Unit {0}
-IsNow n (deed.Set s answer) = ⊥
-
-abbrev pub AreNow : ℕ → List Deed → Type 0
-AreNow n [] = Unit {0}
-AreNow n (d ∷ ds) = IsNow n d × AreNow n ds
-
-abbrev pub Keeps : ℕ → ℕ → Peering → Type 0
-Keeps now time p = Ages now time p × IsWide p × PingsSoon p
-
-low-now : (n now : ℕ) → n ≡ now % 2 ^ 32 → n < 2 ^ 32
-low-now n now e = omega arith
-
-deed-keeps : (now time : ℕ) (d : Deed) (p q : Peering) → IsNow (now % 2 ^ 32) d → Alone d p q → Keeps now time p → Keeps now time q
-deed-keeps now time (deed.Submit x (Ok done)) p q at a h = subst (Keeps now time) (sym a.1) (fair-submitted (Aged now time) most p x.channel (record { flags = x.flags; body = x.body }) h.0, h.1, h.2)
-deed-keeps now time (deed.Submit x (Err why)) p q at a h = subst (Keeps now time) (sym a.1) h
-deed-keeps now time (deed.Emit n given) p q at a h =
-    subst (Keeps now time) (sym (a.1 ∙ ap (λ m. emitted p m) at)) (
-      ages-emitted now time p h.0,
-      wide-went (record p { outbox = (filled (pace_of p (now % 2 ^ 32)) p.outbox).outbox }) p.state h.1,
-      pings-went (record p { outbox = (filled (pace_of p (now % 2 ^ 32)) p.outbox).outbox }) p.state h.2,
-    )
-deed-keeps now time (deed.Come n sent m answer) p q at a h =
-    obeys (Keeps now time) answer (wants_memory p n sent m) (obeyed p n sent m) p q a h (fair-obeyed (Aged now time) most p n sent m h.0, wide-obeyed p n sent m h.1, pings-obeyed p n sent m (low-now n now at) h.2)
-deed-keeps now time (deed.Tick n) p q at a h = absurd at
-deed-keeps now time (deed.Take None) p q at a h = subst (Keeps now time) (sym a.1) h
-deed-keeps now time (deed.Take (Some e)) p q at a h = subst (λ t. Keeps now time (after_take p t)) a (fair-takes (Aged now time) most p h.0, wide-takes p h.1, pings-takes p h.2)
-deed-keeps now time (deed.Disconnect way info (Ok done)) p q at a h =
-    subst (λ (o : Option Peering). Keeps now time (after_leave p o)) a (fair-left (Aged now time) most p (leave_by way p.state) info h.0, wide-left p (leave_by way p.state) info h.1, pings-left p (leave_by way p.state) info h.2)
-deed-keeps now time (deed.Disconnect way info (Err why)) p q at a h = subst (Keeps now time) (sym a.2) h
-deed-keeps now time (deed.Set (setting.ThrottleLimit limit) (Ok done)) p q at a h = (let set = was-set (setting.ThrottleLimit limit) done p q a in subst (Keeps now time) (sym set.1) h)
-deed-keeps now time (deed.Set (setting.ThrottleLimit limit) (Err why)) p q at a h = subst (Keeps now time) (sym (matches.refused (deed.Set (setting.ThrottleLimit limit) (Err why)) p q a refl)) h
-deed-keeps now time (deed.Set s answer) p q at a h = absurd at
-
-deeds-keep : (now time : ℕ) (ds : List Deed) (p q : Peering) → AreNow (now % 2 ^ 32) ds → AllAlone ds p q → Keeps now time p → Keeps now time q
-deeds-keep now time [] p q at a h = subst (Keeps now time) a h
-deeds-keep now time (d ∷ ds) p q at a h = deeds-keep now time ds a.0 q at.1 a.2 (deed-keeps now time d p a.0 at.0 a.1 h)
-
--- ---- what falls to a peer by a call
--- a call that is none of time, and sets nothing
-abbrev pub IsStill : Call → Type 0
-IsStill (call.Tick ms) = ⊥
-IsStill (call.SetBandwidth incoming outgoing answer) = ⊥
-IsStill (call.ConfigureThrottle name interval acceleration deceleration answer) = ⊥
-IsStill (call.SetPingInterval name ms answer) = ⊥
-IsStill (call.SetTimeout name limit minimum maximum answer) = ⊥
-IsStill c = Unit {0}
-
-pub if-now : (n : ℕ) (b : Bool) (d : Deed) → IsNow n d → AreNow n (deeds_if b d)
-if-now n true d at = (at, tt)
-if-now n false d at = tt
-
-up-to-now : (n : ℕ) (turn : ℕ → ℕ) (j i : ℕ) (gives passes : Deed) → IsNow n gives → IsNow n passes → AreNow n (up_to turn j i gives passes)
-up-to-now n turn j i gives passes g p = by (j == i)
-  where
-    by : (b : Bool) → AreNow n (cond b (gives ∷ []) (deeds_if (nat_lt (turn i) (turn j)) passes))
-    by true = (g, tt)
-    by false = if-now n (nat_lt (turn i) (turn j)) passes p
-
-falls-now : (a : _) (handled : ℕ) (bytes : List ℕ) (answer : Received) (ds : List Deed) → Falls a handled bytes answer ds → AreNow a.now ds
-falls-now a handled bytes answer ds (falling.nothing_left n) = tt
-falls-now a handled bytes answer ds (falling.no_command n text some none) = tt
-falls-now a handled bytes answer ds (falling.stops n text rest m why spelled) = (refl, tt)
-falls-now a handled bytes answer ds (falling.goes_on n text rest m told more spelled f) = (refl, falls-now a _ rest told more f)
-
-reaches-now : (i : ℕ) (s : SlotState) (r : Receipt) (ds : List Deed) → Reaches i s r ds → AreNow r.now ds
-reaches-now i s r ds (falling.unreadable why un) = tt
-reaches-now i s r ds (falling.elsewhere header commands read not-here) = tt
-reaches-now i s r ds (falling.turned_away header commands why read some is refused told) = tt
-reaches-now i s r ds (falling.here header commands ds' read some is taken f) = falls-now _ 0 commands r.answer ds' f
-
-pub fell-now : (h : Common) (x : Occupied) (c : Call) (ds : List Deed) → IsStill c → Fell h x c ds → AreNow h.clock ds
-fell-now h x (call.Connect address channels info word answer) ds k f = subst (AreNow h.clock) (sym f) tt
-fell-now h x (call.Submit name channel q answer) ds k f = subst (AreNow h.clock) (sym f) (if-now h.clock (falling.is_meant name x.number x.slot) _ tt)
-fell-now h x (call.Receive from bytes answer) ds k f = reaches-now x.number x.slot _ ds f
-fell-now h x (call.Service None buf) ds k f = subst (AreNow h.clock) (sym f) (refl, tt)
-fell-now h x (call.Service (Some gave) buf) ds k f = subst (AreNow h.clock) (sym f) (up-to-now h.clock h.turn gave.0.slot x.number _ _ refl refl)
-fell-now h x (call.Disconnect mode name info answer) ds k f = subst (AreNow h.clock) (sym f) (if-now h.clock (falling.is_meant name x.number x.slot) _ tt)
-fell-now h x (call.NextEvent None) ds k f = subst (AreNow h.clock) (sym f) (tt, tt)
-fell-now h x (call.NextEvent (Some (tells.Connect name info))) ds k f = subst (AreNow h.clock) (sym f) (up-to-now h.clock h.event_turn name.slot x.number _ _ tt tt)
-fell-now h x (call.NextEvent (Some (tells.Receive name packet))) ds k f = subst (AreNow h.clock) (sym f) (up-to-now h.clock h.event_turn name.slot x.number _ _ tt tt)
-fell-now h x (call.NextEvent (Some (tells.Disconnect name info))) ds k f = subst (AreNow h.clock) (sym f) (up-to-now h.clock h.event_turn name.slot x.number _ _ tt tt)
-fell-now h x (call.NextEvent (Some (tells.Refused seat number why))) ds k f = subst (AreNow h.clock) (sym f) tt
-fell-now h x (call.Tick ms) ds k f = absurd k
-fell-now h x (call.SetBandwidth incoming outgoing answer) ds k f = absurd k
-fell-now h x (call.ConfigureThrottle name interval acceleration deceleration answer) ds k f = absurd k
-fell-now h x (call.SetPingInterval name ms answer) ds k f = absurd k
-fell-now h x (call.SetTimeout name limit minimum maximum answer) ds k f = absurd k
-
--- ---- a host
--- at none of its peers anything that was sent has waited for longer than its timeout, since so many milliseconds ago at most
-pub record HostAges (time : ℕ) (h : Host) : Type 0 where
-  pub now : ℕ
-  pub clock : h.clock ≡ now % 2 ^ 32
-  pub mtu : 576 ≤ h.config.mtu
-  pub peers : (name : PeerRef) (p : Peering) → named h.slots name ≡ Some p → Keeps now time p
-
-host-more : (time more : ℕ) (h : Host) → time ≤ more → HostAges time h → HostAges more h
-host-more time more h low k = record { now = k.now; clock = k.clock; mtu = k.mtu; peers = λ name p is. (let a = k.peers name p is in (ages-more k.now time more p low a.0, a.1, a.2)) }
-
--- a peer that begins has sent nothing
-joined-keeps : (now time : ℕ) (c : Config) → 576 ≤ c.mtu → c.clock < 2 ^ 32 → Keeps now time (peers.joined c.clock (joined_terms c) (limits_of c))
-joined-keeps now time c wide low = ((((λ t k. absurd k), none-new (Aged now time) 0 _), record { round_trip = omega arith; variance = omega arith }, refl), wide, (refl, low))
-
-begun-keeps : (now time : ℕ) (c : Call) (h : Host) (i : ℕ) (s t : SlotState) (p : Peering) → 576 ≤ h.config.mtu → h.clock < 2 ^ 32 → falling.Begins c (common_of h) i s t → t.peer ≡ Some p → Keeps now time p
-begun-keeps now time c h i s t p wide low (falling.asks address channels info word is some free) has =
-    subst (Keeps now time) (same-peer _ p has) ((((λ t' k. absurd k), none-new (Aged now time) 0 _), record { round_trip = omega arith; variance = omega arith }, refl), wide, (refl, low))
-begun-keeps now time c h i s t p wide low (falling.answers from bytes commands header o is read nobody offer taken new free) has =
-    subst (Keeps now time) (same-peer _ p has) ((((λ t' k. absurd k), none-new (Aged now time) 0 _), record { round_trip = omega arith; variance = omega arith }, refl), at-least o.mtu h.config.mtu, (refl, low))
-
-pub still-clock : (c : Call) (n : ℕ) → IsStill c → clock_by c n ≡ n
-still-clock (call.Tick ms) n k = absurd k
-still-clock c n k = refl
-
--- what fell to a slot fell to the peer there
-pub fell-there : (h : Host) (name : PeerRef) (c : Call) (p : Peering) (ds : List Deed) → named h.slots name ≡ Some p → fell_to (common_of h) name.slot (slot_named h.slots name) c ds
-    → (x : Occupied) × (x.peer ≡ p) × Fell (common_of h) x c ds
-fell-there h name c p ds is f = by (slot_named h.slots name) refl f
-  where
-    in-slot : (s : SlotState) → slot_named h.slots name ≡ Some s → (o : Option Peering) → s.peer ≡ o → fell_in (common_of h) (occupied_in name.slot s o) c ds → (x : Occupied) × (x.peer ≡ p) × Fell (common_of h) x c ds
-    in-slot s at None none g = absurd (let z : ◌≡◌ {A = Option Peering} None (Some p) = sym none ∙ sym (ap peer_in at) ∙ is in cc)
-    in-slot s at (Some q) some g = (record { number = name.slot; slot = s; peer = q }, same-peer q p (sym some ∙ sym (ap peer_in at) ∙ is), g)
-
-    by : (o : Option SlotState) → slot_named h.slots name ≡ o → fell_to (common_of h) name.slot o c ds → (x : Occupied) × (x.peer ≡ p) × Fell (common_of h) x c ds
-    by None none g = absurd (let z : ◌≡◌ {A = Option Peering} None (Some p) = sym (ap peer_in none) ∙ is in cc)
-    by (Some s) at g = in-slot s at s.peer refl g
-
--- what one call makes of each peer, where it makes that of what fell to one that was there
-by-one : (c : Call) (h g : Host) (now then' time later : ℕ) → 576 ≤ h.config.mtu → h.clock ≡ now % 2 ^ 32 → Acts c h g
-    → ((x : Occupied) (q : Peering) (ds : List Deed) → Fell (common_of h) x c ds → AllAlone ds x.peer q → Keeps now time x.peer → Keeps then' later q)
-    → ((name : PeerRef) (p : Peering) → named h.slots name ≡ Some p → Keeps now time p) → (name : PeerRef) (p : Peering) → named g.slots name ≡ Some p → Keeps then' later p
-by-one c h g now then' time later wide clock acts goes old name p is = began l.began
-  where
-    series : Series (c ∷ [])
-    series = record { before = h; after = g; steps = (g, acts, refl) }
-
-    l : Lived name (c ∷ []) series p
-    l = lived-all (c ∷ []) h g (g, acts, refl) name p is
-
-    began : WasThere name (c ∷ []) series l.first l.deeds ⊎ BeganBy name (c ∷ []) series l.first l.deeds → Keeps then' later p
-    began (inl (was, fell)) =
-        let same : l.deeds ≡ fell.0 = fell.2 ∙ ap (λ (y : List Deed). fell.0 ++ y) fell.4 ∙ append-nil fell.0 in
-        let there = fell-there h name c l.first fell.0 was fell.3 in
-        goes there.0 p fell.0 there.2 (subst (λ (y : Peering). AllAlone fell.0 y p) (sym there.1) (subst (λ (y : List Deed). AllAlone y l.first p) same l.alone)) (subst (Keeps now time) (sym there.1) (old name l.first was))
-    began (inr (inl (b, none))) =
-        let same : l.first ≡ p = subst (λ (y : List Deed). AllAlone y l.first p) none l.alone in
-        subst (Keeps then' later) same (begun-keeps then' later c h name.slot b.slot b.given l.first wide (low-now h.clock now clock) b.begins b.peer)
-    began (inr (inr never)) = absurd never
-
-still-mtu : (c : Call) (k : Config) → IsStill c → (config_by c k).mtu ≡ k.mtu
-still-mtu (call.SetBandwidth incoming outgoing answer) k still = absurd still
-still-mtu c k still = refl
-
-still-call : (time : ℕ) (c : Call) (h g : Host) → IsStill c → Acts c h g → HostAges time h → HostAges time g
-still-call time c h g still acts k = record {
-  now = k.now;
-  clock = own.1 ∙ still-clock c h.clock still ∙ k.clock;
-  mtu = subst (λ n. 576 ≤ n) (sym (ap (λ (x : Config). x.mtu) own.0 ∙ still-mtu c h.config still)) k.mtu;
-  peers = by-one c h g k.now k.now time time k.mtu k.clock acts
-      (λ x q ds fell alone was. deeds-keep k.now time ds x.peer q (subst (λ n. AreNow n ds) k.clock (fell-now (common_of h) x c ds still fell)) alone was) k.peers;
-}
-  where
-    own : IsOwn c h g
-    own = of-the-host c h g acts
-
-tick-call : (time ms : ℕ) (h g : Host) → time + min ms 60000 < 2 ^ 32 → Acts (call.Tick ms) h g → HostAges time h → HostAges (time + min ms 60000) g
-tick-call time ms h g near acts k = record {
-  now = k.now + d;
-  clock = own.1 ∙ moment;
-  mtu = subst (λ n. 576 ≤ n) (sym (ap (λ (x : Config). x.mtu) own.0)) k.mtu;
-  peers = by-one (call.Tick ms) h g k.now (k.now + d) time (time + d) k.mtu k.clock acts goes k.peers;
-}
-  where
-    d : ℕ
-    d = min ms 60000
-
-    own : IsOwn (call.Tick ms) h g
-    own = of-the-host (call.Tick ms) h g acts
-
-    moment : clock_after h.clock ms ≡ (k.now + d) % 2 ^ 32
-    moment = ap (λ n. clock_after n ms) k.clock ∙ sum k.now d
-      where
-        sum : (m n : ℕ) → (m % 2 ^ 32 + n) % 2 ^ 32 ≡ (m + n) % 2 ^ 32
-        sum m n = omega arith
-
-    goes : (x : Occupied) (q : Peering) (ds : List Deed) → Fell (common_of h) x (call.Tick ms) ds → AllAlone ds x.peer q → Keeps k.now time x.peer → Keeps (k.now + d) (time + d) q
-    goes x q ds fell alone was = after (subst (λ (y : List Deed). AllAlone y x.peer q) fell alone)
-      where
-        n : ℕ
-        n = clock_after h.clock ms
-
-        share : List Deed
-        share = share_of (common_of h) n x.slot.emitted (ticked x.peer n)
-
-        shares : AreNow ((k.now + d) % 2 ^ 32) share
-        shares = if-now ((k.now + d) % 2 ^ 32) _ _ tt
-
-        after : AllAlone (deed.Tick n ∷ share) x.peer q → Keeps (k.now + d) (time + d) q
-        after (r, tick, rest) =
-            let at : r ≡ ticked x.peer ((k.now + d) % 2 ^ 32) = tick ∙ ap (λ m. ticked x.peer m) moment in
-            deeds-keep (k.now + d) (time + d) share r q shares rest (subst (Keeps (k.now + d) (time + d)) (sym at) (ages-ticked k.now time d x.peer was.0 near, wide-ticked x.peer ((k.now + d) % 2 ^ 32) was.1, pings-ticked x.peer ((k.now + d) % 2 ^ 32) was.2))
-
--- ---- a world
-abbrev pub WorldAges : ℕ → World → Type 0
-WorldAges time w = (side : Side) → HostAges time (site_of w side).host
-
-abbrev pub IsStillThing : Happening → Type 0
-IsStillThing (Calls c) = IsStill c
-IsStillThing (Delivers k answer) = Unit {0}
-
-still-thing : (time : ℕ) (from old new : Site) (what : Happening) → IsStillThing what → Steps (call_by from what) old.host new.host → HostAges time old.host → HostAges time new.host
-still-thing time from old new (Calls c) still (g, acts, same) k = subst (HostAges time) same (still-call time c old.host g still acts k)
-still-thing time from old new (Delivers n answer) still steps k = brought (slice_get from.log n) steps
-  where
-    brought : (found : Option Logged) → Steps (received_from from.address answer found) old.host new.host → HostAges time new.host
-    brought None same = subst (HostAges time) same k
-    brought (Some d) (g, acts, same) = subst (HostAges time) same (still-call time (call.Receive from.address d.text answer) old.host g tt acts k)
-
--- at one side something happens, and at the other nothing
-at-sides : (time more : ℕ) (at : Side) (what : Happening) (old new : World) → time ≤ more → HappensAt at what old new
-    → (Steps (call_by (site_of old (other at)) what) (site_of old at).host (site_of new at).host → HostAges time (site_of old at).host → HostAges more (site_of new at).host) → WorldAges time old → WorldAges more new
-at-sides time more A what old new low h goes k A = goes (by-call (beside old.count old.b) old.b old.a new.a what h.here) (k A)
-at-sides time more A what old new low h goes k B = subst (λ (s : Site). HostAges more s.host) (sym h.there) (host-more time more old.b.host low (k B))
-at-sides time more B what old new low h goes k B = goes (by-call (beside old.count old.a) old.a old.b new.b what h.here) (k B)
-at-sides time more B what old new low h goes k A = subst (λ (s : Site). HostAges more s.host) (sym h.there) (host-more time more old.a.host low (k A))
-
--- an event is a tick, or still
-pub is-tick-or : (w : World) (e : WorldEvent) (answer : Answer) (what : Happening) → Makes w e answer what → ((ms : ℕ) × (passes e ≡ min ms 60000) × (what ≡ Calls (call.Tick ms))) ⊎ IsStillThing what
-is-tick-or w (happen.Connect side channels info word) (answers.Peer name) what m = inr (subst IsStillThing (sym m) tt)
-is-tick-or w (happen.Connect side channels info word) answer what m = absurd m
-is-tick-or w (happen.Submit side peer channel flags body) answers.Done what m = inr (subst IsStillThing (sym m) tt)
-is-tick-or w (happen.Submit side peer channel flags body) answer what m = absurd m
-is-tick-or w (happen.Deliver side k) (answers.Received answer) what m = inr (subst IsStillThing (sym m) tt)
-is-tick-or w (happen.Deliver side k) answer what m = absurd m
-is-tick-or w (happen.Turn side) (answers.Sent None) what (buf, m) = inr (subst IsStillThing (sym m) tt)
-is-tick-or w (happen.Turn side) (answers.Sent (Some n)) what (gave, buf, m, number) = inr (subst IsStillThing (sym m) tt)
-is-tick-or w (happen.Turn side) answer what m = absurd m
-is-tick-or w (happen.Tick side ms) answers.Done what m = inl (ms, refl, m)
-is-tick-or w (happen.Tick side ms) answer what m = absurd m
-is-tick-or w (happen.Take side) (answers.Taken event) what m = inr (subst IsStillThing (sym m) tt)
-is-tick-or w (happen.Take side) answer what m = absurd m
-is-tick-or w (happen.Disconnect side peer how info) answers.Done what m = inr (subst IsStillThing (sym m) tt)
-is-tick-or w (happen.Disconnect side peer how info) answer what m = absurd m
-
-world-step : (time : ℕ) (w v : World) (e : WorldEvent) (answer : Result Answer Refusal) → world.Steps w e answer v → time + passes e < 2 ^ 32 → WorldAges time w → WorldAges (time + passes e) v
-world-step time w v e (Err why) step near k = λ side. subst (λ (u : World). HostAges (time + passes e) (site_of u side).host) (sym step.1) (host-more time (time + passes e) (site_of w side).host (omega arith) (k side))
-world-step time w v e (Ok answer) (what, makes, h) near k = by (is-tick-or w e answer what makes)
-  where
-    low : time ≤ time + passes e
-    low = omega arith
-
-    by : ((ms : ℕ) × (passes e ≡ min ms 60000) × (what ≡ Calls (call.Tick ms))) ⊎ IsStillThing what → WorldAges (time + passes e) v
-    by (inr still) = at-sides time (time + passes e) (side_of e) what w v low h
-        (λ steps was. host-more time (time + passes e) (site_of v (side_of e)).host low (still-thing time (site_of w (other (side_of e))) (site_of w (side_of e)) (site_of v (side_of e)) what still steps was)) k
-    by (inl (ms, same, is)) = at-sides time (time + passes e) (side_of e) what w v low h
-        (λ steps was. ticks (subst (λ (y : Happening). Steps (call_by (site_of w (other (side_of e))) y) (site_of w (side_of e)).host (site_of v (side_of e)).host) is steps) was) k
-      where
-        ticks : Steps (call.Tick ms ∷ []) (site_of w (side_of e)).host (site_of v (side_of e)).host → HostAges time (site_of w (side_of e)).host → HostAges (time + passes e) (site_of v (side_of e)).host
-        ticks (g, acts, then') was = subst (λ n. HostAges (time + n) (site_of v (side_of e)).host) (sym same)
-            (subst (HostAges (time + min ms 60000)) then' (tick-call time ms (site_of w (side_of e)).host g (subst (λ n. time + n < 2 ^ 32) same near) acts was))
-
-world-runs : (time : ℕ) (es : List WorldEvent) (xs : List (Result Answer Refusal)) (w v : World) → Runs w es xs v → time + all_pass es < 2 ^ 32 → WorldAges time w → WorldAges (time + all_pass es) v
-world-runs time [] [] w v r near k = λ side. subst (λ (u : World). HostAges (time + 0) (site_of u side).host) (sym r) (host-more time (time + 0) (site_of w side).host (omega arith) (k side))
-world-runs time [] (x ∷ xs) w v r near k = absurd r
-world-runs time (e ∷ es) [] w v r near k = absurd r
-world-runs time (e ∷ es) (x ∷ xs) w v r near k = λ side.
-    let sum : time + passes e + all_pass es ≡ time + all_pass (e ∷ es) = omega arith in
-    subst (λ n. HostAges n (site_of v side).host) sum (world-runs (time + passes e) es xs r.0 v r.2 (omega arith) (world-step time w r.0 e x r.1 (omega arith) k) side)
-
--- ---- at the beginning of a world
-few-mtu : (c : Config) → is_in_range c ≡ true → 576 ≤ c.mtu
-few-mtu c h = grind (arith, nat_tests)
-
-lesser : (a b : ℕ) → 576 ≤ a → 576 ≤ b → 576 ≤ min a b
-lesser a b h k = grind arith
-
-low-clock : (n : ℕ) → n < 2 ^ 32 → n ≡ n % 2 ^ 32
-low-clock n h = omega arith
-
-opened-ages : (c : Config) → is_in_range c ≡ true → c.clock < 2 ^ 32 → HostAges 0 (opening.opened c)
-opened-ages c h low = record {
-  now = c.clock;
-  clock = low-clock c.clock low;
-  mtu = few-mtu c h;
-  peers = λ name p is. absurd (let z : ◌≡◌ {A = Option Peering} None (Some p) = sym (each-beginning.nobody c name) ∙ is in cc);
-}
-
-joined-ages : (c : Config) (address : Addr) → 576 ≤ c.mtu → c.clock < 2 ^ 32 → HostAges 0 (opening.joined c address)
-joined-ages c address wide low = record {
-  now = c.clock;
-  clock = low-clock c.clock low;
-  mtu = wide;
-  peers = λ name p is. subst (Keeps c.clock 0) (sym (each-beginning.one c address name p is).1) (joined-keeps c.clock 0 c wide low);
-}
-
-first-ages : (joined : Bool) (a b : Config) → (is_in_range a && is_in_range b) ≡ true → a.clock < 2 ^ 32 → b.clock < 2 ^ 32 → WorldAges 0 (first joined a b)
-first-ages true a b h low_a low_b A = (let r = both (is_in_range a) (is_in_range b) h in joined-ages (joined_config a b) (address_of B) (lesser a.mtu b.mtu (few-mtu a r.0) (few-mtu b r.1)) low_a)
-first-ages true a b h low_a low_b B = (let r = both (is_in_range a) (is_in_range b) h in joined-ages (joined_config b a) (address_of A) (lesser b.mtu a.mtu (few-mtu b r.1) (few-mtu a r.0)) low_b)
-first-ages false a b h low_a low_b A = (let r = both (is_in_range a) (is_in_range b) h in opened-ages a r.0 low_a)
-first-ages false a b h low_a low_b B = (let r = both (is_in_range a) (is_in_range b) h in opened-ages b r.1 low_b)
-
-pub world-ages : (passed : ℕ) (joined : Bool) (w : World) (r : IsReachedIn passed joined w) → all_pass r.reached.events < 2 ^ 32 → WorldAges (all_pass r.reached.events) w
-world-ages passed joined w k near =
-    let r = k.reached in
-    let time : ℕ = all_pass r.events in
-    let from : 0 + time ≡ time = omega arith in
-    subst (λ n. WorldAges n w) from (world-runs 0 r.events r.answers (first joined r.a r.b) w r.runs (subst (λ n. n < 2 ^ 32) (sym from) near) (first-ages joined r.a r.b r.in_range k.clock_a k.clock_b))
-
--- ---- rounds
 clock-later : (n ms now : ℕ) → clock_by_rounds n ms (now % 2 ^ 32) ≡ (now + n * min ms 60000) % 2 ^ 32
 clock-later zero ms now = ap (λ m. m % 2 ^ 32) (sum now (min ms 60000))
   where
     sum : (m k : ℕ) → m ≡ m + 0 * k
     sum m k = omega arith
-clock-later (suc n) ms now = ap (λ c. clock_after c ms) (clock-later n ms now) ∙ more (now + n * d) d (now + suc n * d) (omega arith)
+clock-later (suc n) ms now = ap (λ c. clock_after c ms) (clock-later n ms now) ∙ clock-sum (now + n * min ms 60000) (min ms 60000) ∙ ap (λ m. m % 2 ^ 32) (more now n (min ms 60000))
   where
-    d : ℕ
-    d = min ms 60000
-
-    more : (m k s : ℕ) → s ≡ m + k → (m % 2 ^ 32 + k) % 2 ^ 32 ≡ s % 2 ^ 32
-    more m k s e = omega arith
+    more : (m k d : ℕ) → m + k * d + d ≡ m + suc k * d
+    more m k d = omega arith
 
 -- the peer of a connection has its name
 at-named : (s : Site) (x : ℕ) (p : Peering) → peer_at s x ≡ Some p → (name : PeerRef) × (named s.host.slots name ≡ Some p)
@@ -408,22 +37,16 @@ over-in : (joined : Bool) (w : World) (passed rounds ms : ℕ) → IsReachedIn p
 over-in joined w passed rounds ms r some long near = record {
   some = some;
   over = λ side x p is.
-      let k : HostAges (all_pass r.reached.events) (site_of w side).host = ages side in
+      let k : HostHabits passed (site_of w side).host = all side in
       let n = at-named (site_of w side) x p is in
       let a = k.peers n.0 p n.1 in
       let at : clock_by_rounds rounds ms (site_of w side).host.clock ≡ (k.now + rounds * min ms 60000) % 2 ^ 32 = ap (clock_by_rounds rounds ms) k.clock ∙ clock-later rounds ms k.now in
-      subst (λ m. AllOver m p) (sym at) (ages-over k.now (all_pass r.reached.events) (rounds * min ms 60000) p a.0 long (let t : all_pass r.reached.events ≡ passed = same in omega arith));
-  wide = λ side x p is. (let k : HostAges (all_pass r.reached.events) (site_of w side).host = ages side in let n = at-named (site_of w side) x p is in let a = k.peers n.0 p n.1 in a.1);
+      subst (λ m. AllOver m p) (sym at) (ages-over k.now passed (rounds * min ms 60000) p (a.aged (omega arith)) long (omega arith));
+  wide = λ side x p is. (let k : HostHabits passed (site_of w side).host = all side in let n = at-named (site_of w side) x p is in let a = k.peers n.0 p n.1 in a.wide);
 }
   where
-    below : (t n : ℕ) → n ≡ min t 4294967295 → n < 4294967295 → t ≡ n
-    below t n e l = grind arith
-
-    same : all_pass r.reached.events ≡ passed
-    same = below (all_pass r.reached.events) passed r.counted (omega arith)
-
-    ages : WorldAges (all_pass r.reached.events) w
-    ages = world-ages passed joined w r (let t : all_pass r.reached.events ≡ passed = same in omega arith)
+    all : WorldHabits passed w
+    all = habits-in passed joined w r (omega arith)
 
 -- as many rounds as the longest wait takes
 some-of : (n m : ℕ) → 327675 ≤ n * m → 0 < n

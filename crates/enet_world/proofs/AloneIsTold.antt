@@ -34,9 +34,9 @@ use Rattle.enet_world.specs.Alone.{HasLeft, IsLeftAlone, TellsAlone}
 use Rattle.enet_world.specs.Calm.{Round, Rounds}
 use Rattle.enet_world.specs.Ended.{share_of, is_ending}
 use Rattle.enet_world.specs.Worlds.{passed_by, passed_by_rounds}
-use Rattle.enet_world.specs.Private.Worlds.{IsReached, IsReachedIn, all_pass}
-use Rattle.enet_world.proofs.Ages.{Keeps as Keeps_at, HostAges, WorldAges, world-ages}
+use Rattle.enet_world.specs.Private.Worlds.{IsReached, IsReachedIn}
 use Rattle.enet_world.proofs.EndsAreTold.{IsHere, Begins, begins, told-so, rounds-go, round-a, round-b, uncut-parts, share-is, is_connected, is_open, has_ended, is_none, up-rises, ended-rises, open-up, connected-up, at-a, at-b, at-end, is_open_or_over}
+use Rattle.enet_world.proofs.Habits.{Habit, HostHabits, habits-in, clock-sum}
 use Rattle.enet_world.proofs.InRounds.{clock_at, Keeps}
 use Rattle.enet_world.proofs.Lasting.{is_past}
 use Rattle.enet_world.proofs.LeftAlone.{IsSilentAt, Lone, Past, IsPastIn, lone-so, named-lone, past-step, At, near-out, far-out, near-takes, far-takes, near-tick, far-tick}
@@ -71,14 +71,6 @@ passed-most (suc n) ms passed = one (min ms 60000) (passed_by_rounds n ms passed
   where
     one : (d p s t : ℕ) → t ≡ s + d → p ≤ passed + 2 * s → min (min (p + d) 4294967295 + d) 4294967295 ≤ passed + 2 * t
     one d p s t e h = omega arith
-
-ages-at : (passed : ℕ) (joined : Bool) (w : World) → IsReachedIn passed joined w → passed < 4294967295 → WorldAges passed w
-ages-at passed joined w r low =
-    let same : all_pass r.reached.events ≡ passed = below (all_pass r.reached.events) passed r.counted low in
-    subst (λ n. WorldAges n w) same (world-ages passed joined w r (omega arith))
-  where
-    below : (t n : ℕ) → n ≡ min t 4294967295 → n < 4294967295 → t ≡ n
-    below t n e l = grind arith
 
 -- ---- a round
 past-keeps : (joined : Bool) (x : ℕ) (side : Side) → Keeps (IsPastIn joined x side)
@@ -180,9 +172,9 @@ stage-brief d n passed c p some (inr (inl k)) = elim k.short [
 ]
 stage-brief d n passed c p some (inr (inr k)) = (let b = k.begun in let w = k.waits in let x = w.brief in omega arith)
 
--- a peer of a world by its name
-aged-peer : (passed : ℕ) (joined : Bool) (w : World) (x : ℕ) (side : Side) (P : Peering → Type 0) → (r : IsReachedIn passed joined w) → (low : passed < 4294967295) → (k : Lone P w x side) → (a : HostAges passed (site_of w side).host) → Keeps_at a.now passed k.p
-aged-peer passed joined w x side P r low k a = a.peers k.ends.e.name k.p (named-lone P w x side k)
+-- what a peer that is left alone has kept
+lone-habit : (passed : ℕ) (w : World) (x : ℕ) (side : Side) (P : Peering → Type 0) → (k : Lone P w x side) → (a : HostHabits passed (site_of w side).host) → Habit a.now passed k.p
+lone-habit passed w x side P k a = a.peers k.ends.e.name k.p (named-lone P w x side k)
 
 -- something waits from now on
 awaits-now : (d n before passed : ℕ) (joined : Bool) (w : World) (x : ℕ) (side : Side) (P : Peering → Type 0) → IsReachedIn passed joined w → passed < 4294967295 → passed ≤ before + 2 * (n * d) → n * d ≤ 500 + 3 * d → (k : Lone P w x side) → AllRest k.p → WaitsForSome k.p.outbox
@@ -197,21 +189,18 @@ awaits-now d n before passed joined w x side P r low within few k rests some = r
   within = within;
 }
   where
-    a : HostAges passed (site_of w side).host
-    a = ages-at passed joined w r low side
+    a : HostHabits passed (site_of w side).host
+    a = habits-in passed joined w r low side
 
     aged : Each (Aged a.now passed) k.p.outbox.control.sent k.p.outbox.senders
-    aged = let h = aged-peer passed joined w x side P r low k a in h.0.0
+    aged = (let h = lone-habit passed w x side P k a in let fair = h.aged (omega arith) in fair.0)
 
     each : Each (Old a.now a.now passed) k.p.outbox.control.sent k.p.outbox.senders
     each = ((λ t h. old-now a.now passed t.transmission (aged.0 t h)), (λ s h t j. old-now a.now passed t.transmission (aged.1 s h t j)))
 
 -- clocks
 later : (c now d : ℕ) → c ≡ now % 2 ^ 32 → (c + d) % 2 ^ 32 ≡ (now + d) % 2 ^ 32
-later c now d e = ap (λ m. (m + d) % 2 ^ 32) e ∙ sum now d
-  where
-    sum : (m n : ℕ) → (m % 2 ^ 32 + n) % 2 ^ 32 ≡ (m + n) % 2 ^ 32
-    sum m n = omega arith
+later c now d e = ap (λ m. (m + d) % 2 ^ 32) e ∙ clock-sum now d
 
 elapsed-later : (c h d : ℕ) → h < 2 ^ 32 → d ≤ 60000 → elapsed_time c h < 500 → elapsed_time ((c + d) % 2 ^ 32) h ≡ elapsed_time c h + d
 elapsed-later c h d low small short = omega arith
@@ -263,11 +252,11 @@ stage-round joined n ms passed x side told w v some early round uncut r r_v k = 
     low_v : passed_by_rounds (suc n) ms passed < 4294967295
     low_v = low-of (suc n) ms passed d refl early (let m = more in let b = brief in omega arith)
 
-    a : HostAges (passed_by_rounds n ms passed) (site_of w side).host
-    a = ages-at (passed_by_rounds n ms passed) joined w r low side
+    a : HostHabits (passed_by_rounds n ms passed) (site_of w side).host
+    a = habits-in (passed_by_rounds n ms passed) joined w r low side
 
-    aged : Keeps_at a.now (passed_by_rounds n ms passed) k.p
-    aged = aged-peer (passed_by_rounds n ms passed) joined w x side (Stage d n passed (clock_at w side)) r low k a
+    habit : Habit a.now (passed_by_rounds n ms passed) k.p
+    habit = lone-habit (passed_by_rounds n ms passed) w x side (Stage d n passed (clock_at w side)) k a
 
     After : Type 0
     After = Lone (Stage d (suc n) passed (clock_at v side)) v x side ⊎ Past v x side
@@ -304,7 +293,7 @@ stage-round joined n ms passed x side told w v some early round uncut r r_v k = 
 
     idle : Idle d n (clock_at w side) k.p → (b : Bool) → leb 500 (elapsed_time c h) ≡ b → After
     idle i true e = elim (lone-round joined (Pings c) (λ p. HasControl p.outbox.control) Asks x ms side told w v (is-asked c) round uncut r.reached
-        (lone-so (Stage d n passed (clock_at w side)) (Pings c) w x side k (record { done = i.done; interval = aged.2.0; long = le-of 500 (elapsed_time c h) e }))) [
+        (lone-so (Stage d n passed (clock_at w side)) (Pings c) w x side k (record { done = i.done; interval = habit.unset.1; long = le-of 500 (elapsed_time c h) e }))) [
           | inl l ↦ inl (waits-now Asks l (few-idle i) l.holds.rests l.holds.waits)
           | inr past ↦ inr past
         ]
@@ -312,7 +301,7 @@ stage-round joined n ms passed x side told w v some early round uncut r r_v k = 
       lt-of 500 (elapsed_time c h) e,
       elim i.short [
         | inl one ↦ (let z : n * d ≡ 1 * d = ap (λ m. m * d) one in let m = more in omega arith)
-        | inr f ↦ (let y : elapsed_time c h ≡ elapsed_time (clock_at w side) h + d = elapsed-later (clock_at w side) h d aged.2.1 small f.0 in let z = f.1 in let m = more in omega arith)
+        | inr f ↦ (let y : elapsed_time c h ≡ elapsed_time (clock_at w side) h + d = elapsed-later (clock_at w side) h d habit.unset.2 small f.0 in let z = f.1 in let m = more in omega arith)
       ],
     ))
 
@@ -331,7 +320,7 @@ stage-round joined n ms passed x side told w v some early round uncut r r_v k = 
     ]
       where
         patient : k.p.patience.maximum ≡ 30000
-        patient = aged.0.2
+        patient = habit.rests.2
 
         near : u.time + d < 2 ^ 32
         near = (let b = brief in let t = u.within in let s = small in omega arith)

@@ -1,94 +1,239 @@
--- What each peer of a world has kept since it began, since in a world nothing is set: ENet's patience, at most a PING on channel 0xFF while it is
--- connected, and that whatever was sent is due to go again, or its timeout isn't over.
-use Rattle.std.proofs.Common.{◌≡◌, ℕ, ◌^◌, ◌<◌, min, ◌⊎◌, inl, inr, Bool, true, false, List, [], ◌∷◌, ◌++◌, append-nil, refl, sym, ap, subst, ◌∙◌, arith, Option, Some, None, Result, Ok, Err}
+-- What each peer of a world has kept since it began, since in a world nothing is set: ENet's patience and ping interval, room for 576 bytes in a
+-- datagram, at most a PING on channel 0xFF while it is connected, and that whatever was sent is due to go again, or its timeout isn't over; and how
+-- long it has waited, by how much the clocks have gone on since the world's beginning.
+use Rattle.std.proofs.Common.{◌≡◌, ℕ, ◌+◌, ◌%◌, ◌^◌, ◌<◌, ◌≤◌, ◌==◌, ◌&&◌, min, ◌⊎◌, inl, inr, Bool, true, false, cond, List, [], ◌∷◌, ◌++◌, append-nil, refl, sym, ap, subst, ◌∙◌, arith, Option, Some, None, Result, Ok, Err, nat_lt}
+use Rattle.std.proofs.lemmas.Bool.Decides.{nat_tests}
 use Rattle.std.specs.List.{slice_get}
+use Rattle.enet_codec.specs.declared.address.Addr.{Addr}
 use Rattle.enet_codec.specs.declared.config.Config.{Config}
+use Rattle.enet_codec.specs.Config.{is_in_range}
+use Rattle.enet_codec.specs.declared.event.Event.TheVariants as tells
 use Rattle.enet_codec.specs.declared.event.PeerRef.{PeerRef}
+use Rattle.enet_codec.specs.declared.event.Received.{Received}
 use Rattle.enet_codec.specs.declared.refusal.Refusal.{Refusal}
-use Rattle.enet_outbox.specs.Emission.{filled}
 use Rattle.enet_peer.specs.Peering.{Peering}
 use Rattle.enet_peer.specs.CommandEffect.{obeyed, wants_memory}
+use Rattle.enet_outbox.specs.Emission.{filled}
 use Rattle.enet_peer.specs.Calls.{pace_of, ticked}
 use Rattle.enet_slot.specs.Slot.{SlotState}
-use Rattle.enet_host.specs.Host.{Host, named}
+use Rattle.enet_host.specs.Host.{Host, named, peer_in, slot_named}
 use Rattle.enet_host.specs.Opening as opening
 use Rattle.enet_host.specs.Ticking.{clock_after}
 use Rattle.law_connection.specs.Steps.{leave_by}
 use Rattle.law_connection.specs.Steps as setting
-use Rattle.law_network.specs.Alone.{call_by, received_from}
 use Rattle.law_network.specs.Beginnings.{BeganBy, Lived, WasThere}
 use Rattle.law_network.specs.Calls.{Call, Acts, Steps, Series}
 use Rattle.law_network.specs.Calls as call
-use Rattle.law_network.specs.Common.{common_of}
+use Rattle.law_network.specs.Common.{Common, common_of}
 use Rattle.law_network.specs.Deeds.{Deed, Alone, AllAlone, emitted}
 use Rattle.law_network.specs.Deeds as deed
-use Rattle.law_network.specs.Falling.{Fell, Occupied, share_of}
+use Rattle.law_network.specs.Falling.{Fell, Falls, Reaches, Receipt, Occupied, fell_to, fell_in, occupied_in, deeds_if, up_to, share_of}
 use Rattle.law_network.specs.Falling as falling
 use Rattle.law_network.specs.declared.event.Answer.{Answer}
+use Rattle.law_network.specs.declared.event.Answer.TheVariants as answers
 use Rattle.law_network.specs.declared.event.Side.{Side}
 use Rattle.law_network.specs.declared.event.Side.TheVariants.{A, B}
 use Rattle.law_network.specs.declared.event.WorldEvent.{WorldEvent}
+use Rattle.law_network.specs.declared.event.WorldEvent.TheVariants as happen
 use Rattle.law_network.specs.Log.{Logged}
 use Rattle.law_network.specs.Network.{Site}
-use Rattle.law_network.specs.Own.{IsOwn}
+use Rattle.law_network.specs.Alone.{call_by, received_from}
+use Rattle.law_network.specs.Own.{IsOwn, config_by, clock_by}
 use Rattle.law_network.specs.Steps.{Happening, Calls, Delivers, beside}
-use Rattle.law_network.specs.World.{World, HappensAt, Runs, site_of, side_of, other, address_of, joined_config}
+use Rattle.law_network.specs.World.{World, HappensAt, Makes, Runs, site_of, side_of, other, address_of, joined_config}
 use Rattle.law_network.specs.World as world
 use Rattle.law_network.proofs.Alone.{by-call}
 use Rattle.law_network.proofs.Beginning.{each-beginning, lived-all}
 use Rattle.law_network.proofs.Matching.{was-set, matches}
 use Rattle.law_network.proofs.Own.{of-the-host}
+use Rattle.law_network.proofs.Runs.{both}
 use Rattle.law_progress.specs.Attempts.{after_take}
 use Rattle.law_progress.specs.Waits.{after_leave}
-use Rattle.law_progress.proofs.Waiting.{Fair, none-new, fair-obeyed, fair-takes, fair-submitted, fair-left}
+use Rattle.law_progress.proofs.Ageing.{Aged, Ages, most, ages-ticked, ages-emitted, ages-more}
+use Rattle.law_progress.proofs.Waiting.{none-new, fair-obeyed, fair-takes, fair-submitted, fair-left, Fair}
+use Rattle.law_progress.proofs.Wide.{IsWide, at-least, wide-obeyed, wide-takes, wide-went, wide-left, wide-ticked}
 use Rattle.enet_world.specs.Worlds.{first}
-use Rattle.enet_world.specs.Private.Worlds.{IsReachedIn}
-use Rattle.enet_world.proofs.Ages.{IsNow, AreNow, if-now, fell-now, IsStill, still-clock, fell-there, IsStillThing, is-tick-or}
+use Rattle.enet_world.specs.Private.Worlds.{IsReachedIn, passes, all_pass}
 use Rattle.enet_world.proofs.Lasting.{obeys}
 use Rattle.enet_world.proofs.Modest.{IsModest, modest-obeyed, modest-ticked, modest-emitted, modest-submitted, modest-takes, modest-left}
-use Rattle.enet_world.proofs.Patience.{IsPatient, patient-obeyed, patient-takes, patient-went, patient-left, patient-ticked}
 use Rattle.enet_world.proofs.Pings.{Idle, Queued}
-use Rattle.enet_world.proofs.Punctual.{Rests, most, rests-ticked, rests-emitted}
+use Rattle.enet_world.proofs.Punctual.{Rests, rests-ticked, rests-emitted}
+use Rattle.enet_world.proofs.Unset.{IsUnset, unset-obeyed, unset-takes, unset-went, unset-left, unset-ticked}
+use Rattle.law_network.proofs.Submitting.{same-some}
+use Rattle.enet_rtt.specs.declared.transmission.Transmission.{Transmission}
 
 -- ---- a peer
-abbrev pub Habit : ℕ → Peering → Type 0
-Habit now p = Fair (Rests now) most p × IsPatient p × IsModest p
+-- what it keeps, where `time` milliseconds have passed since the world began; `now` is a moment of its host's clock, which wraps
+pub record Habit (now time : ℕ) (p : Peering) : Type 0 where
+  pub aged : time < 2 ^ 32 → Ages now time p
+  pub rests : Fair (Rests (now % 2 ^ 32)) most p
+  pub wide : IsWide p
+  pub unset : IsUnset p
+  pub modest : IsModest p
 
-deed-keeps : (now : ℕ) (d : Deed) (p q : Peering) → now < 2 ^ 32 → IsNow now d → Alone d p q → Habit now p → Habit now q
-deed-keeps now (deed.Submit x (Ok done)) p q low at a h =
-    subst (Habit now) (sym a.1) (fair-submitted (Rests now) most p x.channel (record { flags = x.flags; body = x.body }) h.0, h.1, modest-submitted p x.channel (record { flags = x.flags; body = x.body }) h.2)
-deed-keeps now (deed.Submit x (Err why)) p q low at a h = subst (Habit now) (sym a.1) h
-deed-keeps now (deed.Emit n given) p q low at a h = subst (Habit now) (sym (a.1 ∙ ap (λ m. emitted p m) at))
-    (rests-emitted now p low h.0, patient-went (record p { outbox = (filled (pace_of p now) p.outbox).outbox }) p.state h.1, modest-emitted p now h.2)
-deed-keeps now (deed.Come n sent m answer) p q low at a h =
-    obeys (Habit now) answer (wants_memory p n sent m) (obeyed p n sent m) p q a h (fair-obeyed (Rests now) most p n sent m h.0, patient-obeyed p n sent m h.1, modest-obeyed p n sent m h.2)
-deed-keeps now (deed.Tick n) p q low at a h = absurd at
-deed-keeps now (deed.Take None) p q low at a h = subst (Habit now) (sym a.1) h
-deed-keeps now (deed.Take (Some e)) p q low at a h = subst (λ t. Habit now (after_take p t)) a (fair-takes (Rests now) most p h.0, patient-takes p h.1, modest-takes p h.2)
-deed-keeps now (deed.Disconnect way info (Ok done)) p q low at a h =
-    subst (λ (o : Option Peering). Habit now (after_leave p o)) a (fair-left (Rests now) most p (leave_by way p.state) info h.0, patient-left p (leave_by way p.state) info h.1, modest-left p (leave_by way p.state) info h.2)
-deed-keeps now (deed.Disconnect way info (Err why)) p q low at a h = subst (Habit now) (sym a.2) h
-deed-keeps now (deed.Set (setting.ThrottleLimit limit) (Ok done)) p q low at a h = (let set = was-set (setting.ThrottleLimit limit) done p q a in subst (Habit now) (sym set.1) h)
-deed-keeps now (deed.Set (setting.ThrottleLimit limit) (Err why)) p q low at a h = subst (Habit now) (sym (matches.refused (deed.Set (setting.ThrottleLimit limit) (Err why)) p q a refl)) h
-deed-keeps now (deed.Set s answer) p q low at a h = absurd at
+-- ---- what a peer does at a moment
+-- a deed that is none of time, at a moment, and sets nothing of how long the peer waits
+abbrev pub IsNow : ℕ → Deed → Type 0
+IsNow n (deed.Submit packet answer) = Unit {0}
+IsNow n (deed.Emit now given) = now ≡ n
+IsNow n (deed.Come now sent m answer) = now ≡ n
+IsNow n (deed.Tick now) = ⊥
+IsNow n (deed.Take given) = Unit {0}
+IsNow n (deed.Disconnect way info answer) = Unit {0}
+IsNow n (deed.Set (setting.ThrottleLimit limit) answer) = Unit {0}
+IsNow n (deed.Set s answer) = ⊥
 
-deeds-keep : (now : ℕ) (ds : List Deed) (p q : Peering) → now < 2 ^ 32 → AreNow now ds → AllAlone ds p q → Habit now p → Habit now q
-deeds-keep now [] p q low at a h = subst (Habit now) a h
-deeds-keep now (d ∷ ds) p q low at a h = deeds-keep now ds a.0 q low at.1 a.2 (deed-keeps now d p a.0 low at.0 a.1 h)
+abbrev pub AreNow : ℕ → List Deed → Type 0
+AreNow n [] = Unit {0}
+AreNow n (d ∷ ds) = IsNow n d × AreNow n ds
+
+pub clock-sum : (now d : ℕ) → (now % 2 ^ 32 + d) % 2 ^ 32 ≡ (now + d) % 2 ^ 32
+clock-sum now d = omega arith
+
+low-now : (n now : ℕ) → n ≡ now % 2 ^ 32 → n < 2 ^ 32
+low-now n now e = omega arith
+
+deed-keeps : (now time : ℕ) (d : Deed) (p q : Peering) → IsNow (now % 2 ^ 32) d → Alone d p q → Habit now time p → Habit now time q
+deed-keeps now time (deed.Submit x (Ok done)) p q at a h = subst (Habit now time) (sym a.1) (record {
+  aged = λ near. fair-submitted (Aged now time) most p x.channel (record { flags = x.flags; body = x.body }) (h.aged near);
+  rests = fair-submitted (Rests (now % 2 ^ 32)) most p x.channel (record { flags = x.flags; body = x.body }) h.rests;
+  wide = h.wide;
+  unset = h.unset;
+  modest = modest-submitted p x.channel (record { flags = x.flags; body = x.body }) h.modest;
+})
+deed-keeps now time (deed.Submit x (Err why)) p q at a h = subst (Habit now time) (sym a.1) h
+deed-keeps now time (deed.Emit n given) p q at a h = subst (Habit now time) (sym (a.1 ∙ ap (λ m. emitted p m) at)) (record {
+  aged = λ near. ages-emitted now time p (h.aged near);
+  rests = rests-emitted (now % 2 ^ 32) p (low-now (now % 2 ^ 32) now refl) h.rests;
+  wide = wide-went (record p { outbox = (filled (pace_of p (now % 2 ^ 32)) p.outbox).outbox }) p.state h.wide;
+  unset = unset-went (record p { outbox = (filled (pace_of p (now % 2 ^ 32)) p.outbox).outbox }) p.state h.unset;
+  modest = modest-emitted p (now % 2 ^ 32) h.modest;
+})
+deed-keeps now time (deed.Come n sent m answer) p q at a h = obeys (Habit now time) answer (wants_memory p n sent m) (obeyed p n sent m) p q a h (record {
+  aged = λ near. fair-obeyed (Aged now time) most p n sent m (h.aged near);
+  rests = fair-obeyed (Rests (now % 2 ^ 32)) most p n sent m h.rests;
+  wide = wide-obeyed p n sent m h.wide;
+  unset = unset-obeyed p n sent m (low-now n now at) h.unset;
+  modest = modest-obeyed p n sent m h.modest;
+})
+deed-keeps now time (deed.Tick n) p q at a h = absurd at
+deed-keeps now time (deed.Take None) p q at a h = subst (Habit now time) (sym a.1) h
+deed-keeps now time (deed.Take (Some e)) p q at a h = subst (λ t. Habit now time (after_take p t)) a (record {
+  aged = λ near. fair-takes (Aged now time) most p (h.aged near);
+  rests = fair-takes (Rests (now % 2 ^ 32)) most p h.rests;
+  wide = wide-takes p h.wide;
+  unset = unset-takes p h.unset;
+  modest = modest-takes p h.modest;
+})
+deed-keeps now time (deed.Disconnect way info (Ok done)) p q at a h = subst (λ (o : Option Peering). Habit now time (after_leave p o)) a (record {
+  aged = λ near. fair-left (Aged now time) most p (leave_by way p.state) info (h.aged near);
+  rests = fair-left (Rests (now % 2 ^ 32)) most p (leave_by way p.state) info h.rests;
+  wide = wide-left p (leave_by way p.state) info h.wide;
+  unset = unset-left p (leave_by way p.state) info h.unset;
+  modest = modest-left p (leave_by way p.state) info h.modest;
+})
+deed-keeps now time (deed.Disconnect way info (Err why)) p q at a h = subst (Habit now time) (sym a.2) h
+deed-keeps now time (deed.Set (setting.ThrottleLimit limit) (Ok done)) p q at a h = subst (Habit now time) (sym (was-set (setting.ThrottleLimit limit) done p q a).1)
+    (record { aged = h.aged; rests = h.rests; wide = h.wide; unset = h.unset; modest = h.modest })
+deed-keeps now time (deed.Set (setting.ThrottleLimit limit) (Err why)) p q at a h = subst (Habit now time) (sym (matches.refused (deed.Set (setting.ThrottleLimit limit) (Err why)) p q a refl)) h
+deed-keeps now time (deed.Set s answer) p q at a h = absurd at
+
+deeds-keep : (now time : ℕ) (ds : List Deed) (p q : Peering) → AreNow (now % 2 ^ 32) ds → AllAlone ds p q → Habit now time p → Habit now time q
+deeds-keep now time [] p q at a h = subst (Habit now time) a h
+deeds-keep now time (d ∷ ds) p q at a h = deeds-keep now time ds a.0 q at.1 a.2 (deed-keeps now time d p a.0 at.0 a.1 h)
+
+-- ---- what falls to a peer by a call
+-- a call that is none of time, and sets nothing
+abbrev pub IsStill : Call → Type 0
+IsStill (call.Tick ms) = ⊥
+IsStill (call.SetBandwidth incoming outgoing answer) = ⊥
+IsStill (call.ConfigureThrottle name interval acceleration deceleration answer) = ⊥
+IsStill (call.SetPingInterval name ms answer) = ⊥
+IsStill (call.SetTimeout name limit minimum maximum answer) = ⊥
+IsStill c = Unit {0}
+
+pub if-now : (n : ℕ) (b : Bool) (d : Deed) → IsNow n d → AreNow n (deeds_if b d)
+if-now n true d at = (at, tt)
+if-now n false d at = tt
+
+up-to-now : (n : ℕ) (turn : ℕ → ℕ) (j i : ℕ) (gives passes : Deed) → IsNow n gives → IsNow n passes → AreNow n (up_to turn j i gives passes)
+up-to-now n turn j i gives passes g p = by (j == i)
+  where
+    by : (b : Bool) → AreNow n (cond b (gives ∷ []) (deeds_if (nat_lt (turn i) (turn j)) passes))
+    by true = (g, tt)
+    by false = if-now n (nat_lt (turn i) (turn j)) passes p
+
+falls-now : (a : _) (handled : ℕ) (bytes : List ℕ) (answer : Received) (ds : List Deed) → Falls a handled bytes answer ds → AreNow a.now ds
+falls-now a handled bytes answer ds (falling.nothing_left n) = tt
+falls-now a handled bytes answer ds (falling.no_command n text some none) = tt
+falls-now a handled bytes answer ds (falling.stops n text rest m why spelled) = (refl, tt)
+falls-now a handled bytes answer ds (falling.goes_on n text rest m told more spelled f) = (refl, falls-now a _ rest told more f)
+
+reaches-now : (i : ℕ) (s : SlotState) (r : Receipt) (ds : List Deed) → Reaches i s r ds → AreNow r.now ds
+reaches-now i s r ds (falling.unreadable why un) = tt
+reaches-now i s r ds (falling.elsewhere header commands read not-here) = tt
+reaches-now i s r ds (falling.turned_away header commands why read some is refused told) = tt
+reaches-now i s r ds (falling.here header commands ds' read some is taken f) = falls-now _ 0 commands r.answer ds' f
+
+pub fell-now : (h : Common) (x : Occupied) (c : Call) (ds : List Deed) → IsStill c → Fell h x c ds → AreNow h.clock ds
+fell-now h x (call.Connect address channels info word answer) ds k f = subst (AreNow h.clock) (sym f) tt
+fell-now h x (call.Submit name channel q answer) ds k f = subst (AreNow h.clock) (sym f) (if-now h.clock (falling.is_meant name x.number x.slot) _ tt)
+fell-now h x (call.Receive from bytes answer) ds k f = reaches-now x.number x.slot _ ds f
+fell-now h x (call.Service None buf) ds k f = subst (AreNow h.clock) (sym f) (refl, tt)
+fell-now h x (call.Service (Some gave) buf) ds k f = subst (AreNow h.clock) (sym f) (up-to-now h.clock h.turn gave.0.slot x.number _ _ refl refl)
+fell-now h x (call.Disconnect mode name info answer) ds k f = subst (AreNow h.clock) (sym f) (if-now h.clock (falling.is_meant name x.number x.slot) _ tt)
+fell-now h x (call.NextEvent None) ds k f = subst (AreNow h.clock) (sym f) (tt, tt)
+fell-now h x (call.NextEvent (Some (tells.Connect name info))) ds k f = subst (AreNow h.clock) (sym f) (up-to-now h.clock h.event_turn name.slot x.number _ _ tt tt)
+fell-now h x (call.NextEvent (Some (tells.Receive name packet))) ds k f = subst (AreNow h.clock) (sym f) (up-to-now h.clock h.event_turn name.slot x.number _ _ tt tt)
+fell-now h x (call.NextEvent (Some (tells.Disconnect name info))) ds k f = subst (AreNow h.clock) (sym f) (up-to-now h.clock h.event_turn name.slot x.number _ _ tt tt)
+fell-now h x (call.NextEvent (Some (tells.Refused seat number why))) ds k f = subst (AreNow h.clock) (sym f) tt
+fell-now h x (call.Tick ms) ds k f = absurd k
+fell-now h x (call.SetBandwidth incoming outgoing answer) ds k f = absurd k
+fell-now h x (call.ConfigureThrottle name interval acceleration deceleration answer) ds k f = absurd k
+fell-now h x (call.SetPingInterval name ms answer) ds k f = absurd k
+fell-now h x (call.SetTimeout name limit minimum maximum answer) ds k f = absurd k
 
 -- ---- a host
-pub record HostHabits (h : Host) : Type 0 where
-  pub low : h.clock < 2 ^ 32
-  pub peers : (name : PeerRef) (p : Peering) → named h.slots name ≡ Some p → Habit h.clock p
+pub record HostHabits (time : ℕ) (h : Host) : Type 0 where
+  pub now : ℕ
+  pub clock : h.clock ≡ now % 2 ^ 32
+  pub mtu : 576 ≤ h.config.mtu
+  pub peers : (name : PeerRef) (p : Peering) → named h.slots name ≡ Some p → Habit now time p
 
-same-peer : (p q : Peering) → ◌≡◌ {A = Option Peering} (Some p) (Some q) → p ≡ q
-same-peer p q e = cc
+-- where less time than that is known to have passed, it is so too of more
+host-more : (time more : ℕ) (h : Host) → time ≤ more → HostHabits time h → HostHabits more h
+host-more time more h low k = record { now = k.now; clock = k.clock; mtu = k.mtu; peers = λ name p is. later p (k.peers name p is) }
+  where
+    later : (p : Peering) → Habit k.now time p → Habit k.now more p
+    later p a = record { aged = λ near. ages-more k.now time more p low (a.aged (omega arith)); rests = a.rests; wide = a.wide; unset = a.unset; modest = a.modest }
 
-begun-habit : (now : ℕ) (c : Call) (h : Host) (i : ℕ) (s t : SlotState) (p : Peering) → falling.Begins c (common_of h) i s t → t.peer ≡ Some p → Habit now p
-begun-habit now c h i s t p (falling.asks address channels info word is some free) has =
-    subst (Habit now) (same-peer _ p has) ((((λ t' k. absurd k), none-new (Rests now) 0 _), record { round_trip = omega arith; variance = omega arith }, refl), refl, tt)
-begun-habit now c h i s t p (falling.answers from bytes commands header o is read nobody offer taken new free) has =
-    subst (Habit now) (same-peer _ p has) ((((λ t' k. absurd k), none-new (Rests now) 0 _), record { round_trip = omega arith; variance = omega arith }, refl), refl, Queued _ refl refl refl)
+-- a peer that begins has sent nothing
+new-habit : (now time : ℕ) (p : Peering) → ((R : Transmission → Type 0) → Fair R most p) → IsWide p → IsUnset p → IsModest p → Habit now time p
+new-habit now time p fair wide unset modest = record { aged = λ near. fair (Aged now time); rests = fair (Rests (now % 2 ^ 32)); wide = wide; unset = unset; modest = modest }
+
+begun-habit : (now time : ℕ) (c : Call) (h : Host) (i : ℕ) (s t : SlotState) (p : Peering) → 576 ≤ h.config.mtu → h.clock < 2 ^ 32 → falling.Begins c (common_of h) i s t → t.peer ≡ Some p → Habit now time p
+begun-habit now time c h i s t p wide low (falling.asks address channels info word is some free) has =
+    subst (Habit now time) (same-some _ p has) (new-habit now time _ (λ R. (((λ t' k. absurd k), none-new R 0 _), record { round_trip = omega arith; variance = omega arith }, refl)) wide (refl, refl, low) tt)
+begun-habit now time c h i s t p wide low (falling.answers from bytes commands header o is read nobody offer taken new free) has =
+    subst (Habit now time) (same-some _ p has)
+    (new-habit now time _ (λ R. (((λ t' k. absurd k), none-new R 0 _), record { round_trip = omega arith; variance = omega arith }, refl)) (at-least o.mtu h.config.mtu) (refl, refl, low) (Queued _ refl refl refl))
+
+pub still-clock : (c : Call) (n : ℕ) → IsStill c → clock_by c n ≡ n
+still-clock (call.Tick ms) n k = absurd k
+still-clock c n k = refl
+
+-- what fell to a slot fell to the peer there
+pub fell-there : (h : Host) (name : PeerRef) (c : Call) (p : Peering) (ds : List Deed) → named h.slots name ≡ Some p → fell_to (common_of h) name.slot (slot_named h.slots name) c ds
+    → (x : Occupied) × (x.peer ≡ p) × Fell (common_of h) x c ds
+fell-there h name c p ds is f = by (slot_named h.slots name) refl f
+  where
+    in-slot : (s : SlotState) → slot_named h.slots name ≡ Some s → (o : Option Peering) → s.peer ≡ o → fell_in (common_of h) (occupied_in name.slot s o) c ds → (x : Occupied) × (x.peer ≡ p) × Fell (common_of h) x c ds
+    in-slot s at None none g = absurd (let z : ◌≡◌ {A = Option Peering} None (Some p) = sym none ∙ sym (ap peer_in at) ∙ is in cc)
+    in-slot s at (Some q) some g = (record { number = name.slot; slot = s; peer = q }, same-some q p (sym some ∙ sym (ap peer_in at) ∙ is), g)
+
+    by : (o : Option SlotState) → slot_named h.slots name ≡ o → fell_to (common_of h) name.slot o c ds → (x : Occupied) × (x.peer ≡ p) × Fell (common_of h) x c ds
+    by None none g = absurd (let z : ◌≡◌ {A = Option Peering} None (Some p) = sym (ap peer_in none) ∙ is in cc)
+    by (Some s) at g = in-slot s at s.peer refl g
 
 -- what one call makes of each peer, where it makes that of what fell to one that was there
 by-one : (P Q : Peering → Type 0) (c : Call) (h g : Host) → Acts c h g → ((x : Occupied) (q : Peering) (ds : List Deed) → Fell (common_of h) x c ds → AllAlone ds x.peer q → P x.peer → Q q)
@@ -112,101 +257,188 @@ by-one P Q c h g acts goes begins old name p is = began l.began
         subst Q same (begins name.slot b.slot b.given l.first b.begins b.peer)
     began (inr (inr never)) = absurd never
 
-still-call : (c : Call) (h g : Host) → IsStill c → Acts c h g → HostHabits h → HostHabits g
-still-call c h g still acts k = record {
-  low = subst (λ n. n < 2 ^ 32) (sym same) k.low;
-  peers = subst (λ n. (name : PeerRef) (p : Peering) → named g.slots name ≡ Some p → Habit n p) (sym same) (by-one (Habit h.clock) (Habit h.clock) c h g acts
-      (λ x q ds fell alone was. deeds-keep h.clock ds x.peer q k.low (fell-now (common_of h) x c ds still fell) alone was) (λ i s t p begins has. begun-habit h.clock c h i s t p begins has) k.peers);
+still-mtu : (c : Call) (k : Config) → IsStill c → (config_by c k).mtu ≡ k.mtu
+still-mtu (call.SetBandwidth incoming outgoing answer) k still = absurd still
+still-mtu c k still = refl
+
+still-call : (time : ℕ) (c : Call) (h g : Host) → IsStill c → Acts c h g → HostHabits time h → HostHabits time g
+still-call time c h g still acts k = record {
+  now = k.now;
+  clock = own.1 ∙ still-clock c h.clock still ∙ k.clock;
+  mtu = subst (λ n. 576 ≤ n) (sym (ap (λ (x : Config). x.mtu) own.0 ∙ still-mtu c h.config still)) k.mtu;
+  peers = by-one (Habit k.now time) (Habit k.now time) c h g acts
+      (λ x q ds fell alone was. deeds-keep k.now time ds x.peer q (subst (λ n. AreNow n ds) k.clock (fell-now (common_of h) x c ds still fell)) alone was)
+      (λ i s t p begins has. begun-habit k.now time c h i s t p k.mtu (low-now h.clock k.now k.clock) begins has) k.peers;
 }
   where
     own : IsOwn c h g
     own = of-the-host c h g acts
 
-    same : g.clock ≡ h.clock
-    same = own.1 ∙ still-clock c h.clock still
-
-tick-call : (ms : ℕ) (h g : Host) → Acts (call.Tick ms) h g → HostHabits h → HostHabits g
-tick-call ms h g acts k = record {
-  low = subst (λ m. m < 2 ^ 32) (sym own.1) low;
-  peers = subst (λ m. (name : PeerRef) (p : Peering) → named g.slots name ≡ Some p → Habit m p) (sym own.1)
-      (by-one (Habit h.clock) (Habit n) (call.Tick ms) h g acts goes (λ i s t p begins has. begun-habit n (call.Tick ms) h i s t p begins has) k.peers);
+tick-call : (time ms : ℕ) (h g : Host) → Acts (call.Tick ms) h g → HostHabits time h → HostHabits (time + min ms 60000) g
+tick-call time ms h g acts k = record {
+  now = k.now + d;
+  clock = own.1 ∙ moment;
+  mtu = subst (λ n. 576 ≤ n) (sym (ap (λ (x : Config). x.mtu) own.0)) k.mtu;
+  peers = by-one (Habit k.now time) (Habit (k.now + d) (time + d)) (call.Tick ms) h g acts goes
+      (λ i s t p begins has. begun-habit (k.now + d) (time + d) (call.Tick ms) h i s t p k.mtu (low-now h.clock k.now k.clock) begins has) k.peers;
 }
   where
+    d : ℕ
+    d = min ms 60000
+
     n : ℕ
-    n = clock_after h.clock ms
+    n = (k.now + d) % 2 ^ 32
 
     own : IsOwn (call.Tick ms) h g
     own = of-the-host (call.Tick ms) h g acts
 
-    low : n < 2 ^ 32
-    low = omega arith
+    moment : clock_after h.clock ms ≡ n
+    moment = ap (λ m. clock_after m ms) k.clock ∙ clock-sum k.now d
 
-    goes : (x : Occupied) (q : Peering) (ds : List Deed) → Fell (common_of h) x (call.Tick ms) ds → AllAlone ds x.peer q → Habit h.clock x.peer → Habit n q
+    goes : (x : Occupied) (q : Peering) (ds : List Deed) → Fell (common_of h) x (call.Tick ms) ds → AllAlone ds x.peer q → Habit k.now time x.peer → Habit (k.now + d) (time + d) q
     goes x q ds fell alone was = after (subst (λ (y : List Deed). AllAlone y x.peer q) fell alone)
       where
         share : List Deed
-        share = share_of (common_of h) n x.slot.emitted (ticked x.peer n)
+        share = share_of (common_of h) (clock_after h.clock ms) x.slot.emitted (ticked x.peer (clock_after h.clock ms))
 
         shares : AreNow n share
         shares = if-now n _ _ tt
 
-        after : AllAlone (deed.Tick n ∷ share) x.peer q → Habit n q
-        after (r, tick, rest) = deeds-keep n share r q low shares rest (subst (Habit n) (sym tick) (rests-ticked h.clock n x.peer was.0, patient-ticked x.peer n was.1, modest-ticked x.peer n was.2))
+        then' : Habit (k.now + d) (time + d) (ticked x.peer n)
+        then' = record {
+          aged = λ near. ages-ticked k.now time d x.peer (was.aged (omega arith)) near;
+          rests = rests-ticked (k.now % 2 ^ 32) n x.peer was.rests;
+          wide = wide-ticked x.peer n was.wide;
+          unset = unset-ticked x.peer n was.unset;
+          modest = modest-ticked x.peer n was.modest;
+        }
+
+        after : AllAlone (deed.Tick (clock_after h.clock ms) ∷ share) x.peer q → Habit (k.now + d) (time + d) q
+        after (r, tick, rest) = deeds-keep (k.now + d) (time + d) share r q shares rest (subst (Habit (k.now + d) (time + d)) (sym (tick ∙ ap (λ m. ticked x.peer m) moment)) then')
 
 -- ---- a world
-abbrev pub Habits : World → Type 0
-Habits w = (side : Side) → HostHabits (site_of w side).host
+abbrev pub WorldHabits : ℕ → World → Type 0
+WorldHabits time w = (side : Side) → HostHabits time (site_of w side).host
 
-still-thing : (from old new : Site) (what : Happening) → IsStillThing what → Steps (call_by from what) old.host new.host → HostHabits old.host → HostHabits new.host
-still-thing from old new (Calls c) still (g, acts, same) k = subst HostHabits same (still-call c old.host g still acts k)
-still-thing from old new (Delivers n answer) still steps k = brought (slice_get from.log n) steps
+-- however much time has passed
+abbrev pub Habits : World → Type 0
+Habits w = (time : ℕ) × WorldHabits time w
+
+abbrev pub IsStillThing : Happening → Type 0
+IsStillThing (Calls c) = IsStill c
+IsStillThing (Delivers k answer) = Unit {0}
+
+still-thing : (time : ℕ) (from old new : Site) (what : Happening) → IsStillThing what → Steps (call_by from what) old.host new.host → HostHabits time old.host → HostHabits time new.host
+still-thing time from old new (Calls c) still (g, acts, same) k = subst (HostHabits time) same (still-call time c old.host g still acts k)
+still-thing time from old new (Delivers n answer) still steps k = brought (slice_get from.log n) steps
   where
-    brought : (found : Option Logged) → Steps (received_from from.address answer found) old.host new.host → HostHabits new.host
-    brought None same = subst HostHabits same k
-    brought (Some d) (g, acts, same) = subst HostHabits same (still-call (call.Receive from.address d.text answer) old.host g tt acts k)
+    brought : (found : Option Logged) → Steps (received_from from.address answer found) old.host new.host → HostHabits time new.host
+    brought None same = subst (HostHabits time) same k
+    brought (Some d) (g, acts, same) = subst (HostHabits time) same (still-call time (call.Receive from.address d.text answer) old.host g tt acts k)
 
 -- at one side something happens, and at the other nothing
-at-sides : (at : Side) (what : Happening) (old new : World) → HappensAt at what old new → (Steps (call_by (site_of old (other at)) what) (site_of old at).host (site_of new at).host → HostHabits (site_of old at).host → HostHabits (site_of new at).host)
-    → Habits old → Habits new
-at-sides A what old new h goes k A = goes (by-call (beside old.count old.b) old.b old.a new.a what h.here) (k A)
-at-sides A what old new h goes k B = subst (λ (s : Site). HostHabits s.host) (sym h.there) (k B)
-at-sides B what old new h goes k B = goes (by-call (beside old.count old.a) old.a old.b new.b what h.here) (k B)
-at-sides B what old new h goes k A = subst (λ (s : Site). HostHabits s.host) (sym h.there) (k A)
+at-sides : (time more : ℕ) (at : Side) (what : Happening) (old new : World) → time ≤ more → HappensAt at what old new
+    → (Steps (call_by (site_of old (other at)) what) (site_of old at).host (site_of new at).host → HostHabits time (site_of old at).host → HostHabits more (site_of new at).host) → WorldHabits time old → WorldHabits more new
+at-sides time more A what old new low h goes k A = goes (by-call (beside old.count old.b) old.b old.a new.a what h.here) (k A)
+at-sides time more A what old new low h goes k B = subst (λ (s : Site). HostHabits more s.host) (sym h.there) (host-more time more old.b.host low (k B))
+at-sides time more B what old new low h goes k B = goes (by-call (beside old.count old.a) old.a old.b new.b what h.here) (k B)
+at-sides time more B what old new low h goes k A = subst (λ (s : Site). HostHabits more s.host) (sym h.there) (host-more time more old.a.host low (k A))
 
-pub habits-step : (w v : World) (e : WorldEvent) (answer : Result Answer Refusal) → world.Steps w e answer v → Habits w → Habits v
-habits-step w v e (Err why) step k = subst Habits (sym step.1) k
-habits-step w v e (Ok answer) (what, makes, h) k = by (is-tick-or w e answer what makes)
+-- an event is a tick, or still
+pub is-tick-or : (w : World) (e : WorldEvent) (answer : Answer) (what : Happening) → Makes w e answer what → ((ms : ℕ) × (passes e ≡ min ms 60000) × (what ≡ Calls (call.Tick ms))) ⊎ IsStillThing what
+is-tick-or w (happen.Connect side channels info word) (answers.Peer name) what m = inr (subst IsStillThing (sym m) tt)
+is-tick-or w (happen.Connect side channels info word) answer what m = absurd m
+is-tick-or w (happen.Submit side peer channel flags body) answers.Done what m = inr (subst IsStillThing (sym m) tt)
+is-tick-or w (happen.Submit side peer channel flags body) answer what m = absurd m
+is-tick-or w (happen.Deliver side k) (answers.Received answer) what m = inr (subst IsStillThing (sym m) tt)
+is-tick-or w (happen.Deliver side k) answer what m = absurd m
+is-tick-or w (happen.Turn side) (answers.Sent None) what (buf, m) = inr (subst IsStillThing (sym m) tt)
+is-tick-or w (happen.Turn side) (answers.Sent (Some n)) what (gave, buf, m, number) = inr (subst IsStillThing (sym m) tt)
+is-tick-or w (happen.Turn side) answer what m = absurd m
+is-tick-or w (happen.Tick side ms) answers.Done what m = inl (ms, refl, m)
+is-tick-or w (happen.Tick side ms) answer what m = absurd m
+is-tick-or w (happen.Take side) (answers.Taken event) what m = inr (subst IsStillThing (sym m) tt)
+is-tick-or w (happen.Take side) answer what m = absurd m
+is-tick-or w (happen.Disconnect side peer how info) answers.Done what m = inr (subst IsStillThing (sym m) tt)
+is-tick-or w (happen.Disconnect side peer how info) answer what m = absurd m
+
+world-step : (time : ℕ) (w v : World) (e : WorldEvent) (answer : Result Answer Refusal) → world.Steps w e answer v → WorldHabits time w → WorldHabits (time + passes e) v
+world-step time w v e (Err why) step k = λ side. subst (λ (u : World). HostHabits (time + passes e) (site_of u side).host) (sym step.1) (host-more time (time + passes e) (site_of w side).host (omega arith) (k side))
+world-step time w v e (Ok answer) (what, makes, h) k = by (is-tick-or w e answer what makes)
   where
-    by : ((ms : ℕ) × (Rattle.enet_world.specs.Private.Worlds.passes e ≡ min ms 60000) × (what ≡ Calls (call.Tick ms))) ⊎ IsStillThing what → Habits v
-    by (inr still) = at-sides (side_of e) what w v h (λ steps was. still-thing (site_of w (other (side_of e))) (site_of w (side_of e)) (site_of v (side_of e)) what still steps was) k
-    by (inl (ms, same, is)) = at-sides (side_of e) what w v h
+    low : time ≤ time + passes e
+    low = omega arith
+
+    by : ((ms : ℕ) × (passes e ≡ min ms 60000) × (what ≡ Calls (call.Tick ms))) ⊎ IsStillThing what → WorldHabits (time + passes e) v
+    by (inr still) = at-sides time (time + passes e) (side_of e) what w v low h
+        (λ steps was. host-more time (time + passes e) (site_of v (side_of e)).host low (still-thing time (site_of w (other (side_of e))) (site_of w (side_of e)) (site_of v (side_of e)) what still steps was)) k
+    by (inl (ms, same, is)) = at-sides time (time + passes e) (side_of e) what w v low h
         (λ steps was. ticks (subst (λ (y : Happening). Steps (call_by (site_of w (other (side_of e))) y) (site_of w (side_of e)).host (site_of v (side_of e)).host) is steps) was) k
       where
-        ticks : Steps (call.Tick ms ∷ []) (site_of w (side_of e)).host (site_of v (side_of e)).host → HostHabits (site_of w (side_of e)).host → HostHabits (site_of v (side_of e)).host
-        ticks (g, acts, then') was = subst HostHabits then' (tick-call ms (site_of w (side_of e)).host g acts was)
+        ticks : Steps (call.Tick ms ∷ []) (site_of w (side_of e)).host (site_of v (side_of e)).host → HostHabits time (site_of w (side_of e)).host → HostHabits (time + passes e) (site_of v (side_of e)).host
+        ticks (g, acts, then') was = subst (λ n. HostHabits (time + n) (site_of v (side_of e)).host) (sym same)
+            (subst (HostHabits (time + min ms 60000)) then' (tick-call time ms (site_of w (side_of e)).host g acts was))
 
-habits-runs : (es : List WorldEvent) (xs : List (Result Answer Refusal)) (w v : World) → Runs w es xs v → Habits w → Habits v
-habits-runs [] [] w v r k = subst Habits (sym r) k
-habits-runs [] (x ∷ xs) w v r k = absurd r
-habits-runs (e ∷ es) [] w v r k = absurd r
-habits-runs (e ∷ es) (x ∷ xs) w v r k = habits-runs es xs r.0 v r.2 (habits-step w r.0 e x r.1 k)
+pub habits-step : (w v : World) (e : WorldEvent) (answer : Result Answer Refusal) → world.Steps w e answer v → Habits w → Habits v
+habits-step w v e answer step k = (k.0 + passes e, world-step k.0 w v e answer step k.1)
+
+world-runs : (time : ℕ) (es : List WorldEvent) (xs : List (Result Answer Refusal)) (w v : World) → Runs w es xs v → WorldHabits time w → WorldHabits (time + all_pass es) v
+world-runs time [] [] w v r k = λ side. subst (λ (u : World). HostHabits (time + 0) (site_of u side).host) (sym r) (host-more time (time + 0) (site_of w side).host (omega arith) (k side))
+world-runs time [] (x ∷ xs) w v r k = absurd r
+world-runs time (e ∷ es) [] w v r k = absurd r
+world-runs time (e ∷ es) (x ∷ xs) w v r k = λ side.
+    let sum : time + passes e + all_pass es ≡ time + all_pass (e ∷ es) = omega arith in
+    subst (λ n. HostHabits n (site_of v side).host) sum (world-runs (time + passes e) es xs r.0 v r.2 (world-step time w r.0 e x r.1 k) side)
 
 -- ---- at the beginning of a world
-opened-habits : (c : Config) → c.clock < 2 ^ 32 → HostHabits (opening.opened c)
-opened-habits c low = record { low = low; peers = λ name p is. absurd (let z : ◌≡◌ {A = Option Peering} None (Some p) = sym (each-beginning.nobody c name) ∙ is in cc) }
+few-mtu : (c : Config) → is_in_range c ≡ true → 576 ≤ c.mtu
+few-mtu c h = grind (arith, nat_tests)
 
-joined-habits : (c : Config) (address : _) → c.clock < 2 ^ 32 → HostHabits (opening.joined c address)
-joined-habits c address low = record {
-  low = low;
-  peers = λ name p is. subst (Habit c.clock) (sym (each-beginning.one c address name p is).1)
-      ((((λ t k. absurd k), none-new (Rests c.clock) 0 _), record { round_trip = omega arith; variance = omega arith }, refl), refl, Idle refl refl);
+lesser : (a b : ℕ) → 576 ≤ a → 576 ≤ b → 576 ≤ min a b
+lesser a b h k = grind arith
+
+low-clock : (n : ℕ) → n < 2 ^ 32 → n ≡ n % 2 ^ 32
+low-clock n h = omega arith
+
+opened-habits : (c : Config) → is_in_range c ≡ true → c.clock < 2 ^ 32 → HostHabits 0 (opening.opened c)
+opened-habits c h low = record {
+  now = c.clock;
+  clock = low-clock c.clock low;
+  mtu = few-mtu c h;
+  peers = λ name p is. absurd (let z : ◌≡◌ {A = Option Peering} None (Some p) = sym (each-beginning.nobody c name) ∙ is in cc);
 }
 
-first-habits : (joined : Bool) (a b : Config) → a.clock < 2 ^ 32 → b.clock < 2 ^ 32 → Habits (first joined a b)
-first-habits true a b low_a low_b A = joined-habits (joined_config a b) (address_of B) low_a
-first-habits true a b low_a low_b B = joined-habits (joined_config b a) (address_of A) low_b
-first-habits false a b low_a low_b A = opened-habits a low_a
-first-habits false a b low_a low_b B = opened-habits b low_b
+joined-habits : (c : Config) (address : Addr) → 576 ≤ c.mtu → c.clock < 2 ^ 32 → HostHabits 0 (opening.joined c address)
+joined-habits c address wide low = record {
+  now = c.clock;
+  clock = low-clock c.clock low;
+  mtu = wide;
+  peers = λ name p is. subst (Habit c.clock 0) (sym (each-beginning.one c address name p is).1)
+      (new-habit c.clock 0 _ (λ R. (((λ t k. absurd k), none-new R 0 _), record { round_trip = omega arith; variance = omega arith }, refl)) wide (refl, refl, low) (Idle refl refl));
+}
+
+first-habits : (joined : Bool) (a b : Config) → (is_in_range a && is_in_range b) ≡ true → a.clock < 2 ^ 32 → b.clock < 2 ^ 32 → WorldHabits 0 (first joined a b)
+first-habits true a b h low_a low_b A = (let r = both (is_in_range a) (is_in_range b) h in joined-habits (joined_config a b) (address_of B) (lesser a.mtu b.mtu (few-mtu a r.0) (few-mtu b r.1)) low_a)
+first-habits true a b h low_a low_b B = (let r = both (is_in_range a) (is_in_range b) h in joined-habits (joined_config b a) (address_of A) (lesser b.mtu a.mtu (few-mtu b r.1) (few-mtu a r.0)) low_b)
+first-habits false a b h low_a low_b A = (let r = both (is_in_range a) (is_in_range b) h in opened-habits a r.0 low_a)
+first-habits false a b h low_a low_b B = (let r = both (is_in_range a) (is_in_range b) h in opened-habits b r.1 low_b)
+
+world-habits : (passed : ℕ) (joined : Bool) (w : World) (r : IsReachedIn passed joined w) → WorldHabits (all_pass r.reached.events) w
+world-habits passed joined w k =
+    let r = k.reached in
+    let from : 0 + all_pass r.events ≡ all_pass r.events = omega arith in
+    subst (λ n. WorldHabits n w) from (world-runs 0 r.events r.answers (first joined r.a r.b) w r.runs (first-habits joined r.a r.b r.in_range k.clock_a k.clock_b))
 
 pub habits : (passed : ℕ) (joined : Bool) (w : World) → IsReachedIn passed joined w → Habits w
-habits passed joined w r = habits-runs r.reached.events r.reached.answers (first joined r.reached.a r.reached.b) w r.reached.runs (first-habits joined r.reached.a r.reached.b r.clock_a r.clock_b)
+habits passed joined w r = (all_pass r.reached.events, world-habits passed joined w r)
+
+-- where the count of the time that has passed hasn't stopped
+pub habits-in : (passed : ℕ) (joined : Bool) (w : World) → IsReachedIn passed joined w → passed < 4294967295 → WorldHabits passed w
+habits-in passed joined w r low = subst (λ n. WorldHabits n w) (below (all_pass r.reached.events) passed r.counted low) (world-habits passed joined w r)
+  where
+    below : (t n : ℕ) → n ≡ min t 4294967295 → n < 4294967295 → t ≡ n
+    below t n e l = grind arith
+
+-- ---- a peer there
+pub rests-at : (time : ℕ) (h : Host) (name : PeerRef) (p : Peering) → HostHabits time h → named h.slots name ≡ Some p → Fair (Rests h.clock) most p
+rests-at time h name p k is = (let a = k.peers name p is in subst (λ n. Fair (Rests n) most p) (sym k.clock) a.rests)

@@ -59,7 +59,7 @@ use Rattle.law_progress.proofs.Spent.{nothing-may-go}
 use Rattle.enet_world.specs.Calm.{most, datagram_in, event_in, refusals_in, stops_in, Carries, CarriesMany, PutsNone, PutsAllOut, TakesOne, TakesMany, TakesNone, TakesAll}
 use Rattle.enet_world.specs.Private.Worlds.{IsReached}
 use Rattle.enet_world.proofs.Crossing.{all-come, puts-plain, names-slot}
-use Rattle.enet_world.proofs.Habits.{Habits, HostHabits, habits-step}
+use Rattle.enet_world.proofs.Habits.{Habit, Habits, HostHabits, habits-step}
 use Rattle.enet_world.proofs.Lasting.{IsIn, Holds, lasts-event, is_begun, begun-lasts}
 use Rattle.enet_world.proofs.Living.{named-fits, named-asks}
 use Rattle.enet_world.proofs.Modest.{modest-pings}
@@ -398,9 +398,13 @@ named-up joined w x side own far u = u.ends.shows.shows.is ∙ ap (λ (s : PeerS
     on : u.ends.shows.peer.state ≡ state.Connected
     on = ap (λ (p : Peering). p.state) (same-some u.ends.shows.peer u.p (sym u.ends.shows.has ∙ u.is_p)) ∙ u.on_p
 
+-- what that peer has kept
+pub habit-up : (joined : Bool) (w : World) (x : ℕ) (side : Side) (own far : End) (k : Habits w) (u : Up joined w x side own far) → (let h : HostHabits k.0 (site_of w side).host = k.1 side in Habit h.now k.0 u.p)
+habit-up joined w x side own far k u = (let h : HostHabits k.0 (site_of w side).host = k.1 side in h.peers u.ends.e.name u.p (named-up joined w x side own far u))
+
 -- at most a PING waits there on channel 0xFF
 pub lone-up : (joined : Bool) (w : World) (x : ℕ) (side : Side) (own far : End) → Habits w → (u : Up joined w x side own far) → IsLone is_ping u.p.outbox.control
-lone-up joined w x side own far k u = (let h : HostHabits (site_of w side).host = k side in let p = h.peers u.ends.e.name u.p (named-up joined w x side own far u) in modest-pings u.p u.on_p p.2)
+lone-up joined w x side own far k u = (let p = habit-up joined w x side own far k u in modest-pings u.p u.on_p p.modest)
 
 -- so one datagram goes and comes
 carries : (joined : Bool) (w v : World) (x : ℕ) (side : Side) (own far : End) (now there refused stopped : ℕ) → clock_at w side ≡ now → clock_at w (other side) ≡ there → IsReached joined w → Habits w → Up joined w x side own far → Carries side refused stopped w v

@@ -8,7 +8,7 @@ pub mod Lasting
 pub mod Offers
 pub mod Pings
 pub mod Modest
-pub mod Patience
+pub mod Unset
 pub mod Punctual
 pub mod Habits
 pub mod Living
@@ -28,7 +28,6 @@ pub mod Untouched
 pub mod UntouchedEnd
 pub mod AnyRound
 pub mod EndsAreTold
-pub mod PingInterval
 pub mod StillSent
 pub mod Unanswered
 pub mod EndedIsSilent

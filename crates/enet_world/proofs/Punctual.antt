@@ -22,15 +22,12 @@ use Rattle.enet_peer.specs.declared.parts.PeerState.TheVariants as state
 use Rattle.enet_peer.specs.Peering.{Peering}
 use Rattle.enet_peer.specs.Endings.{cut_off_in}
 use Rattle.enet_peer.specs.Calls.{pace_of, gone_on_in, ticked, pinged, is_pinged, after_timeouts_by, growth_bound}
+use Rattle.law_progress.proofs.Ageing.{most}
 use Rattle.law_progress.proofs.Waiting.{Fair, Sends, each-filled, fair-went, none-of, or-both, Has-mapped}
 
 -- at this moment a sent command is due to go again, or its timeout isn't over
 abbrev pub Rests : ℕ → Transmission → Type 0
 Rests now t = (t.due ≡ true) ⊎ ((t.last < 2 ^ 32) × (elapsed_time now t.last ≤ t.timeout))
-
--- the greatest patience is ENet's
-abbrev pub most : ℕ
-most = 30000
 
 no-time : (now : ℕ) → elapsed_time now now ≡ 0
 no-time now = omega arith

@@ -24,8 +24,8 @@ use Rattle.enet_world.specs.Stands.{IsYoung, AllYoung, BothStand}
 use Rattle.enet_world.proofs.AnyRound.{AreUp, round-on}
 use Rattle.enet_world.proofs.EndsAreTold.{IsHere, keeps, ticked, up-rises, same-named, nobody-so, Begins, begins as begins-in}
 use Rattle.enet_world.proofs.Untouched.{is_up}
-use Rattle.enet_world.proofs.Habits.{Habits, HostHabits}
-use Rattle.enet_world.proofs.InRounds.{clock_at, named-up, lone-up}
+use Rattle.enet_world.proofs.Habits.{Habits, rests-at}
+use Rattle.enet_world.proofs.InRounds.{clock_at, named-up, habit-up, lone-up}
 use Rattle.enet_world.proofs.Punctual.{Rests}
 use Rattle.enet_world.proofs.Steady.{IsPlain, Ready, one-lasts, two-lasts, ready-first, ReadyAgain, steady-round}
 use Rattle.enet_world.proofs.Through.{Smooth, smooth-so, smooth-parts, both-so, AtMoment, at-moment-on, Rounded, round-goes-on, round-clocks, habits-rounds, reached-rounds, IsConnected, connected-at, Begun, begun, shown-end-of, kept-round, reached-round}
@@ -36,7 +36,7 @@ use Rattle.enet_world.proofs.TwoEnds.{from_start, sound, host-at, Up, up-swapped
 plain-up : (joined : Bool) (w : World) (x : ℕ) (side : Side) (own far : End) → Habits w → (u : Up joined w x side own far) → IsPlain u.p
 plain-up joined w x side own far k u = record {
   on = u.on_p;
-  patience = (let h : HostHabits (site_of w side).host = k side in let p = h.peers u.ends.e.name u.p (named-up joined w x side own far u) in p.1);
+  patience = (let p = habit-up joined w x side own far k u in p.unset.0);
   lone = lone-up joined w x side own far k u;
 }
 
@@ -174,24 +174,17 @@ both-stand joined ms rounds old new r habits x before brief young all side = sti
           (λ t h. young-by ms (clock_at old B) first.up.q.heard t.transmission (young-b.controls t h)) (λ s h t k. young-by ms (clock_at old B) first.up.q.heard t.transmission (young-b.channels s h t k)) rests-a rests-b;
     }
       where
-        h_a : HostHabits old.a.host
-        h_a = habits A
-
-        h_b : HostHabits old.b.host
-        h_b = habits B
+        rests : (side : Side) (own far : End) (u : Up joined old x side own far) → Each (Rests (clock_at old side)) u.p.outbox.control.sent u.p.outbox.senders
+        rests side own far u = (let k = rests-at habits.0 (site_of old side).host u.ends.e.name u.p (habits.1 side) (named-up joined old x side own far u) in k.0)
 
         rests-a : Each (Rests (clock_at old A)) first.up.p.outbox.control.sent first.up.p.outbox.senders
-        rests-a = (let k = h_a.peers first.up.ends.e.name first.up.p (named-up joined old x A first.own first.far first.up) in k.0.0)
+        rests-a = rests A first.own first.far first.up
 
         here-b : Up joined old x B first.far first.own
         here-b = up-swapped joined old x A first.own first.far first.up
 
-        rests-at : (p : Peering) → first.far.peer ≡ Some p → Each (Rests (clock_at old B)) p.outbox.control.sent p.outbox.senders
-        rests-at p is = (let k = h_b.peers here-b.ends.e.name here-b.p (named-up joined old x B first.far first.own here-b) in
-            subst (λ (y : Peering). Each (Rests (clock_at old B)) y.outbox.control.sent y.outbox.senders) (same-peer first.far here-b.p p here-b.is_p is) k.0.0)
-
         rests-b : Each (Rests (clock_at old B)) first.up.q.outbox.control.sent first.up.q.outbox.senders
-        rests-b = rests-at first.up.q first.up.is_q
+        rests-b = subst (λ (y : Peering). Each (Rests (clock_at old B)) y.outbox.control.sent y.outbox.senders) (same-peer first.far here-b.p first.up.q here-b.is_p first.up.is_q) (rests B first.far first.own here-b)
 
     mid : StandsReady joined all.between x (min ms 60000)
     mid = rounds-stand joined ms all.earlier all.before old all.between x r habits (low ms brief) begins all.rounds_before (smooth-so all.before.a parts.0) (smooth-so all.before.b parts.1)

@@ -1,0 +1,172 @@
+-- A peer of which nothing is set has ENet's patience and pings when it wasn't heard for 500 ms, by a clock of 32 bits, whatever happens.
+use Rattle.std.proofs.Common.{◌≡◌, ◌<◌, ◌^◌, ℕ, ◌&&◌, Bool, true, false, cond, List, [], ◌∷◌, length, Option, Some, None, Result, Ok, Err, is_some, nat_lt}
+use Rattle.enet_codec.specs.declared.packet.Packet as codec
+use Rattle.enet_codec.specs.declared.command.Verify.{Verify}
+use Rattle.enet_codec.specs.declared.stop.Stop.{Stop}
+use Rattle.enet_codec.specs.declared.stop.Stop.TheVariants as stop
+use Rattle.enet_codec.specs.Message.{Message, Body, acknowledge, connect, verify_connect, disconnect, ping, send_reliable, send_unreliable, send_fragment, send_unsequenced, send_unreliable_fragment, bandwidth_limit, throttle_configure}
+use Rattle.enet_rtt.specs.Expiry.{standard_patience}
+use Rattle.enet_rtt.specs.declared.expiry.Expiry.{Expiry}
+use Rattle.enet_rtt.specs.declared.expiry.Expiry.TheVariants.{No, Resend, End}
+use Rattle.enet_connect.specs.declared.terms.Terms.{Terms}
+use Rattle.enet_connect.specs.Verification.{confirmed}
+use Rattle.enet_senders.specs.declared.control.Control.{Control}
+use Rattle.enet_senders.specs.declared.control.Control.TheVariants as control
+use Rattle.enet_inbox.specs.DataEffect.{DataEffect, arrival, passed_over}
+use Rattle.enet_outbox.specs.declared.parts.Matched.{Matched}
+use Rattle.enet_outbox.specs.declared.parts.Matched.TheVariants as matched
+use Rattle.enet_outbox.specs.Outbox.{matched_by, after_acknowledgement, lateness}
+use Rattle.enet_outbox.specs.Outbox as outbox
+use Rattle.enet_peer.specs.declared.parts.PeerState.{PeerState}
+use Rattle.enet_peer.specs.declared.parts.PeerState.TheVariants as state
+use Rattle.enet_peer.specs.Peering.{Peering}
+use Rattle.enet_peer.specs.Endings.{settled, disconnecting, is_later, freed, cut_off_in}
+use Rattle.enet_peer.proofs.Obeying.{unless-holds}
+use Rattle.enet_peer.specs.CommandEffect.{obeyed, unless_crowded_out, stopped, is_allowed, is_connect, by_body, by_answer, by_arrival, on_data, answered, answered_at, is_answered_in, is_connecting, on_acknowledge, on_match, sampled, with_answer, on_verify_in, welcomed, on_disconnect_in, on_last_disconnect, on_bandwidth, on_throttle}
+use Rattle.enet_peer.specs.Calls.{Leave, AtOnce, TellsOnce, Asks, AsksLater, Refused, left, gone_on_in, ticked, pinged, is_pinged, after_timeouts_by, growth_bound, next_event, event_after, packet_event, last_event}
+use Rattle.law_progress.specs.Attempts.{after_take}
+use Rattle.law_progress.specs.Waits.{after_leave}
+
+abbrev pub IsUnset : Peering → Type 0
+IsUnset p = (p.patience ≡ standard_patience) × (p.ping_interval ≡ 500) × (p.heard < 2 ^ 32)
+
+unset-settled : (p : Peering) → IsUnset p → IsUnset (settled p)
+unset-settled p h = by (is_later p.state && outbox.is_done p.outbox)
+  where
+    by : (b : Bool) → IsUnset (cond b (disconnecting p p.info) p)
+    by true = h
+    by false = h
+
+unset-answer : (p : Peering) (s : PeerState) (what : Control) → IsUnset p → IsUnset (with_answer s what p)
+unset-answer p state.Answering (control.VerifyConnect verify) h = h
+unset-answer p state.Disconnecting (control.Disconnect info) h = h
+unset-answer p s what h = h
+
+unset-acknowledge : (p : Peering) (now channel number time : ℕ) → now < 2 ^ 32 → IsUnset p → IsUnset (on_acknowledge p now channel number time)
+unset-acknowledge p now channel number time low h = by-state (is_connecting p.state)
+  where
+    q : Peering
+    q = sampled (record p { outbox = after_acknowledgement p.outbox channel number }) now time
+
+    by : (x : Matched) → IsUnset (on_match x p q)
+    by matched.Nothing = h
+    by matched.Data = unset-settled q (h.0, h.1, low)
+    by (matched.Control what) = unset-settled (with_answer p.state what q) (unset-answer q p.state what (h.0, h.1, low))
+
+    by-state : (b : Bool) → IsUnset (cond b p (on_match (matched_by p.outbox channel number) p q))
+    by-state true = h
+    by-state false = by (matched_by p.outbox channel number)
+
+unset-verify : (p : Peering) (v : Verify) (s : PeerState) → IsUnset p → IsUnset (on_verify_in s p v)
+unset-verify p v state.Connecting h = by (confirmed p.offer v)
+  where
+    by : (o : Option Terms) → IsUnset (welcomed p v o)
+    by None = h
+    by (Some terms) = h
+unset-verify p v s h = h
+
+unset-last : (p : Peering) (b : Bool) (info : ℕ) → IsUnset p → IsUnset (on_last_disconnect p b info)
+unset-last p true info h = h
+unset-last p false info h = h
+
+unset-disconnect : (p : Peering) (s : PeerState) (b : Bool) (info : ℕ) → IsUnset p → IsUnset (on_disconnect_in s p b info)
+unset-disconnect p state.Connected b info h = unset-last p b info h
+unset-disconnect p state.DisconnectLater b info h = unset-last p b info h
+unset-disconnect p state.Connecting b info h = h
+unset-disconnect p state.Disconnecting b info h = h
+unset-disconnect p state.Answering b info h = h
+unset-disconnect p s b info h = h
+
+unset-answered : (p : Peering) (m : Message) (sent : Option ℕ) (may : Bool) → IsUnset p → IsUnset (answered p m sent may).after
+unset-answered p m sent may h = by (m.head.acknowledge && may && is_answered_in p.state m.body) sent
+  where
+    by : (b : Bool) (o : Option ℕ) → IsUnset (cond b (answered_at p m.head o) (record { stop = None; after = p })).after
+    by false o = h
+    by true None = h
+    by true (Some time) = h
+
+unset-result : (p : Peering) (m : Message) (sent : Option ℕ) (r : Result Bool Stop) → IsUnset p → IsUnset (by_answer p m sent r).after
+unset-result p m sent (Err why) h = h
+unset-result p m sent (Ok may) h = unset-answered p m sent may h
+
+unset-data : (p : Peering) (m : Message) (sent : Option ℕ) → IsUnset p → IsUnset (on_data p m sent).after
+unset-data p m sent h = by (is_later p.state)
+  where
+    a : DataEffect
+    a = arrival p.inbox m
+
+    by : (b : Bool) → IsUnset (cond b (by_answer p m sent (passed_over p.inbox m)) (by_arrival p m sent a)).after
+    by true = unset-result p m sent (passed_over p.inbox m) h
+    by false = unset-result (record p { inbox = a.after }) m sent a.answer h
+
+pub unset-obeyed : (p : Peering) (now : ℕ) (sent : Option ℕ) (m : Message) → now < 2 ^ 32 → IsUnset p → IsUnset (obeyed p now sent m).after
+unset-obeyed p now sent m low h = by (is_connect m.body) (is_allowed p.state m.body)
+  where
+    body : (b : Body) → IsUnset (by_body p now sent m b).after
+    body (acknowledge number time) = unset-answered (on_acknowledge p now m.head.channel number time) m sent true (unset-acknowledge p now m.head.channel number time low h)
+    body (connect offer) = h
+    body (verify_connect v) = unset-answered (on_verify_in p.state p v) m sent true (unset-verify p v p.state h)
+    body (disconnect info) = unset-answered (on_disconnect_in p.state p (m.head.acknowledge && is_some sent) info) m sent true (unset-disconnect p p.state (m.head.acknowledge && is_some sent) info h)
+    body ping = unset-answered p m sent true h
+    body (bandwidth_limit incoming outgoing) = unset-answered (on_bandwidth p incoming) m sent true h
+    body (throttle_configure interval acceleration deceleration) = unset-answered (on_throttle p interval acceleration deceleration) m sent true h
+    body (send_reliable payload) = unset-data p m sent h
+    body (send_unreliable number payload) = unset-data p m sent h
+    body (send_fragment fragment payload) = unset-data p m sent h
+    body (send_unsequenced group payload) = unset-data p m sent h
+    body (send_unreliable_fragment fragment payload) = unset-data p m sent h
+
+    by : (a b : Bool) → IsUnset (cond a (stopped p stop.BadCommand) (cond b (unless_crowded_out p m (by_body p now sent m m.body)) (stopped p stop.NotConnected))).after
+    by true b = h
+    by false true = unless-holds IsUnset p m (by_body p now sent m m.body) h (body m.body)
+    by false false = h
+
+pub unset-takes : (p : Peering) → IsUnset p → IsUnset (after_take p (next_event p))
+unset-takes p h = by p.greeting
+  where
+    last : (s : PeerState) → IsUnset (after_take p (last_event s p))
+    last state.Ended = h
+    last s = h
+
+    packets : (untaken : List codec.Packet) → IsUnset (after_take p (packet_event p untaken))
+    packets [] = last p.state
+    packets (q ∷ rest) = h
+
+    by : (greeting : Option ℕ) → IsUnset (after_take p (event_after p greeting))
+    by (Some info) = h
+    by None = packets p.inbox.untaken
+
+pub unset-went : (p : Peering) (s : PeerState) → IsUnset p → IsUnset (gone_on_in s p)
+unset-went p state.AckDisconnect h = h
+unset-went p state.Parting h = by (nat_lt 0 (length p.outbox.control.queued))
+  where
+    by : (b : Bool) → IsUnset (cond b p (freed p))
+    by true = h
+    by false = h
+unset-went p s h = unset-settled p h
+
+pub unset-left : (p : Peering) (leave : Leave) (info : ℕ) → IsUnset p → IsUnset (after_leave p (left leave p info))
+unset-left p AtOnce info h = h
+unset-left p TellsOnce info h = h
+unset-left p Asks info h = h
+unset-left p AsksLater info h = unset-settled (record p { state = state.DisconnectLater; info = info }) h
+unset-left p Refused info h = h
+
+pub unset-ticked : (p : Peering) (n : ℕ) → IsUnset p → IsUnset (ticked p n)
+unset-ticked p n h = by (lateness p.outbox n p.patience p.heard)
+  where
+    cut : (s : PeerState) → IsUnset (cut_off_in s p)
+    cut state.Answering = h
+    cut s = h
+
+    pings : (q : Peering) → IsUnset q → IsUnset (pinged q n)
+    pings q g = go (is_pinged q n)
+      where
+        go : (b : Bool) → IsUnset (cond b (record q { outbox = outbox.with_control q.outbox control.Ping }) q)
+        go true = g
+        go false = g
+
+    by : (e : Expiry) → IsUnset (pinged (after_timeouts_by e p n) n)
+    by End = pings (cut_off_in p.state p) (cut p.state)
+    by Resend = pings (record p { outbox = outbox.marked p.outbox (growth_bound p) n }) h
+    by No = pings p h
