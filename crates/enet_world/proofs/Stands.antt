@@ -29,7 +29,6 @@ use Rattle.enet_world.proofs.InRounds.{clock_at, named-up, habit-up, lone-up}
 use Rattle.enet_world.proofs.Punctual.{Rests}
 use Rattle.enet_world.proofs.Steady.{IsPlain, Ready, one-lasts, two-lasts, ready-first, ReadyAgain, steady-round}
 use Rattle.enet_world.proofs.Through.{Smooth, smooth-so, smooth-parts, both-so, AtMoment, at-moment-on, Rounded, round-goes-on, round-clocks, habits-rounds, reached-rounds, IsConnected, connected-at, Begun, begun, shown-end-of, kept-round, reached-round}
-use Rattle.enet_world.proofs.Youth.{IsYoungBy}
 use Rattle.enet_world.proofs.TwoEnds.{from_start, sound, host-at, Up, up-swapped}
 
 -- ---- rounds
@@ -118,7 +117,7 @@ still-connected joined old new x side a (r, inr over) on = absurd (let z : ◌�
 low : (ms : ℕ) → ms < 30000 → min ms 60000 < 30000
 low ms h = grind arith
 
-young-by : (ms clock heard : ℕ) (t : Transmission) → IsYoung ms clock heard t → IsYoungBy (min ms 60000) clock heard t
+young-by : (ms clock heard : ℕ) (t : Transmission) → IsYoung ms clock heard t → IsYoung (min ms 60000) clock heard t
 young-by ms clock heard t y = (elim y.0 [ inl few ↦ inl few | inr near ↦ inr (sooner (since_later clock t.first heard) (min ms 60000) (least ms) near) ], fewer (elapsed_time clock t.first + t.timeout) (min ms 60000) (least ms) y.1)
   where
     least : (n : ℕ) → min n 60000 ≤ n
@@ -129,6 +128,12 @@ young-by ms clock heard t y = (elim y.0 [ inl few ↦ inl few | inr near ↦ inr
 
     fewer : (a d : ℕ) → d ≤ ms → a + 2 * ms < 30000 → a + 2 * d < 30000
     fewer a d h k = omega arith
+
+young-all : (ms clock : ℕ) (p : Peering) → AllYoung ms clock p → AllYoung (min ms 60000) clock p
+young-all ms clock p y = record {
+  controls = λ t h. young-by ms clock p.heard t.transmission (y.controls t h);
+  channels = λ s h t k. young-by ms clock p.heard t.transmission (y.channels s h t k);
+}
 
 pub both-stand : (joined : Bool) (ms rounds : ℕ) (old new : World) → IsReached joined old → Habits old → BothStand ms rounds old new
 both-stand joined ms rounds old new r habits x before brief young all side = still side
@@ -158,20 +163,13 @@ both-stand joined ms rounds old new r habits x before brief young all side = sti
         at-b : peer_at old.b x ≡ Some there.stands.peer
         at-b = ap (λ (o : Option HostEnd). option_and_then (λ (e : HostEnd). named old.b.host.slots e.name) o) there.stands.there ∙ there.stands.is
 
-    young-a : AllYoung ms (clock_at old A) first.up.p
-    young-a = young A first.up.p standing-a
-
-    young-b : AllYoung ms (clock_at old B) first.up.q
-    young-b = young B first.up.q standing-b
-
     begins : StandsReady joined old x (min ms 60000)
     begins = record {
       one = first.own;
       two = first.far;
       up = first.up;
       ready = ready-first (min ms 60000) (clock_at old A) (clock_at old B) first.up.p first.up.q
-          (λ t h. young-by ms (clock_at old A) first.up.p.heard t.transmission (young-a.controls t h)) (λ s h t k. young-by ms (clock_at old A) first.up.p.heard t.transmission (young-a.channels s h t k))
-          (λ t h. young-by ms (clock_at old B) first.up.q.heard t.transmission (young-b.controls t h)) (λ s h t k. young-by ms (clock_at old B) first.up.q.heard t.transmission (young-b.channels s h t k)) rests-a rests-b;
+          (young-all ms (clock_at old A) first.up.p (young A first.up.p standing-a)) (young-all ms (clock_at old B) first.up.q (young B first.up.q standing-b)) rests-a rests-b;
     }
       where
         rests : (side : Side) (own far : End) (u : Up joined old x side own far) → Each (Rests (clock_at old side)) u.p.outbox.control.sent u.p.outbox.senders

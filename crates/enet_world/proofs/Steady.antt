@@ -23,13 +23,14 @@ use Rattle.law_progress.proofs.BothRounds.{AnswersAt, OnItsWay, Sending, Exchang
 use Rattle.law_progress.proofs.Exchanges.{Joint, joint-swap, joint-event, same-peer, Came, took-all}
 use Rattle.law_progress.proofs.Found.{sender-rests, controls-rest}
 use Rattle.law_progress.proofs.Waiting.{Each, Sends}
+use Rattle.enet_world.specs.Stands.{AllYoung}
 use Rattle.enet_world.proofs.Modest.{Controlled, modest-ticked, modest-pings}
 use Rattle.enet_world.proofs.Moments.{outlasts, Waited, waited, waited-limited, has-place}
 use Rattle.enet_world.proofs.Pinged.{Stood, stood-takes}
 use Rattle.enet_world.proofs.Pings.{IsLone, is_ping}
 use Rattle.enet_world.proofs.Punctual.{Rests}
 use Rattle.enet_world.proofs.Trips.{puts-stood, puts-each, Pinging, pinging-many, answers-pinged}
-use Rattle.enet_world.proofs.Youth.{moment, IsOld, IsOlder, HasARound, IsYoungBy, old-lasts, round-lasts, old-marked, older-stays, old-since, older-since, round-since, begun-has, again-has, young-old}
+use Rattle.enet_world.proofs.Youth.{moment, IsOld, IsOlder, HasARound, old-lasts, round-lasts, old-marked, older-stays, old-since, older-since, round-since, begun-has, again-has, young-old}
 
 -- ---- before a round
 -- a connected peer of which nothing was set
@@ -57,14 +58,12 @@ two-lasts d a b p q low plain r = outlasts q (moment b d) plain.patience (λ t h
     by t (inr k) = round-lasts d b q.heard t low k.0
 
 -- where all that waits is young
-pub ready-first : (d a b : ℕ) (p q : Peering) → ((t : SentControl) → Has p.outbox.control.sent t → IsYoungBy d a p.heard t.transmission) → ((s : SendingEnd) → Has p.outbox.senders s → (t : Sent) → Has s.sender.sent t → IsYoungBy d a p.heard t.transmission)
-    → ((t : SentControl) → Has q.outbox.control.sent t → IsYoungBy d b q.heard t.transmission) → ((s : SendingEnd) → Has q.outbox.senders s → (t : Sent) → Has s.sender.sent t → IsYoungBy d b q.heard t.transmission)
-    → Each (Rests a) p.outbox.control.sent p.outbox.senders → Each (Rests b) q.outbox.control.sent q.outbox.senders → Ready d a b p q
-ready-first d a b p q controls_p channels_p controls_q channels_q rests_p rests_q = record {
-  one_channels = λ channel t h. (let s = at p.outbox.senders channel h.0 h.1 in young-old d a p.heard t.transmission (channels_p h.0 s t h.2) (rests_p.1 h.0 s t h.2));
-  one_controls = λ t h. young-old d a p.heard t.transmission (controls_p t h) (rests_p.0 t h);
-  two_channels = λ channel t h. (let s = at q.outbox.senders channel h.0 h.1 in inl (young-old d b q.heard t.transmission (channels_q h.0 s t h.2) (rests_q.1 h.0 s t h.2)));
-  two_controls = λ t h. inl (young-old d b q.heard t.transmission (controls_q t h) (rests_q.0 t h));
+pub ready-first : (d a b : ℕ) (p q : Peering) → AllYoung d a p → AllYoung d b q → Each (Rests a) p.outbox.control.sent p.outbox.senders → Each (Rests b) q.outbox.control.sent q.outbox.senders → Ready d a b p q
+ready-first d a b p q young_p young_q rests_p rests_q = record {
+  one_channels = λ channel t h. (let s = at p.outbox.senders channel h.0 h.1 in young-old d a p.heard t.transmission (young_p.channels h.0 s t h.2) (rests_p.1 h.0 s t h.2));
+  one_controls = λ t h. young-old d a p.heard t.transmission (young_p.controls t h) (rests_p.0 t h);
+  two_channels = λ channel t h. (let s = at q.outbox.senders channel h.0 h.1 in inl (young-old d b q.heard t.transmission (young_q.channels h.0 s t h.2) (rests_q.1 h.0 s t h.2)));
+  two_controls = λ t h. inl (young-old d b q.heard t.transmission (young_q.controls t h) (rests_q.0 t h));
 }
   where
     at : (xs : List SendingEnd) (i : ℕ) (x : SendingEnd) → slice_get xs i ≡ Some x → Has xs x

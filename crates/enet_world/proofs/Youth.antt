@@ -6,6 +6,7 @@ use Rattle.enet_rtt.specs.Clock.{elapsed_time, since_later}
 use Rattle.enet_rtt.specs.Transmission as transmission
 use Rattle.enet_rtt.specs.Expiry.{gives_up, standard_patience}
 use Rattle.enet_rtt.specs.declared.transmission.Transmission.{Transmission}
+use Rattle.enet_world.specs.Stands.{IsYoung}
 use Rattle.enet_world.proofs.Punctual.{Rests}
 
 -- ---- a clock
@@ -286,10 +287,7 @@ again-has d n heard t below o = (tries o.0, by (elapsed_time n t.first) 30000 o.
     by age most (inr k) = (let z = k.near in let y = k.waits in omega arith)
 
 -- ---- what is young
-abbrev pub IsYoungBy : (d n heard : ℕ) → Transmission → Type 0
-IsYoungBy d n heard t = ((t.attempts ≤ 4) ⊎ (since_later n t.first heard + d < 5000)) × (elapsed_time n t.first + t.timeout + 2 * d < 30000)
-
-pub young-old : (d n heard : ℕ) (t : Transmission) → IsYoungBy d n heard t → Rests n t → IsOld d n heard t
+pub young-old : (d n heard : ℕ) (t : Transmission) → IsYoung d n heard t → Rests n t → IsOld d n heard t
 unfolding IsOld
 young-old d n heard t y r = (near y.0 r, by (elapsed_time n t.first) 30000 y.1 r)
   where
