@@ -53,7 +53,7 @@ in-keeps : (passed : ℕ) (joined : Bool) → Keeps (IsReachedIn passed joined)
 in-keeps passed joined = record {
   turns_keep = λ u v side told step h. reached-on passed passed joined u v (happen.Turn side) told h step refl;
   delivers_keep = λ u v side k told step h. reached-on passed passed joined u v (happen.Deliver side k) told h step refl;
-  takes_keep = λ u v side told step h. reached-on passed passed joined u v (happen.Take side) told h step refl;
+  takes_keep = λ side u v told step h. reached-on passed passed joined u v (happen.Take side) told h step refl;
 }
 
 in-round : (passed : ℕ) (joined : Bool) (ms : ℕ) (told : Calm) (w v : World) → Round ms told w v → IsReachedIn passed joined w → IsReachedIn (passed_by_rounds 1 ms passed) joined v
@@ -77,7 +77,7 @@ past-keeps : (joined : Bool) (x : ℕ) (side : Side) → Keeps (IsPastIn joined 
 past-keeps joined x side = record {
   turns_keep = λ u v at told step h. (reached-step joined u v (happen.Turn at) told h.0 step, past-step joined u v x side (happen.Turn at) told step h.0 h.1);
   delivers_keep = λ u v at k told step h. (reached-step joined u v (happen.Deliver at k) told h.0 step, past-step joined u v x side (happen.Deliver at k) told step h.0 h.1);
-  takes_keep = λ u v at told step h. (reached-step joined u v (happen.Take at) told h.0 step, past-step joined u v x side (happen.Take at) told step h.0 h.1);
+  takes_keep = λ at u v told step h. (reached-step joined u v (happen.Take at) told h.0 step, past-step joined u v x side (happen.Take at) told step h.0 h.1);
 }
 
 past-ticked : (joined : Bool) (x ms : ℕ) (side : Side) (told : Calm) (w v : World) (d : Round ms told w v) → IsReached joined d.ticked → Past d.ticked x side → Past v x side

@@ -42,11 +42,11 @@ use Rattle.enet_world.specs.declared.calm.Calm.{Calm}
 use Rattle.enet_world.specs.Calm.{most, datagram_in, Carries, CarriesMany, PutsNone, PutsAllOut, TakesNone, TakesAll, Round}
 use Rattle.enet_world.specs.Private.Worlds.{IsReached}
 use Rattle.enet_world.proofs.Habits.{Habits}
-use Rattle.enet_world.proofs.InRounds.{clock_at, IsOwn, PutsOut, puts-out, found-in, lone-up, rested, Taking, take-goes, takes-many, kept-many, kept-out, kept-takes, kept-taken, reached-keeps, habits-keeps}
+use Rattle.enet_world.proofs.InRounds.{clock_at, IsOwn, PutsOut, puts-out, found-in, lone-up, rested, Taking, take-goes, takes-many, kept-many, kept-takes, reached-take, reached-keeps, habits-keeps}
 use Rattle.enet_world.proofs.Pings.{IsLone, is_ping}
 use Rattle.enet_world.proofs.Reaching.{reached-step}
 use Rattle.enet_world.proofs.Staying.{hears-on, puts-none-ends}
-use Rattle.enet_world.proofs.Through.{AtMoment, reached-ticked, habits-ticked}
+use Rattle.enet_world.proofs.Through.{AtMoment, Along, along, reached-ticked, habits-ticked}
 use Rattle.enet_world.proofs.TwoEnds.{from_start, sound, host-at, twice, Ends, swapped, far-end, faces, Up, up-swapped, up-back, IsOn}
 
 -- ---- commands come, until one stops them
@@ -242,7 +242,7 @@ taken-on joined w v x side taken cut r a t = by t.2
     g = takes-many joined w t.0 x side a.0 a.1 taken r a.2 t.1
 
     by : TakesNone side cut t.0 v ⊎ ((taken ≡ most) × (cut ≡ 1) × (v ≡ t.0)) → AreUp joined v x side
-    by (inl none) = (let f = take-goes joined t.0 v x side g.1 a.1 none.0 (kept-takes (IsReached joined) (reached-keeps joined) side taken w t.0 t.1 r) none.1 g.2 in (f.1, a.1, f.2))
+    by (inl none) = (let f = take-goes joined t.0 v x side g.1 a.1 none.0 (kept-takes (IsReached joined) side (reached-take joined side) taken w t.0 t.1 r) none.1 g.2 in (f.1, a.1, f.2))
     by (inr full) = subst (λ (y : World). AreUp joined y x side) (sym full.2) (g.1, a.1, g.2)
 
 -- ---- a round
@@ -251,24 +251,12 @@ turned joined v x side a = (a.1, a.0, up-swapped joined v x side a.0 a.1 a.2)
 
 pub round-on : (joined : Bool) (ms : ℕ) (told : Calm) (w v : World) (x now there : ℕ) (own far : End) → IsReached joined w → Habits w → (d : Round ms told w v) → AtMoment joined d.ticked x now there own far → AreUp joined v x A
 round-on joined ms told w v x now there own far r habits d m =
-    turned joined v x B (taken-on joined d.taken_a v x B told.b.taken d.cut_b r_ta (turned joined d.taken_a x A (taken-on joined d.sent d.taken_a x A told.a.taken d.cut_a r_s
-    (turned joined d.sent x B (out-on joined d.sent_a d.sent x B told.b.sent told.b.refused told.b.stopped d.cut_back r_sa h_sa
-    (turned joined d.sent_a x A (out-on joined d.ticked d.sent_a x A told.a.sent told.a.refused told.a.stopped d.cut_forth r_t h_t (m.one, m.two, m.up) d.forth)) d.back)) d.takes_a)) d.takes_b)
+    turned joined v x B (taken-on joined d.taken_a v x B told.b.taken d.cut_b reached.taken_a (turned joined d.taken_a x A (taken-on joined d.sent d.taken_a x A told.a.taken d.cut_a reached.sent
+    (turned joined d.sent x B (out-on joined d.sent_a d.sent x B told.b.sent told.b.refused told.b.stopped d.cut_back reached.sent_a kept.sent_a
+    (turned joined d.sent_a x A (out-on joined d.ticked d.sent_a x A told.a.sent told.a.refused told.a.stopped d.cut_forth reached.ticked kept.ticked (m.one, m.two, m.up) d.forth)) d.back)) d.takes_a)) d.takes_b)
   where
-    r_t : IsReached joined d.ticked
-    r_t = reached-ticked joined ms told w v d r
+    reached : Along (IsReached joined) ms told w v d
+    reached = along (IsReached joined) (reached-keeps joined) ms told w v d (reached-ticked joined ms told w v d r)
 
-    r_sa : IsReached joined d.sent_a
-    r_sa = kept-out (IsReached joined) (reached-keeps joined) A told.a.sent told.a.refused told.a.stopped d.cut_forth d.ticked d.sent_a d.forth r_t
-
-    r_s : IsReached joined d.sent
-    r_s = kept-out (IsReached joined) (reached-keeps joined) B told.b.sent told.b.refused told.b.stopped d.cut_back d.sent_a d.sent d.back r_sa
-
-    r_ta : IsReached joined d.taken_a
-    r_ta = kept-taken (IsReached joined) (reached-keeps joined) A told.a.taken d.cut_a d.sent d.taken_a d.takes_a r_s
-
-    h_t : Habits d.ticked
-    h_t = habits-ticked ms told w v d habits
-
-    h_sa : Habits d.sent_a
-    h_sa = kept-out Habits habits-keeps A told.a.sent told.a.refused told.a.stopped d.cut_forth d.ticked d.sent_a d.forth h_t
+    kept : Along Habits ms told w v d
+    kept = along Habits habits-keeps ms told w v d (habits-ticked ms told w v d habits)

@@ -1,6 +1,5 @@
 -- Of each peer that is connected before rounds without losses: it is so after them, or its user was told.
 use Rattle.std.proofs.Common.{◌≡◌, ◌≢◌, ◌<◌, ◌≤◌, ◌⊎◌, ◌&&◌, inl, inr, ℕ, zero, suc, ◌+◌, Bool, true, false, List, [], ◌∷◌, ◌++◌, append-nil, refl, sym, ap, subst, ◌∙◌, arith, Option, Some, None, Result, Ok, Err}
-use Rattle.std.proofs.lemmas.Bool.Decides.{nat_tests}
 use Rattle.std.specs.List.{slice_get}
 use Rattle.std.specs.Option.{option_and_then, option_map}
 use Rattle.enet_codec.specs.declared.event.Event.{Event}
@@ -27,12 +26,12 @@ use Rattle.law_network.proofs.Submitting.{same-some}
 use Rattle.enet_site.specs.Standing.{state_at}
 use Rattle.enet_world.specs.declared.calm.Calm.{Calm}
 use Rattle.enet_world.specs.declared.calm.Share.{Share}
-use Rattle.enet_world.specs.Calm.{most, datagram_in, event_in, refusals_in, PutsNone, PutsAllOut, TakesOne as TakesAnother, TakesMany, TakesNone, TakesAll, Round, Rounds, both, is_smooth}
+use Rattle.enet_world.specs.Calm.{most, datagram_in, event_in, refusals_in, PutsNone, PutsAllOut, TakesNone, TakesAll, Round, Rounds, both, is_smooth}
 use Rattle.enet_world.specs.Ended.{share_of, IsUncut, name_at, IsTold, IsToldOrWillBe, StandsOrEnds, is_ending, TellsEnds, AllTaken, ComesOrEnds}
 use Rattle.enet_world.specs.Progress.{AreConnected, AreEnough}
 use Rattle.enet_world.specs.Private.Worlds.{IsReached}
 use Rattle.enet_world.proofs.Habits.{Habits}
-use Rattle.enet_world.proofs.InRounds.{Keeps, kept-many, kept-out}
+use Rattle.enet_world.proofs.InRounds.{Keeps, kept-many, kept-out, kept-takes, kept-taken}
 use Rattle.enet_world.proofs.Reaching.{reached-step}
 use Rattle.enet_world.proofs.Through.{no-sum, gets-through}
 use Rattle.enet_world.proofs.TwoEnds.{from_start, sound, host-at}
@@ -109,30 +108,16 @@ takes joined f only was x at side w v (Ok (answers.Received received)) r step k 
 takes joined f only was x at side w v (Ok (answers.Peer name)) r step k = absurd step.1
 takes joined f only was x at side w v (Ok answers.Done) r step k = absurd step.1
 
+takes-here : (joined : Bool) (f : PeerState → Bool) → ((s : PeerState) → f s ≡ true → is_up s ≡ true) → (was : HostEnd) (x : ℕ) (side at : Side) (w v : World) (answer : Result Answer Refusal) → Steps w (happen.Take at) answer v
+    → IsHere joined f was x side w → IsHere joined f was x side v
+takes-here joined f only was x side at w v answer step k = (reached-step joined w v (happen.Take at) answer k.0 step, takes joined f only was x at side w v answer k.0 step k.1)
+
 pub keeps : (joined : Bool) (f : PeerState → Bool) → Rises f → (was : HostEnd) (x : ℕ) (side : Side) → Keeps (IsHere joined f was x side)
 keeps joined f rises was x side = record {
   turns_keep = λ w v at answer step k. (reached-step joined w v (happen.Turn at) answer k.0 step, turns joined f rises was x at side w v answer k.0 step k.1);
   delivers_keep = λ w v at n answer step k. (reached-step joined w v (happen.Deliver at n) answer k.0 step, delivers joined f rises was x n at side w v answer k.0 step k.1);
-  takes_keep = λ w v at answer step k. (reached-step joined w v (happen.Take at) answer k.0 step, takes joined f rises.only was x at side w v answer k.0 step k.1);
+  takes_keep = takes-here joined f rises.only was x side;
 }
-
--- what takes alone keep
-takes-many : (joined : Bool) (f : PeerState → Bool) → ((s : PeerState) → f s ≡ true → is_up s ≡ true) → (was : HostEnd) (x : ℕ) (at side : Side) (n : ℕ) (w v : World) → TakesMany at n w v → IsHere joined f was x side w → IsHere joined f was x side v
-takes-many joined f only was x at side zero w v t k = subst (IsHere joined f was x side) (sym t) k
-takes-many joined f only was x at side (suc n) w v t k =
-    let one : TakesAnother at t.0 v = t.2 in
-    let so_far : IsHere joined f was x side t.0 = takes-many joined f only was x at side n w t.0 t.1 k in
-    (reached-step joined t.0 v (happen.Take at) one.told so_far.0 one.takes, takes joined f only was x at side t.0 v one.told so_far.0 one.takes so_far.1)
-
-takes-all : (joined : Bool) (f : PeerState → Bool) → ((s : PeerState) → f s ≡ true → is_up s ≡ true) → (was : HostEnd) (x : ℕ) (at side : Side) (taken cut : ℕ) (w v : World) → TakesAll at taken cut w v → IsHere joined f was x side w → IsHere joined f was x side v
-takes-all joined f only was x at side taken cut w v t k = by t.2
-  where
-    so_far : IsHere joined f was x side t.0
-    so_far = takes-many joined f only was x at side taken w t.0 t.1 k
-
-    by : TakesNone at cut t.0 v ⊎ ((taken ≡ most) × (cut ≡ 1) × (v ≡ t.0)) → IsHere joined f was x side v
-    by (inl none) = (reached-step joined t.0 v (happen.Take at) none.0 so_far.0 none.1, takes joined f only was x at side t.0 v none.0 so_far.0 none.1 so_far.1)
-    by (inr most) = subst (IsHere joined f was x side) (sym most.2) so_far
 
 -- ---- its own side, where that isn't cut short
 rests-none : (joined : Bool) (f g : PeerState → Bool) → ((s : PeerState) → f s ≡ true → is_up s ≡ true) → ((s : PeerState) → f s ≡ true → g (gone_by s) ≡ true) → ((s : PeerState) → g s ≡ true → is_up s ≡ true) → (was : HostEnd) (x : ℕ) (side : Side)
@@ -178,7 +163,7 @@ takes-out : (joined : Bool) (f g : PeerState → Bool) → ((s : PeerState) → 
 takes-out joined f g only unended was x side taken cut w v t uncut k = by t.2
   where
     so_far : IsHere joined f was x side t.0
-    so_far = takes-many joined f only was x side side taken w t.0 t.1 k
+    so_far = kept-takes (IsHere joined f was x side) side (takes-here joined f only was x side side) taken w t.0 t.1 k
 
     by : TakesNone side cut t.0 v ⊎ ((taken ≡ most) × (cut ≡ 1) × (v ≡ t.0)) → IsHere joined g was x side v
     by (inl none) = (reached-step joined t.0 v (happen.Take side) none.0 so_far.0 none.1, takes-last joined f g unended was x side t.0 v none.0 so_far.0 none.1 none.2 (sym none.3 ∙ uncut) so_far.1)
@@ -205,7 +190,7 @@ ticked joined f rises was x side ms told w v d k =
 
 -- at A, to which B's datagrams come once it has put out all
 pub round-a : (joined : Bool) (f g h : PeerState → Bool) → Passes f g h → Rises g → (was : HostEnd) (x ms : ℕ) (told : Calm) (w v : World) → Round ms told w v → told.a.cut_short ≡ 0 → IsHere joined f was x A w → IsHere joined h was x A v
-round-a joined f g h p rises was x ms told w v d uncut k = takes-all joined h p.only_h was x B A told.b.taken d.cut_b d.taken_a v d.takes_b
+round-a joined f g h p rises was x ms told w v d uncut k = kept-taken (IsHere joined h was x A) B (takes-here joined h p.only_h was x A B) told.b.taken d.cut_b d.taken_a v d.takes_b
     (takes-out joined g h p.only p.unended was x A told.a.taken d.cut_a d.sent d.taken_a d.takes_a cuts.1
     (kept-out (IsHere joined g was x A) (keeps joined g rises was x A) B told.b.sent told.b.refused told.b.stopped d.cut_back d.sent_a d.sent d.back
     (puts-out joined f g p.rises p.goes p.only was x A told.a.sent told.a.refused told.a.stopped d.cut_forth d.ticked d.sent_a d.forth cuts.0 (ticked joined f p.rises was x A ms told w v d k))))
@@ -216,7 +201,7 @@ round-a joined f g h p rises was x ms told w v d uncut k = takes-all joined h p.
 -- at B, to which A's came before
 pub round-b : (joined : Bool) (f g h : PeerState → Bool) → Passes f g h → (was : HostEnd) (x ms : ℕ) (told : Calm) (w v : World) → Round ms told w v → told.b.cut_short ≡ 0 → IsHere joined f was x B w → IsHere joined h was x B v
 round-b joined f g h p was x ms told w v d uncut k = takes-out joined g h p.only p.unended was x B told.b.taken d.cut_b d.taken_a v d.takes_b cuts.1
-    (takes-all joined g p.only was x A B told.a.taken d.cut_a d.sent d.taken_a d.takes_a
+    (kept-taken (IsHere joined g was x B) A (takes-here joined g p.only was x B A) told.a.taken d.cut_a d.sent d.taken_a d.takes_a
     (puts-out joined f g p.rises p.goes p.only was x B told.b.sent told.b.refused told.b.stopped d.cut_back d.sent_a d.sent d.back cuts.0
     (kept-out (IsHere joined f was x B) (keeps joined f p.rises was x B) A told.a.sent told.a.refused told.a.stopped d.cut_forth d.ticked d.sent_a d.forth (ticked joined f p.rises was x B ms told w v d k))))
   where

@@ -427,13 +427,18 @@ carries joined w v x side own far now there refused stopped here is_there r habi
 pub record Keeps (P : World → Type 0) : Type 0 where
   pub turns_keep : (w v : World) (side : Side) (told : Result Answer Refusal) → Steps w (happen.Turn side) told v → P w → P v
   pub delivers_keep : (w v : World) (side : Side) (k : ℕ) (told : Result Answer Refusal) → Steps w (happen.Deliver side k) told v → P w → P v
-  pub takes_keep : (w v : World) (side : Side) (told : Result Answer Refusal) → Steps w (happen.Take side) told v → P w → P v
+  pub takes_keep : (side : Side) (w v : World) (told : Result Answer Refusal) → Steps w (happen.Take side) told v → P w → P v
+
+-- what each datagram of a side keeps, all of them keep
+pub kept-carried : (P : World → Type 0) (side : Side) → ((refused stopped : ℕ) (w v : World) → Carries side refused stopped w v → P w → P v) → (n refused stopped : ℕ) (w v : World) → CarriesMany side n refused stopped w v → P w → P v
+kept-carried P side one zero refused stopped w v c h = subst P (sym c.2) h
+kept-carried P side one (suc n) refused stopped w v c h = one c.2 c.3 c.4 v c.6 (kept-carried P side one n c.0 c.1 w c.4 c.5 h)
 
 pub kept-many : (P : World → Type 0) → Keeps P → (side : Side) (n refused stopped : ℕ) (w v : World) → CarriesMany side n refused stopped w v → P w → P v
-kept-many P k side zero refused stopped w v c h = subst P (sym c.2) h
-kept-many P k side (suc n) refused stopped w v c h =
-    let one : Carries side c.2 c.3 c.4 v = c.6 in
-    k.delivers_keep one.between v (other side) one.k one.answer one.comes (k.turns_keep c.4 one.between side one.told one.goes (kept-many P k side n c.0 c.1 w c.4 c.5 h))
+kept-many P k side n refused stopped w v c h = kept-carried P side one n refused stopped w v c h
+  where
+    one : (refused stopped : ℕ) (w v : World) → Carries side refused stopped w v → P w → P v
+    one refused stopped w v o g = k.delivers_keep o.between v (other side) o.k o.answer o.comes (k.turns_keep w o.between side o.told o.goes g)
 
 pub kept-out : (P : World → Type 0) → Keeps P → (side : Side) (sent refused stopped cut : ℕ) (w v : World) → PutsAllOut side sent refused stopped cut w v → P w → P v
 kept-out P k side sent refused stopped cut w v c h = elim c.2 [
@@ -441,35 +446,39 @@ kept-out P k side sent refused stopped cut w v c h = elim c.2 [
   | inr most ↦ subst P (sym most.2) (kept-many P k side sent refused stopped w c.0 c.1 h)
 ]
 
-pub kept-takes : (P : World → Type 0) → Keeps P → (side : Side) (n : ℕ) (w v : World) → TakesMany side n w v → P w → P v
-kept-takes P k side zero w v t h = subst P (sym t) h
-kept-takes P k side (suc n) w v t h = (let one : TakesOne side t.0 v = t.2 in k.takes_keep t.0 v side one.told one.takes (kept-takes P k side n w t.0 t.1 h))
+-- what each take of a side keeps, all of them keep
+pub kept-takes : (P : World → Type 0) (side : Side) → ((w v : World) (told : Result Answer Refusal) → Steps w (happen.Take side) told v → P w → P v) → (n : ℕ) (w v : World) → TakesMany side n w v → P w → P v
+kept-takes P side one zero w v t h = subst P (sym t) h
+kept-takes P side one (suc n) w v t h = (let o : TakesOne side t.0 v = t.2 in one t.0 v o.told o.takes (kept-takes P side one n w t.0 t.1 h))
 
-pub kept-taken : (P : World → Type 0) → Keeps P → (side : Side) (taken cut : ℕ) (w v : World) → TakesAll side taken cut w v → P w → P v
-kept-taken P k side taken cut w v t h = elim t.2 [
-  | inl none ↦ k.takes_keep t.0 v side none.0 none.1 (kept-takes P k side taken w t.0 t.1 h)
-  | inr most ↦ subst P (sym most.2) (kept-takes P k side taken w t.0 t.1 h)
+pub kept-taken : (P : World → Type 0) (side : Side) → ((w v : World) (told : Result Answer Refusal) → Steps w (happen.Take side) told v → P w → P v) → (taken cut : ℕ) (w v : World) → TakesAll side taken cut w v → P w → P v
+kept-taken P side one taken cut w v t h = elim t.2 [
+  | inl none ↦ one t.0 v none.0 none.1 (kept-takes P side one taken w t.0 t.1 h)
+  | inr most ↦ subst P (sym most.2) (kept-takes P side one taken w t.0 t.1 h)
 ]
 
 pub still-keeps : (w : World) → Keeps (StandStill w)
 still-keeps w = record {
   turns_keep = λ u v side told step h at. turn-still u v side told step at ∙ h at;
   delivers_keep = λ u v side k told step h at. deliver-still u v side k told step at ∙ h at;
-  takes_keep = λ u v side told step h at. take-still u v side told step at ∙ h at;
+  takes_keep = λ side u v told step h at. take-still u v side told step at ∙ h at;
 }
+
+pub reached-take : (joined : Bool) (side : Side) (w v : World) (told : Result Answer Refusal) → Steps w (happen.Take side) told v → IsReached joined w → IsReached joined v
+reached-take joined side w v told step h = reached-step joined w v (happen.Take side) told h step
 
 pub reached-keeps : (joined : Bool) → Keeps (IsReached joined)
 reached-keeps joined = record {
   turns_keep = λ u v side told step h. reached-step joined u v (happen.Turn side) told h step;
   delivers_keep = λ u v side k told step h. reached-step joined u v (happen.Deliver side k) told h step;
-  takes_keep = λ u v side told step h. reached-step joined u v (happen.Take side) told h step;
+  takes_keep = reached-take joined;
 }
 
 pub habits-keeps : Keeps Habits
 habits-keeps = record {
   turns_keep = λ u v side told step h. habits-step u v (happen.Turn side) told step h;
   delivers_keep = λ u v side k told step h. habits-step u v (happen.Deliver side k) told step h;
-  takes_keep = λ u v side told step h. habits-step u v (happen.Take side) told step h;
+  takes_keep = λ side u v told step h. habits-step u v (happen.Take side) told step h;
 }
 
 -- a world that is reached in which an end is past
@@ -483,7 +492,7 @@ pub lost-keeps : (joined : Bool) (x : ℕ) → Keeps (IsLost joined x)
 lost-keeps joined x = record {
   turns_keep = λ u v side told step h. lost-step joined x u v (happen.Turn side) told step h;
   delivers_keep = λ u v side k told step h. lost-step joined x u v (happen.Deliver side k) told step h;
-  takes_keep = λ u v side told step h. lost-step joined x u v (happen.Take side) told step h;
+  takes_keep = λ side u v told step h. lost-step joined x u v (happen.Take side) told step h;
 }
 
 -- ---- so many datagrams
@@ -627,7 +636,7 @@ pub takes-many : (joined : Bool) (w v : World) (x : ℕ) (side : Side) (own far 
 takes-many joined w v x side own far zero r u t = (0, own, subst (λ (b : World). Up joined b x side own far) (sym t) u, refl)
 takes-many joined w v x side own far (suc n) r u t =
     let one : TakesOne side t.0 v = t.2 in
-    let between : IsReached joined t.0 = kept-takes (IsReached joined) (reached-keeps joined) side n w t.0 t.1 r in
+    let between : IsReached joined t.0 = kept-takes (IsReached joined) side (reached-take joined side) n w t.0 t.1 r in
     let g = takes-many joined w t.0 x side own far n r u t.1 in
     let f = take-goes joined t.0 v x side g.1 far one.told between one.takes g.2 in
     let all = takes-then g.0 f.0 own far g.1 f.1 g.3 f.3 in
@@ -675,7 +684,7 @@ pub takes-all : (joined : Bool) (w v : World) (x : ℕ) (side : Side) (own far :
 takes-all joined w v x side own far taken cut r u t uncut = by t.2
   where
     between : IsReached joined t.0
-    between = kept-takes (IsReached joined) (reached-keeps joined) side taken w t.0 t.1 r
+    between = kept-takes (IsReached joined) side (reached-take joined side) taken w t.0 t.1 r
 
     g : Taking joined t.0 x side own far
     g = takes-many joined w t.0 x side own far taken r u t.1

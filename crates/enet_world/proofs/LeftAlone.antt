@@ -1,6 +1,6 @@
 -- A side whose peer of a connection is connected, while the other side has none of it any more, or one that has ended: nothing comes to
 -- that peer in rounds without losses, whatever the other side puts out.
-use Rattle.std.proofs.Common.{◌≡◌, ◌≢◌, ◌<◌, ◌≤◌, ◌⊎◌, ℕ, zero, suc, Bool, true, false, List, [], ◌++◌, append-nil, length, map, refl, sym, ap, subst, ◌∙◌, inl, inr, arith, Option, Some, None, Result, Ok, Err}
+use Rattle.std.proofs.Common.{◌≡◌, ◌≢◌, ◌<◌, ◌≤◌, ◌⊎◌, ℕ, Bool, true, false, List, [], ◌++◌, append-nil, length, map, refl, sym, ap, subst, ◌∙◌, inl, inr, arith, Option, Some, None, Result, Ok, Err}
 use Rattle.std.proofs.lemmas.List.{append_cancel_left}
 use Rattle.std.proofs.lemmas.Option.{slice_get_within}
 use Rattle.std.specs.List.{slice_get}
@@ -24,7 +24,6 @@ use Rattle.law_connection.specs.Steps.{Emit, Happens, with_emission}
 use Rattle.law_connection.specs.Steps as event
 use Rattle.law_connection.proofs.Events.{took}
 use Rattle.law_network.specs.Calls as call
-use Rattle.law_network.specs.Calls.{Call, Acts}
 use Rattle.law_network.specs.declared.event.Answer.{Answer}
 use Rattle.law_network.specs.declared.event.Answer.TheVariants as answers
 use Rattle.law_network.specs.declared.event.Side.{Side}
@@ -47,12 +46,12 @@ use Rattle.law_network.proofs.Submitting.{same-some}
 use Rattle.law_network.proofs.Telling.{turns, rests, passes-over, times, takes-one}
 use Rattle.law_network.proofs.Worlds.{IsHost, acts-of}
 use Rattle.law_progress.proofs.Exchanges.{put_out}
-use Rattle.enet_world.specs.Calm.{most as at_most, datagram_in, refusals_in, Carries, CarriesMany, PutsNone, PutsAllOut, TakesOne, TakesMany, TakesAll}
+use Rattle.enet_world.specs.Calm.{most as at_most, datagram_in, refusals_in, Carries, PutsNone, PutsAllOut, TakesAll}
 use Rattle.enet_world.specs.Private.Worlds.{IsReached}
 use Rattle.enet_world.proofs.EndedIsSilent.{ended-puts-none}
 use Rattle.enet_world.proofs.EndsAreTold as telling
 use Rattle.enet_world.proofs.EndsAreTold.{has_ended, ended-rises}
-use Rattle.enet_world.proofs.InRounds.{clock_at, found-in, none-put, turn-still, deliver-still, take-still}
+use Rattle.enet_world.proofs.InRounds.{clock_at, found-in, none-put, turn-still, deliver-still, take-still, kept-carried, kept-taken}
 use Rattle.enet_world.proofs.Lasting.{IsIn, Holds, lasts-run, is_past, is_begun, past-lasts, begun-lasts, connected-or-past}
 use Rattle.enet_world.proofs.Living.{named-fits}
 use Rattle.enet_world.proofs.Reaching.{reached-step}
@@ -494,15 +493,11 @@ near-one joined P Q R now x side g refused stopped w v one k = record {
     between : IsReached joined one.between
     between = reached-step joined w one.between (happen.Turn side) one.told k.reached one.goes
 
-near-many : (joined : Bool) (P Q R : Peering → Type 0) (now x : ℕ) (side : Side) → Goes now P Q R → (n refused stopped : ℕ) (w v : World) → CarriesMany side n refused stopped w v → At joined Q now x side w → At joined Q now x side v
-near-many joined P Q R now x side g zero refused stopped w v c k = subst (At joined Q now x side) (sym c.2) k
-near-many joined P Q R now x side g (suc n) refused stopped w v c k = near-one joined P Q R now x side g c.2 c.3 c.4 v c.6 (near-many joined P Q R now x side g n c.0 c.1 w c.4 c.5 k)
-
 pub near-out : (joined : Bool) (P Q R : Peering → Type 0) (now x : ℕ) (side : Side) → Goes now P Q R → (sent refused stopped cut : ℕ) (w v : World) → PutsAllOut side sent refused stopped cut w v → cut ≡ 0 → At joined Q now x side w → At joined R now x side v
 near-out joined P Q R now x side g sent refused stopped cut w v c uncut k = by c.2
   where
     so_far : At joined Q now x side c.0
-    so_far = near-many joined P Q R now x side g sent refused stopped w c.0 c.1 k
+    so_far = kept-carried (At joined Q now x side) side (near-one joined P Q R now x side g) sent refused stopped w c.0 c.1 k
 
     by : PutsNone side cut c.0 v ⊎ ((sent ≡ at_most) × (cut ≡ 1) × (v ≡ c.0)) → At joined R now x side v
     by (inl none) = record {
@@ -527,15 +522,11 @@ far-one joined P now x side refused stopped w v one k = record {
     comes : Steps one.between (happen.Deliver side one.k) one.answer v
     comes = subst (λ (s : Side). Steps one.between (happen.Deliver s one.k) one.answer v) (twice side) one.comes
 
-far-many : (joined : Bool) (P : Peering → Type 0) (now x : ℕ) (side : Side) (n refused stopped : ℕ) (w v : World) → CarriesMany (other side) n refused stopped w v → At joined P now x side w → At joined P now x side v
-far-many joined P now x side zero refused stopped w v c k = subst (At joined P now x side) (sym c.2) k
-far-many joined P now x side (suc n) refused stopped w v c k = far-one joined P now x side c.2 c.3 c.4 v c.6 (far-many joined P now x side n c.0 c.1 w c.4 c.5 k)
-
 pub far-out : (joined : Bool) (P : Peering → Type 0) (now x : ℕ) (side : Side) (sent refused stopped cut : ℕ) (w v : World) → PutsAllOut (other side) sent refused stopped cut w v → At joined P now x side w → At joined P now x side v
 far-out joined P now x side sent refused stopped cut w v c k = by c.2
   where
     so_far : At joined P now x side c.0
-    so_far = far-many joined P now x side sent refused stopped w c.0 c.1 k
+    so_far = kept-carried (At joined P now x side) (other side) (far-one joined P now x side) sent refused stopped w c.0 c.1 k
 
     by : PutsNone (other side) cut c.0 v ⊎ ((sent ≡ at_most) × (cut ≡ 1) × (v ≡ c.0)) → At joined P now x side v
     by (inl none) = record {
@@ -560,22 +551,11 @@ far-take joined P now x side w v told step k = record {
   clock = take-still w v (other side) told step side ∙ k.clock;
 }
 
--- what each take of a side keeps, all of them keep
-takes-many : (P : World → Type 0) (at : Side) → ((w v : World) (told : Result Answer Refusal) → Steps w (happen.Take at) told v → P w → P v) → (n : ℕ) (w v : World) → TakesMany at n w v → P w → P v
-takes-many P at keeps zero w v t k = subst P (sym t) k
-takes-many P at keeps (suc n) w v t k = (let one : TakesOne at t.0 v = t.2 in keeps t.0 v one.told one.takes (takes-many P at keeps n w t.0 t.1 k))
-
-takes-all : (P : World → Type 0) (at : Side) → ((w v : World) (told : Result Answer Refusal) → Steps w (happen.Take at) told v → P w → P v) → (taken cut : ℕ) (w v : World) → TakesAll at taken cut w v → P w → P v
-takes-all P at keeps taken cut w v t k = elim t.2 [
-  | inl none ↦ keeps t.0 v none.0 none.1 (takes-many P at keeps taken w t.0 t.1 k)
-  | inr most ↦ subst P (sym most.2) (takes-many P at keeps taken w t.0 t.1 k)
-]
-
 pub near-takes : (joined : Bool) (P Q R : Peering → Type 0) (now x : ℕ) (side : Side) → Goes now P Q R → (taken cut : ℕ) (w v : World) → TakesAll side taken cut w v → At joined R now x side w → At joined R now x side v
-near-takes joined P Q R now x side g taken cut w v t k = takes-all (At joined R now x side) side (λ a b told step h. near-take joined P Q R now x side g a b told step h) taken cut w v t k
+near-takes joined P Q R now x side g = kept-taken (At joined R now x side) side (near-take joined P Q R now x side g)
 
 pub far-takes : (joined : Bool) (P : Peering → Type 0) (now x : ℕ) (side : Side) (taken cut : ℕ) (w v : World) → TakesAll (other side) taken cut w v → At joined P now x side w → At joined P now x side v
-far-takes joined P now x side taken cut w v t k = takes-all (At joined P now x side) (other side) (λ a b told step h. far-take joined P now x side a b told step h) taken cut w v t k
+far-takes joined P now x side = kept-taken (At joined P now x side) (other side) (far-take joined P now x side)
 
 -- ---- time goes on at both
 pub near-tick : (joined : Bool) (P Q R : Peering → Type 0) (x ms : ℕ) (side : Side) (w v : World) (told : Result Answer Refusal) → Goes (clock_after (clock_at w side) ms) P Q R → Steps w (happen.Tick side ms) told v → IsReached joined w → Lone P w x side → Lone Q v x side ⊎ Past v x side

@@ -90,10 +90,27 @@ pub record Rounded (joined : Bool) (v : World) (x now there : ℕ) (own far : En
   pub empty_two : IsEmpty two
 
 -- what the steps of a round after the clocks went on keep
+pub record Along (P : World → Type 0) (ms : ℕ) (told : Calm) (w v : World) (d : Round ms told w v) : Type 0 where
+  pub ticked : P d.ticked
+  pub sent_a : P d.sent_a
+  pub sent : P d.sent
+  pub taken_a : P d.taken_a
+  pub last : P v
+
+pub along : (P : World → Type 0) → Keeps P → (ms : ℕ) (told : Calm) (w v : World) (d : Round ms told w v) → P d.ticked → Along P ms told w v d
+along P k ms told w v d h = record { ticked = h; sent_a = sent_a; sent = sent; taken_a = taken_a; last = kept-taken P B (k.takes_keep B) told.b.taken d.cut_b d.taken_a v d.takes_b taken_a }
+  where
+    sent_a : P d.sent_a
+    sent_a = kept-out P k A told.a.sent told.a.refused told.a.stopped d.cut_forth d.ticked d.sent_a d.forth h
+
+    sent : P d.sent
+    sent = kept-out P k B told.b.sent told.b.refused told.b.stopped d.cut_back d.sent_a d.sent d.back sent_a
+
+    taken_a : P d.taken_a
+    taken_a = kept-taken P A (k.takes_keep A) told.a.taken d.cut_a d.sent d.taken_a d.takes_a sent
+
 pub kept-round : (P : World → Type 0) → Keeps P → (ms : ℕ) (told : Calm) (w v : World) (d : Round ms told w v) → P d.ticked → P v
-kept-round P k ms told w v d h =
-    kept-taken P k B told.b.taken d.cut_b d.taken_a v d.takes_b (kept-taken P k A told.a.taken d.cut_a d.sent d.taken_a d.takes_a
-    (kept-out P k B told.b.sent told.b.refused told.b.stopped d.cut_back d.sent_a d.sent d.back (kept-out P k A told.a.sent told.a.refused told.a.stopped d.cut_forth d.ticked d.sent_a d.forth h)))
+kept-round P k ms told w v d h = (let all = along P k ms told w v d h in all.last)
 
 pub reached-ticked : (joined : Bool) (ms : ℕ) (told : Calm) (w v : World) (d : Round ms told w v) → IsReached joined w → IsReached joined d.ticked
 reached-ticked joined ms told w v d r =
@@ -225,23 +242,11 @@ round-goes-on joined ms told w v x own far r habits d a b m = record {
     there : ℕ
     there = clock_after (clock_at w B) ms
 
-    r_t : IsReached joined d.ticked
-    r_t = reached-ticked joined ms told w v d r
+    reached : Along (IsReached joined) ms told w v d
+    reached = along (IsReached joined) (reached-keeps joined) ms told w v d (reached-ticked joined ms told w v d r)
 
-    r_sa : IsReached joined d.sent_a
-    r_sa = kept-out (IsReached joined) (reached-keeps joined) A told.a.sent told.a.refused told.a.stopped d.cut_forth d.ticked d.sent_a d.forth r_t
-
-    r_s : IsReached joined d.sent
-    r_s = kept-out (IsReached joined) (reached-keeps joined) B told.b.sent told.b.refused told.b.stopped d.cut_back d.sent_a d.sent d.back r_sa
-
-    r_ta : IsReached joined d.taken_a
-    r_ta = kept-taken (IsReached joined) (reached-keeps joined) A told.a.taken d.cut_a d.sent d.taken_a d.takes_a r_s
-
-    h_t : Habits d.ticked
-    h_t = habits-ticked ms told w v d habits
-
-    h_sa : Habits d.sent_a
-    h_sa = kept-out Habits habits-keeps A told.a.sent told.a.refused told.a.stopped d.cut_forth d.ticked d.sent_a d.forth h_t
+    kept : Along Habits ms told w v d
+    kept = along Habits habits-keeps ms told w v d (habits-ticked ms told w v d habits)
 
     cuts_a : (d.cut_forth ≡ 0) × (d.cut_a ≡ 0)
     cuts_a = parts d.cut_forth d.cut_a told.a.cut_short a.cut d.all_a
@@ -252,20 +257,20 @@ round-goes-on joined ms told w v x own far r habits d a b m = record {
     clocks : (side : Side) → clock_at d.ticked side ≡ clock_after (clock_at w side) ms
     clocks = ticked-clocks ms told w v d
 
-    still : StandStill d.ticked d.sent_a
-    still = kept-out (StandStill d.ticked) (still-keeps d.ticked) A told.a.sent told.a.refused told.a.stopped d.cut_forth d.ticked d.sent_a d.forth (λ at. refl)
+    still : Along (StandStill d.ticked) ms told w v d
+    still = along (StandStill d.ticked) (still-keeps d.ticked) ms told w v d (λ at. refl)
 
     f : PutsOutAll joined d.sent_a x A now there m.one m.two
-    f = puts-all-out joined d.ticked d.sent_a x A m.one m.two now there told.a.sent told.a.refused told.a.stopped d.cut_forth (clocks A) (clocks B) r_t h_t m.up d.forth a.refused a.stopped cuts_a.0
+    f = puts-all-out joined d.ticked d.sent_a x A m.one m.two now there told.a.sent told.a.refused told.a.stopped d.cut_forth (clocks A) (clocks B) reached.ticked kept.ticked m.up d.forth a.refused a.stopped cuts_a.0
 
     g : PutsOutAll joined d.sent x B there now f.1 f.0
-    g = puts-all-out joined d.sent_a d.sent x B f.1 f.0 there now told.b.sent told.b.refused told.b.stopped d.cut_back (still B ∙ clocks B) (still A ∙ clocks A) r_sa h_sa (up-swapped joined d.sent_a x A f.0 f.1 f.2) d.back b.refused b.stopped cuts_b.0
+    g = puts-all-out joined d.sent_a d.sent x B f.1 f.0 there now told.b.sent told.b.refused told.b.stopped d.cut_back (still.sent_a B ∙ clocks B) (still.sent_a A ∙ clocks A) reached.sent_a kept.sent_a (up-swapped joined d.sent_a x A f.0 f.1 f.2) d.back b.refused b.stopped cuts_b.0
 
     k : TakesOut joined d.taken_a x A g.1 g.0
-    k = takes-all joined d.sent d.taken_a x A g.1 g.0 told.a.taken d.cut_a r_s (up-swapped joined d.sent x B g.0 g.1 g.2) d.takes_a cuts_a.1
+    k = takes-all joined d.sent d.taken_a x A g.1 g.0 told.a.taken d.cut_a reached.sent (up-swapped joined d.sent x B g.0 g.1 g.2) d.takes_a cuts_a.1
 
     l : TakesOut joined v x B g.0 k.1
-    l = takes-all joined d.taken_a v x B g.0 k.1 told.b.taken d.cut_b r_ta (up-swapped joined d.taken_a x A k.1 g.0 k.2) d.takes_b cuts_b.1
+    l = takes-all joined d.taken_a v x B g.0 k.1 told.b.taken d.cut_b reached.taken_a (up-swapped joined d.taken_a x A k.1 g.0 k.2) d.takes_b cuts_b.1
 
 -- a round is one of the law of progress, or an end is past
 round-goes : (joined : Bool) (ms : ℕ) (told : Calm) (w v : World) (x : ℕ) (own far : End) → IsReached joined w → Habits w → Up joined w x A own far → (d : Round ms told w v) → Smooth told.a → Smooth told.b
