@@ -1,5 +1,6 @@
 -- Round by round a peer that is left alone is asked by a ping, waits in vain and ends, and its user is told.
 use Rattle.std.proofs.Common.{◌≡◌, ◌≢◌, ◌<◌, ◌≤◌, ◌⊎◌, inl, inr, ℕ, zero, suc, ◌+◌, ◌*◌, ◌/◌, ◌%◌, ◌^◌, min, leb, Bool, true, false, [], append-nil, refl, sym, ap, subst, ◌∙◌, arith, Option, Some, None, div-add-mod', mod-lt}
+use Rattle.std.proofs.Math.Nat.{mul-le-mul_right}
 use Rattle.std.specs.Option.{option_and_then, option_map}
 use Rattle.enet_codec.specs.declared.event.PeerRef.{PeerRef}
 use Rattle.enet_rtt.specs.Clock.{elapsed_time}
@@ -37,7 +38,7 @@ use Rattle.enet_world.specs.Worlds.{passed_by, passed_by_rounds}
 use Rattle.enet_world.specs.Private.Worlds.{IsReached, IsReachedIn}
 use Rattle.enet_world.proofs.EndsAreTold.{IsHere, Begins, begins, told-so, rounds-go, round-a, round-b, uncut-parts, share-is, is_connected, is_open, has_ended, is_none, up-rises, ended-rises, open-up, connected-up, at-a, at-b, at-end, is_open_or_over}
 use Rattle.enet_world.proofs.Habits.{Habit, HostHabits, habits-in, clock-sum}
-use Rattle.enet_world.proofs.InRounds.{clock_at, Keeps}
+use Rattle.enet_world.proofs.InRounds.{clock_at, Keeps, no-more}
 use Rattle.enet_world.proofs.Lasting.{is_past}
 use Rattle.enet_world.proofs.LeftAlone.{IsSilentAt, Lone, Past, IsPastIn, lone-so, named-lone, past-step, At, near-out, far-out, near-takes, far-takes, near-tick, far-tick}
 use Rattle.enet_world.proofs.Reaching.{reached-step, reached-on}
@@ -89,9 +90,6 @@ past-round joined x ms side told w v d r k =
     let one : Past d.ticked_a x side = past-step joined w d.ticked_a x side (happen.Tick A ms) d.ticks_a.0 d.ticks_a.1 r k in
     past-ticked joined x ms side told w v d (reached-ticked joined ms told w v d r) (past-step joined d.ticked_a d.ticked x side (happen.Tick B ms) d.ticks_b.0 d.ticks_b.1 r_a one)
 
-sums : (m n k : ℕ) → k ≡ 0 → k ≡ m + n → (m ≡ 0) × (n ≡ 0)
-sums m n k none all = (omega arith, omega arith)
-
 lone-round : (joined : Bool) (P Q R : Peering → Type 0) (x ms : ℕ) (side : Side) (told : Calm) (w v : World) → Goes (clock_after (clock_at w side) ms) P Q R → Round ms told w v → (share_of told side).cut_short ≡ 0 → IsReached joined w → Lone P w x side
     → Lone R v x side ⊎ Past v x side
 lone-round joined P Q R x ms A told w v g d uncut r k = by (near-tick joined P Q R x ms A w d.ticked_a d.ticks_a.0 g d.ticks_a.1 r k)
@@ -106,7 +104,7 @@ lone-round joined P Q R x ms A told w v g d uncut r k = by (near-tick joined P Q
     r_t = reached-ticked joined ms told w v d r
 
     cuts : (d.cut_forth ≡ 0) × (d.cut_a ≡ 0)
-    cuts = sums d.cut_forth d.cut_a told.a.cut_short uncut d.all_a
+    cuts = no-more d.cut_forth d.cut_a told.a.cut_short uncut d.all_a
 
     on : At joined Q now x A d.ticked → At joined R now x A v
     on h = far-takes joined R now x A told.b.taken d.cut_b d.taken_a v d.takes_b
@@ -132,7 +130,7 @@ lone-round joined P Q R x ms B told w v g d uncut r k = by (near-tick joined P Q
     r_t = reached-ticked joined ms told w v d r
 
     cuts : (d.cut_back ≡ 0) × (d.cut_b ≡ 0)
-    cuts = sums d.cut_back d.cut_b told.b.cut_short uncut d.all_b
+    cuts = no-more d.cut_back d.cut_b told.b.cut_short uncut d.all_b
 
     on : At joined Q now x B d.ticked → At joined R now x B v
     on h = near-takes joined P Q R now x B g told.b.taken d.cut_b d.taken_a v d.takes_b
@@ -482,16 +480,11 @@ ends-past joined was w x side r d (inl k) = inl (record { e = k.e; there = k.the
     past : is_past k.p.state ≡ true
     past = ap (λ (p : Peering). is_past p.state) (same-some k.p d.past.0 (sym own ∙ d.past.1)) ∙ d.past.2
 
-mul-le : (a b d : ℕ) → a ≤ b → a * d ≤ b * d
-mul-le zero b d h = omega arith
-mul-le (suc a) zero d h = absurd (omega arith)
-mul-le (suc a) (suc b) d h = (let r = mul-le a b d (omega arith) in let x = more-rounds a d in let y = more-rounds b d in omega arith)
-
 long-enough : (d m : ℕ) → 0 < d → 358175 / d + 4 ≤ m → 358175 + 3 * d ≤ m * d
 long-enough d m some few =
     let whole : 358175 / d * d + 358175 % d ≡ 358175 = div-add-mod' 358175 d in
     let inside : 358175 % d < d = mod-lt 358175 some in
-    let most : (358175 / d + 4) * d ≤ m * d = mul-le (358175 / d + 4) m d few in
+    let most : (358175 / d + 4) * d ≤ m * d = mul-le-mul_right d few in
     let parts : (358175 / d + 4) * d ≡ 358175 / d * d + 4 * d = spread (358175 / d) d in
     omega arith
   where

@@ -131,9 +131,6 @@ few-at joined own far p channel s j is on wide low there = by l.agreed
         up-to (outstanding_at s.sender) (pieces_in l.mtu (of_channel l.mtu channel own.submitted)) (pieces_of (on_channel channel own.submitted)) few (sum-on l.mtu channel own.submitted (subst (λ n. 576 ≤ n) mtu wide))
 
 -- ---- on all
-one-peer : (p q : Peering) → ◌≡◌ {A = Option Peering} (Some p) (Some q) → p ≡ q
-one-peer p q e = cc
-
 few-over : (joined : Bool) (own far : End) (p : Peering) → Joint joined own far → own.peer ≡ Some p → p.state ≡ state.Connected → 576 ≤ p.terms.mtu
     → outstanding_over p.outbox.senders ≤ sum_below (λ i. pieces_of (on_channel i own.submitted)) 255
 few-over joined own far p j is on wide =

@@ -1,6 +1,5 @@
 -- A datagram that one host puts out and that comes at once to the other, where it isn't stopped: what that is to the two ends.
-use Rattle.std.proofs.Common.{◌≡◌, ◌≢◌, ℕ, Bool, true, false, cond, List, [], ◌∷◌, ◌++◌, map, refl, sym, ap, subst, ◌∙◌, inl, inr, Option, Some, None, Result, Ok, Err}
-use Rattle.std.proofs.lemmas.List.{append_cancel_left}
+use Rattle.std.proofs.Common.{◌≡◌, ◌≢◌, ℕ, Bool, true, false, cond, List, [], ◌∷◌, ◌++◌, refl, sym, ap, subst, ◌∙◌, inl, inr, Option, Some, None, Result, Ok, Err}
 use Rattle.std.specs.List.{slice_get}
 use Rattle.enet_codec.specs.declared.command.Offer.{Offer}
 use Rattle.enet_codec.specs.declared.event.PeerRef.{PeerRef}
@@ -9,7 +8,6 @@ use Rattle.enet_codec.specs.declared.header.Header.{Header}
 use Rattle.enet_codec.specs.declared.stop.Stop.{Stop}
 use Rattle.enet_codec.specs.declared.stop.Stop.TheVariants as stop
 use Rattle.enet_codec.specs.Message.{Message, Body, acknowledge, connect, verify_connect, disconnect, ping, send_reliable, send_unreliable, send_fragment, send_unsequenced, send_unreliable_fragment, bandwidth_limit, throttle_configure}
-use Rattle.enet_outbox.specs.Emission.{filled}
 use Rattle.enet_peer.specs.declared.parts.PeerState.TheVariants as state
 use Rattle.enet_peer.specs.Peering.{Peering}
 use Rattle.enet_peer.specs.Endings.{is_later}
@@ -22,10 +20,9 @@ use Rattle.enet_slot.specs.Slot.{SlotState}
 use Rattle.enet_host.specs.Opening.{host_basis}
 use Rattle.enet_host.specs.Receiving.{Arrives}
 use Rattle.enet_host.specs.Receiving as receiving
-use Rattle.law_connection.specs.Connection.{Put, End, messages_of, put_by}
+use Rattle.law_connection.specs.Connection.{Put, End, messages_of}
 use Rattle.law_connection.specs.LinkSteps.{Has}
-use Rattle.law_connection.specs.Steps.{Emit, Happens, with_peer, with_emission}
-use Rattle.law_connection.proofs.Emits.{Has-from_map}
+use Rattle.law_connection.specs.Steps.{Emit, Happens, with_peer}
 use Rattle.law_network.specs.Log.{Logged}
 use Rattle.law_network.specs.Network.{HostEnd, Site, is_earlier, is_late}
 use Rattle.law_network.specs.Shown.{IsLogged, IsApart}
@@ -40,9 +37,10 @@ use Rattle.law_network.proofs.Once.{AreAt}
 use Rattle.law_network.proofs.OneThing.{in-none}
 use Rattle.law_network.proofs.Owned.{AreOwned}
 use Rattle.law_network.proofs.Serving.{same-header}
+use Rattle.law_network.proofs.Submitting.{same-some}
 use Rattle.law_progress.specs.Exchanges.{Comes, AllCome}
 use Rattle.enet_world.proofs.Offers.{NoOffers, filled-plain}
-use Rattle.enet_world.proofs.Staying.{hears-on}
+use Rattle.enet_world.proofs.Staying.{hears-on, was-filled}
 use Rattle.enet_world.proofs.TwoEnds.{IsOn}
 
 -- ---- where no acknowledgement is asked for, it is all one when a datagram says that it went
@@ -104,11 +102,8 @@ all-come now time sent (x ∷ puts) from to new told none a on = by (λ stays. a
     same : obeyed p now sent x.message ≡ obeyed p now (Some time) x.message
     same = same-obeyed p now time sent x.message (told x (inl refl))
 
-    some-peer : (b c : Peering) → ◌≡◌ {A = Option Peering} (Some b) (Some c) → b ≡ c
-    some-peer b c e = cc
-
     connected : p.state ≡ state.Connected
-    connected = ap (λ (y : Peering). y.state) (some-peer p on.0 (sym a.1 ∙ on.1)) ∙ on.2
+    connected = ap (λ (y : Peering). y.state) (same-some p on.0 (sym a.1 ∙ on.1)) ∙ on.2
 
     stays : q.state ≡ state.Connected
     stays = hears-on p now sent x.message connected (λ info e. none x info (inl refl) e)
@@ -120,7 +115,7 @@ all-come now time sent (x ∷ puts) from to new told none a on = by (λ stays. a
       connected = connected;
       room = inr (ap (λ (o : Outcome). o.stop) (sym same) ∙ a.3);
       after = inl (p, a.1, a.2, ap (λ (o : Outcome). with_peer to o.after) same);
-      stays = λ r is. (let z : q ≡ r = some-peer q r is in ap (λ (y : Peering). y.state) (sym z) ∙ stays);
+      stays = λ r is. (let z : q ≡ r = same-some q r is in ap (λ (y : Peering). y.state) (sym z) ∙ stays);
     }
 
     by : (q.state ≡ state.Connected → AllCome now time from puts (with_peer to q) new × ((r : Peering) × (new.peer ≡ Some r) × (r.state ≡ state.Connected))) → AllCome now time from (x ∷ puts) to new × ((r : Peering) × (new.peer ≡ Some r) × (r.state ≡ state.Connected))
@@ -128,27 +123,7 @@ all-come now time sent (x ∷ puts) from to new told none a on = by (λ stays. a
 
 -- ---- what a connected end puts out has no CONNECT
 pub puts-plain : (now : ℕ) (own far new : End) (p : Peering) (puts : List Put) → own.peer ≡ Some p → NoOffers p.outbox.control → Happens own far (Emit now) new → new.log ≡ own.log ++ puts → (x : Put) (o : Offer) → Has puts x → x.message.body ≡ connect o → ⊥
-puts-plain now own far new p puts is plain h logged x o has says =
-    let m = Has-from_map put ms x (subst (λ (l : List Put). Has l x) puts-are has) in
-    filled-plain (pace_of p now) p.outbox plain m.0 o m.1 (ap (λ (y : Put). y.message.body) m.2 ∙ says)
-  where
-    ms : List Message
-    ms = (filled (pace_of p now) p.outbox).messages
-
-    put : Message → Put
-    put = put_by (record own { log = own.log ++ map (λ (m : Message). record { message = m; sent_then = 0 }) ms }) far
-
-    it : h.0 ≡ p
-    it = some-peer h.0 p (sym h.1 ∙ is)
-      where
-        some-peer : (a b : Peering) → ◌≡◌ {A = Option Peering} (Some a) (Some b) → a ≡ b
-        some-peer a b e = cc
-
-    after : new ≡ with_emission own far p now
-    after = subst (λ (y : Peering). new ≡ with_emission own far y now) it h.2
-
-    puts-are : puts ≡ map put ms
-    puts-are = append_cancel_left own.log puts (map put ms) (sym logged ∙ ap (λ (e : End). e.log) after)
+puts-plain now own far new p puts is plain h logged x o has says = filled-plain (pace_of p now) p.outbox plain x.message o (was-filled now own far new p puts is h logged x has) says
 
 -- ---- a datagram of a connection that isn't stopped is one of the slot in which its host has the end
 stopped-not : {X : Type 0} (why : Stop) (answer : Received) → slots.stopped why ≡ answer → answer.stop ≡ None → X

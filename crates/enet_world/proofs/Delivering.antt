@@ -1,16 +1,10 @@
 -- What a host has nothing left to send of arrived at the other, by the law of its connection.
-use Rattle.std.proofs.Common.{◌≡◌, ◌<◌, ◌≤◌, ◌&&◌, ◌==◌, ℕ, ◌++◌, Bool, true, false, List, refl, sym, ap, subst, ◌∙◌, inl, inr, ◌⊎◌, arith, Option, Some, None}
-use Rattle.std.specs.List.{slice_get}
-use Rattle.enet_codec.specs.declared.packet.Packet.{Packet}
-use Rattle.enet_peer.specs.Peering.{Peering}
+use Rattle.std.proofs.Common.{◌≡◌, ◌<◌, ◌≤◌, ◌==◌, ℕ, ◌++◌, Bool, true, false, List, sym, ap, subst, ◌∙◌, inl, inr, arith, Option, Some, None}
 use Rattle.enet_packets.specs.declared.incoming_packet.Dispatched.{Dispatched}
 use Rattle.enet_sender.specs.CommandChoice.{carried}
 use Rattle.enet_sender.specs.CommandChoice as command_choice
-use Rattle.enet_sender.specs.Sender.{left}
-use Rattle.law_connection.specs.Connection.{End, Connection, of_channel, packets_of, in_sequence}
-use Rattle.law_connection.specs.Invariant.{Invariant}
+use Rattle.law_connection.specs.Connection.{End, of_channel, packets_of, in_sequence}
 use Rattle.law_connection.specs.Law.{mtu_of, mtu_in}
-use Rattle.law_connection.specs.Linked.{sends_in, dispatches_in, sender_in, dispatched_on}
 use Rattle.law_connection.specs.LinkSteps.{bodies_of}
 use Rattle.law_progress.specs.Delivered.{IsDelivered}
 use Rattle.law_progress.specs.Links.{AllDispatched}
@@ -18,16 +12,16 @@ use Rattle.law_progress.proofs.Delivered.{delivered-forth, delivered-back}
 use Rattle.law_network.specs.Law.{ShowsAt}
 use Rattle.law_network.specs.Log.{packets_at}
 use Rattle.law_network.specs.Network.{HostEnd, Site, end_of}
-use Rattle.law_network.specs.Numbers.{Stands, sending_at, receiving_at}
-use Rattle.law_network.specs.Shown.{on_channel, Shows}
+use Rattle.law_network.specs.Numbers.{Stands}
+use Rattle.law_network.specs.Shown.{Shows}
 use Rattle.law_network.specs.World.{World}
 use Rattle.law_network.proofs.Agreed.{same-peer}
 use Rattle.law_network.proofs.Channels.{same-going, same-come}
 use Rattle.law_network.proofs.Delivering.{end-there}
 use Rattle.law_network.proofs.Runs.{Sound, less-or-not, sound-list, sound-joined-list}
 use Rattle.law_network.proofs.Submitting.{same-some}
-use Rattle.law_network.proofs.Worlds.{KeptEither, Pair, IsHost, end-none}
-use Rattle.enet_world.specs.Delivered.{HasNothingLeft, ArrivesFrom, HasDelivered}
+use Rattle.law_network.proofs.Worlds.{KeptEither, IsHost, end-none}
+use Rattle.enet_world.specs.Delivered.{ArrivesFrom, HasDelivered}
 use Rattle.enet_world.specs.Private.Worlds.{IsReached}
 
 -- an end that stands is the one that is shown

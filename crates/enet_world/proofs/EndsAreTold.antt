@@ -1,5 +1,5 @@
 -- Of each peer that is connected before rounds without losses: it is so after them, or its user was told.
-use Rattle.std.proofs.Common.{◌≡◌, ◌≢◌, ◌<◌, ◌≤◌, ◌⊎◌, ◌&&◌, inl, inr, ℕ, zero, suc, ◌+◌, Bool, true, false, List, [], ◌∷◌, ◌++◌, append-nil, refl, sym, ap, subst, ◌∙◌, arith, Option, Some, None, Result, Ok, Err}
+use Rattle.std.proofs.Common.{◌≡◌, ◌≢◌, ◌<◌, ◌≤◌, ◌⊎◌, ◌&&◌, inl, inr, ℕ, zero, suc, Bool, true, false, List, [], ◌∷◌, ◌++◌, append-nil, refl, sym, ap, subst, ◌∙◌, arith, Option, Some, None, Result, Ok, Err}
 use Rattle.std.specs.List.{slice_get}
 use Rattle.std.specs.Option.{option_and_then, option_map}
 use Rattle.enet_codec.specs.declared.event.Event.{Event}
@@ -31,7 +31,7 @@ use Rattle.enet_world.specs.Ended.{share_of, IsUncut, name_at, IsTold, IsToldOrW
 use Rattle.enet_world.specs.Progress.{AreConnected, AreEnough}
 use Rattle.enet_world.specs.Private.Worlds.{IsReached}
 use Rattle.enet_world.proofs.Habits.{Habits}
-use Rattle.enet_world.proofs.InRounds.{Keeps, kept-many, kept-out, kept-takes, kept-taken}
+use Rattle.enet_world.proofs.InRounds.{Keeps, kept-many, kept-out, kept-takes, kept-taken, no-more}
 use Rattle.enet_world.proofs.Reaching.{reached-step}
 use Rattle.enet_world.proofs.Through.{no-sum, gets-through}
 use Rattle.enet_world.proofs.TwoEnds.{from_start, sound, host-at}
@@ -178,9 +178,6 @@ pub record Passes (f g h : PeerState → Bool) : Type 0 where
   pub unended : (s : PeerState) → g s ≡ true → s ≢ state.Ended → h s ≡ true
   pub only_h : (s : PeerState) → h s ≡ true → is_up s ≡ true
 
-sums : (m n k : ℕ) → k ≡ 0 → k ≡ m + n → (m ≡ 0) × (n ≡ 0)
-sums m n k none all = (omega arith, omega arith)
-
 pub ticked : (joined : Bool) (f : PeerState → Bool) → Rises f → (was : HostEnd) (x : ℕ) (side : Side) (ms : ℕ) (told : Calm) (w v : World) (d : Round ms told w v) → IsHere joined f was x side w → IsHere joined f was x side d.ticked
 ticked joined f rises was x side ms told w v d k =
     let one : IsReached joined d.ticked_a = reached-step joined w d.ticked_a (happen.Tick A ms) d.ticks_a.0 k.0 d.ticks_a.1 in (
@@ -196,7 +193,7 @@ round-a joined f g h p rises was x ms told w v d uncut k = kept-taken (IsHere jo
     (puts-out joined f g p.rises p.goes p.only was x A told.a.sent told.a.refused told.a.stopped d.cut_forth d.ticked d.sent_a d.forth cuts.0 (ticked joined f p.rises was x A ms told w v d k))))
   where
     cuts : (d.cut_forth ≡ 0) × (d.cut_a ≡ 0)
-    cuts = sums d.cut_forth d.cut_a told.a.cut_short uncut d.all_a
+    cuts = no-more d.cut_forth d.cut_a told.a.cut_short uncut d.all_a
 
 -- at B, to which A's came before
 pub round-b : (joined : Bool) (f g h : PeerState → Bool) → Passes f g h → (was : HostEnd) (x ms : ℕ) (told : Calm) (w v : World) → Round ms told w v → told.b.cut_short ≡ 0 → IsHere joined f was x B w → IsHere joined h was x B v
@@ -206,7 +203,7 @@ round-b joined f g h p was x ms told w v d uncut k = takes-out joined g h p.only
     (kept-out (IsHere joined f was x B) (keeps joined f p.rises was x B) A told.a.sent told.a.refused told.a.stopped d.cut_forth d.ticked d.sent_a d.forth (ticked joined f p.rises was x B ms told w v d k))))
   where
     cuts : (d.cut_back ≡ 0) × (d.cut_b ≡ 0)
-    cuts = sums d.cut_back d.cut_b told.b.cut_short uncut d.all_b
+    cuts = no-more d.cut_back d.cut_b told.b.cut_short uncut d.all_b
 
 -- ---- rounds
 -- a round at a side

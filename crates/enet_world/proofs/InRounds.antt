@@ -1,7 +1,6 @@
 -- What rounds in which the network loses nothing are to the two ends of a connection: rounds of the law of progress, or one of them is past
 -- its connection.
-use Rattle.std.proofs.Common.{◌≡◌, ◌≢◌, ◌<◌, ◌%◌, ◌⊎◌, ℕ, zero, suc, ◌+◌, Bool, true, false, cond, List, [], ◌∷◌, ◌++◌, append-nil, length, map, refl, sym, ap, subst, ◌∙◌, inl, inr, arith, Option, Some, None, Result, Ok, Err, is_some}
-use Rattle.std.proofs.lemmas.List.{append_cancel_left}
+use Rattle.std.proofs.Common.{◌≡◌, ◌≢◌, ◌<◌, ◌%◌, ◌⊎◌, ℕ, zero, suc, ◌+◌, Bool, true, false, cond, List, [], ◌∷◌, ◌++◌, append-nil, length, refl, sym, ap, subst, ◌∙◌, inl, inr, arith, Option, Some, None, Result, Ok, Err, is_some}
 use Rattle.std.proofs.lemmas.Option.{slice_get_within}
 use Rattle.std.specs.List.{slice_get}
 use Rattle.enet_codec.specs.declared.address.Addr.{Addr}
@@ -11,8 +10,6 @@ use Rattle.enet_codec.specs.declared.event.Received.{Received}
 use Rattle.enet_codec.specs.declared.packet.Packet.{Packet}
 use Rattle.enet_codec.specs.declared.stop.Stop.{Stop}
 use Rattle.enet_codec.specs.declared.refusal.Refusal.{Refusal}
-use Rattle.enet_codec.specs.Message.{Message}
-use Rattle.enet_outbox.specs.Emission.{filled}
 use Rattle.enet_outbox.specs.Outbox.{has_ended}
 use Rattle.enet_peer.specs.declared.parts.PeerState.{PeerState}
 use Rattle.enet_peer.specs.declared.parts.PeerState.TheVariants as state
@@ -22,9 +19,9 @@ use Rattle.enet_peer.specs.Calls as peers
 use Rattle.enet_slot.specs.Calls.{peer_tells}
 use Rattle.enet_host.specs.Host.{named}
 use Rattle.enet_host.specs.Ticking.{clock_after}
-use Rattle.law_connection.specs.Connection.{Put, End, put_by}
+use Rattle.law_connection.specs.Connection.{Put, End}
 use Rattle.law_connection.specs.LinkSteps.{Has}
-use Rattle.law_connection.specs.Steps.{Emit, Happens, with_emission}
+use Rattle.law_connection.specs.Steps.{Emit, Happens}
 use Rattle.law_connection.specs.Steps as event
 use Rattle.law_network.specs.Calls as call
 use Rattle.law_network.specs.Calls.{Call}
@@ -67,7 +64,7 @@ use Rattle.enet_world.proofs.Moments.{waited}
 use Rattle.enet_world.proofs.Offers.{NoOffers, connected-plain}
 use Rattle.enet_world.proofs.Pings.{IsLone, is_ping}
 use Rattle.enet_world.proofs.Reaching.{reached-step}
-use Rattle.enet_world.proofs.Staying.{puts-none-ends, emits-on}
+use Rattle.enet_world.proofs.Staying.{puts-none-ends, emits-on, none-filled}
 use Rattle.enet_world.proofs.TwoEnds.{from_start, sound, host-at, twice, Ends, swapped, is-end, far-end, faces, Moved, moved, IsDown, down-step, Up, up-back, begun-here, IsOn, up-or-down, live}
 
 -- ---- the hosts' clocks
@@ -496,7 +493,7 @@ lost-keeps joined x = record {
 }
 
 -- ---- so many datagrams
-no-more : (m n k : ℕ) → k ≡ 0 → k ≡ m + n → (m ≡ 0) × (n ≡ 0)
+pub no-more : (m n k : ℕ) → k ≡ 0 → k ≡ m + n → (m ≡ 0) × (n ≡ 0)
 no-more m n k none sum = (omega arith, omega arith)
 
 carries-many : (joined : Bool) (w v : World) (x : ℕ) (side : Side) (own far : End) (now there n refused stopped : ℕ) → clock_at w side ≡ now → clock_at w (other side) ≡ there → IsReached joined w → Habits w → Up joined w x side own far
@@ -521,29 +518,13 @@ carries-many joined w v x side own far now there (suc n) refused stopped here is
     between = kept-many (IsReached joined) (reached-keeps joined) side n c.0 c.1 w c.4 c.5 r
 
 -- ---- and then nothing more may go
-pub none-put : (f : Message → Put) (ms : List Message) → map f ms ≡ [] → ms ≡ []
-none-put f [] e = refl
-none-put f (m ∷ ms) e = absurd (cc)
-
 spent : (now : ℕ) (own far new : End) (p : Peering) → own.peer ≡ Some p → p.state ≡ state.Connected → Happens own far (Emit now) new → new.log ≡ own.log → AllFit (pace_of p now) p.outbox
     → (q : Peering) → new.peer ≡ Some q → NothingMayGo (pace_of q now) q.outbox
 spent now own far new p is on h same fit q there =
-    subst (λ (y : Peering). NothingMayGo (pace_of y now) y.outbox) (same-some (put_out p now) q (sym g.peer ∙ there)) (nothing-may-go (pace_of p now) p.outbox fit none)
+    subst (λ (y : Peering). NothingMayGo (pace_of y now) y.outbox) (same-some (put_out p now) q (sym g.peer ∙ there)) (nothing-may-go (pace_of p now) p.outbox fit (none-filled now own far new p is h same))
   where
     g : Gone now own far new p []
     g = gone now own far new p [] h is on (same ∙ sym (append-nil own.log))
-
-    ms : List Message
-    ms = (filled (pace_of p now) p.outbox).messages
-
-    put : Message → Put
-    put = put_by (record own { log = own.log ++ map (λ (m : Message). record { message = m; sent_then = 0 }) ms }) far
-
-    after : new ≡ with_emission own far p now
-    after = subst (λ (y : Peering). new ≡ with_emission own far y now) (same-some h.0 p (sym h.1 ∙ is)) h.2
-
-    none : ms ≡ []
-    none = none-put put ms (append_cancel_left own.log (map put ms) [] (sym (ap (λ (e : End). e.log) after) ∙ same ∙ sym (append-nil own.log)))
 
 -- a turn by which nothing goes
 abbrev pub Rested : Bool → World → ℕ → Side → ℕ → End → End → Type 0

@@ -10,7 +10,7 @@ use Rattle.enet_peer.specs.declared.parts.PeerState.TheVariants as state
 use Rattle.enet_peer.specs.Peering.{Peering}
 use Rattle.enet_peer.specs.CommandEffect.{Outcome, Obeys, obeyed, wants_memory}
 use Rattle.enet_peer.specs.Calls.{submission_refusal, left, submitted, ticked, next_event}
-use Rattle.law_connection.specs.Connection.{Put, End}
+use Rattle.law_connection.specs.Connection.{End}
 use Rattle.law_connection.specs.Steps.{Way, leave_by, Setting, MaySet, with_setting, Happens, Event}
 use Rattle.law_connection.specs.Steps as event
 use Rattle.law_connection.proofs.Events.{took}
@@ -18,6 +18,7 @@ use Rattle.law_connection.proofs.PeerChanges.{Core, Changes, kept-ticked, kept-l
 use Rattle.law_network.specs.Deeds.{Deed, Alone, AllAlone, emitted}
 use Rattle.law_network.specs.Deeds as deed
 use Rattle.law_network.proofs.Matching.{was-set, matches}
+use Rattle.law_network.proofs.Submitting.{same-some}
 use Rattle.law_network.specs.Shown.{RunsAt}
 
 -- what a peer keeps
@@ -58,11 +59,8 @@ lasts-all P k (d ∷ ds) p q a h = lasts-all P k ds a.0 q a.2 (lasts-alone P k d
 abbrev pub Holds : (Peering → Type 0) → End → Type 0
 Holds P e = (p : Peering) × (e.peer ≡ Some p) × P p
 
-some-peer : (p q : Peering) → ◌≡◌ {A = Option Peering} (Some p) (Some q) → p ≡ q
-some-peer p q e = cc
-
 pub holds-here : (P : Peering → Type 0) (e : End) (p : Peering) → e.peer ≡ Some p → Holds P e → P p
-holds-here P e p is h = subst P (some-peer h.0 p (sym h.1 ∙ is)) h.2
+holds-here P e p is h = subst P (same-some h.0 p (sym h.1 ∙ is)) h.2
 
 held : (P : Peering → Type 0) (new after : End) (q : Peering) → new ≡ after → after.peer ≡ Some q → P q → Holds P new
 held P new after q same is h = (q, ap (λ (e : End). e.peer) same ∙ is, h)

@@ -1,7 +1,6 @@
 -- A side whose peer of a connection is connected, while the other side has none of it any more, or one that has ended: nothing comes to
 -- that peer in rounds without losses, whatever the other side puts out.
-use Rattle.std.proofs.Common.{◌≡◌, ◌≢◌, ◌<◌, ◌≤◌, ◌⊎◌, ℕ, Bool, true, false, List, [], ◌++◌, append-nil, length, map, refl, sym, ap, subst, ◌∙◌, inl, inr, arith, Option, Some, None, Result, Ok, Err}
-use Rattle.std.proofs.lemmas.List.{append_cancel_left}
+use Rattle.std.proofs.Common.{◌≡◌, ◌≢◌, ◌<◌, ◌≤◌, ◌⊎◌, ℕ, Bool, true, false, List, [], length, refl, sym, ap, subst, ◌∙◌, inl, inr, arith, Option, Some, None, Result, Ok, Err}
 use Rattle.std.proofs.lemmas.Option.{slice_get_within}
 use Rattle.std.specs.List.{slice_get}
 use Rattle.enet_codec.specs.declared.address.Addr.{Addr}
@@ -13,14 +12,14 @@ use Rattle.enet_peer.specs.declared.parts.PeerEvent.{PeerEvent}
 use Rattle.enet_peer.specs.declared.parts.PeerState.{PeerState}
 use Rattle.enet_peer.specs.declared.parts.PeerState.TheVariants as state
 use Rattle.enet_peer.specs.Peering.{Peering}
-use Rattle.enet_peer.specs.Calls.{pace_of, gone_on, ticked, next_event, with_throttle_limit}
+use Rattle.enet_peer.specs.Calls.{pace_of, ticked, next_event, with_throttle_limit}
 use Rattle.enet_host.specs.Host.{named}
 use Rattle.enet_host.specs.Serving.{served_of}
 use Rattle.enet_host.specs.Ticking.{clock_after}
 use Rattle.enet_slot.specs.Slot.{greatest}
-use Rattle.law_connection.specs.Connection.{Put, End, put_by}
+use Rattle.law_connection.specs.Connection.{End}
 use Rattle.law_connection.specs.LinkSteps.{Has}
-use Rattle.law_connection.specs.Steps.{Emit, Happens, with_emission}
+use Rattle.law_connection.specs.Steps.{Emit, Happens}
 use Rattle.law_connection.specs.Steps as event
 use Rattle.law_connection.proofs.Events.{took}
 use Rattle.law_network.specs.Calls as call
@@ -51,14 +50,15 @@ use Rattle.enet_world.specs.Private.Worlds.{IsReached}
 use Rattle.enet_world.proofs.EndedIsSilent.{ended-puts-none}
 use Rattle.enet_world.proofs.EndsAreTold as telling
 use Rattle.enet_world.proofs.EndsAreTold.{has_ended, ended-rises}
-use Rattle.enet_world.proofs.InRounds.{clock_at, found-in, none-put, turn-still, deliver-still, take-still, kept-carried, kept-taken}
+use Rattle.enet_world.proofs.InRounds.{clock_at, found-in, turn-still, deliver-still, take-still, kept-carried, kept-taken}
 use Rattle.enet_world.proofs.Lasting.{IsIn, Holds, lasts-run, is_past, is_begun, past-lasts, begun-lasts, connected-or-past}
 use Rattle.enet_world.proofs.Living.{named-fits}
 use Rattle.enet_world.proofs.Reaching.{reached-step}
 use Rattle.enet_world.proofs.Through.{shown-end-of}
 use Rattle.enet_world.proofs.TwoEnds.{from_start, sound, host-at, twice, Ends, swapped, back, is-end, far-end, faces, Moved, goes, live}
-use Rattle.enet_world.proofs.Unanswered.{Goes, went-on}
+use Rattle.enet_world.proofs.Unanswered.{Goes}
 use Rattle.enet_world.proofs.UntouchedEnd.{IsEither}
+use Rattle.enet_world.proofs.Staying.{emits-on, none-filled}
 
 -- ---- what is known of the two sides
 -- the peer of an end is gone for good, or it has ended, and is told of so and gone
@@ -86,15 +86,12 @@ pub record Past (w : World) (x : ℕ) (side : Side) : Type 0 where
 pub lone-so : (P Q : Peering → Type 0) (w : World) (x : ℕ) (side : Side) (k : Lone P w x side) → Q k.p → Lone Q w x side
 lone-so P Q w x side k h = record { own = k.own; far = k.far; ends = k.ends; p = k.p; is = k.is; on = k.on; holds = h; gone = k.gone }
 
-some-peer : (p q : Peering) → ◌≡◌ {A = Option Peering} (Some p) (Some q) → p ≡ q
-some-peer p q e = cc
-
 -- its host has it under its name
 pub named-lone : (P : Peering → Type 0) (w : World) (x : ℕ) (side : Side) (k : Lone P w x side) → named (site_of w side).host.slots k.ends.e.name ≡ Some k.p
 named-lone P w x side k = k.ends.shows.shows.is ∙ ap (λ (s : PeerState). held_if s k.ends.shows.peer) on ∙ sym (k.ends.shows.has) ∙ k.is
   where
     on : k.ends.shows.peer.state ≡ state.Connected
-    on = ap (λ (p : Peering). p.state) (some-peer k.ends.shows.peer k.p (sym k.ends.shows.has ∙ k.is)) ∙ k.on
+    on = ap (λ (p : Peering). p.state) (same-some k.ends.shows.peer k.p (sym k.ends.shows.has ∙ k.is)) ∙ k.on
 
 -- ---- past stays past
 past-happens : (j : ℕ → Bool) (w v : World) (x : ℕ) (side at : Side) (what : Happening) → Sound j w → HappensAt at what w v → Past w x side → Past v x side
@@ -152,23 +149,6 @@ near P Q w v x side what k h s = record {
   gone = subst (λ (t : Site). IsSilentAt t x k.ends.f.name) (sym h.there) k.gone;
 }
 
--- what it is to be asked for a datagram
-emits-peer : (own far new : End) (now : ℕ) (p : Peering) → own.peer ≡ Some p → p.state ≡ state.Connected → Happens own far (Emit now) new → new.peer ≡ Some (put_out p now)
-emits-peer own far new now p is on h =
-    ap (λ (e : End). e.peer) h.2 ∙ ap (λ (y : Peering). Some (gone_on (put_out y now))) (some-peer h.0 p (sym h.1 ∙ is)) ∙ ap (λ (y : Peering). Some y) (went-on (put_out p now) on)
-
-emits-none : (own far new : End) (now : ℕ) (p : Peering) → own.peer ≡ Some p → Happens own far (Emit now) new → new.log ≡ own.log → (filled (pace_of p now) p.outbox).messages ≡ []
-emits-none own far new now p is h same = none-put put ms (append_cancel_left own.log (map put ms) [] (sym (ap (λ (e : End). e.log) after) ∙ same ∙ sym (append-nil own.log)))
-  where
-    ms : List Message
-    ms = (filled (pace_of p now) p.outbox).messages
-
-    put : Message → Put
-    put = put_by (record own { log = own.log ++ map (λ (m : Message). record { message = m; sent_then = 0 }) ms }) far
-
-    after : new ≡ with_emission own far p now
-    after = subst (λ (y : Peering). new ≡ with_emission own far y now) (some-peer h.0 p (sym h.1 ∙ is)) h.2
-
 same-on : (Q : Peering → Type 0) (own new : End) (p : Peering) → own.peer ≡ Some p → p.state ≡ state.Connected → Q p → new ≡ own → Holds (IsOnWith Q) new
 same-on Q own new p is on h same = (p, ap (λ (e : End). e.peer) same ∙ is, (on, h))
 
@@ -194,7 +174,7 @@ turn-near joined Q w v x side n (Ok (answers.Sent (Some m))) emits r step is k =
     shown = turns (beside w.count (site_of w (other side))) (site_of w (other side)) (site_of w side) (site_of v side) step.1.0 step.1.1 h.here refl k.ends.e k.own k.far (is-end (from_start joined) w x side k.own k.far s k.ends) (faces (from_start joined) w x side k.own k.far s k.ends)
 
     put : (end : End) → Happens k.own k.far (Emit now) end → Holds (IsOnWith Q) end
-    put end e = (put_out k.p now, emits-peer k.own k.far end now k.p k.is k.on e, (k.on, emits k.p k.holds))
+    put end e = (put_out k.p now, emits-on now k.own k.far end k.p k.is k.on e, (k.on, emits k.p k.holds))
 
     on : (end : End) → Went end → Holds (IsOnWith Q) end
     on end (inl g) = put end g.emits
@@ -224,8 +204,8 @@ rest-near joined P Q R w v x side (Ok (answers.Sent None)) g r step none uncut k
     on : (end : End) → Went end → Holds (IsOnWith R) end
     on end e = (
       put_out k.p now,
-      emits-peer k.own k.far end now k.p k.is k.on e.0,
-      (k.on, g.last k.p (named-fits joined w r side k.ends.e.name k.p (named-lone Q w x side k)) (emits-none k.own k.far end now k.p k.is e.0 e.1) k.holds),
+      emits-on now k.own k.far end k.p k.is k.on e.0,
+      (k.on, g.last k.p (named-fits joined w r side k.ends.e.name k.p (named-lone Q w x side k)) (none-filled now k.own k.far end k.p k.is e.0 e.1) k.holds),
     )
 rest-near joined P Q R w v x side (Ok (answers.Sent (Some n))) g r step none uncut k = absurd (let z : ◌≡◌ {A = Option ℕ} (Some n) None = none in cc)
 rest-near joined P Q R w v x side (Ok (answers.Peer name)) g r step none uncut k = absurd step.1
@@ -283,7 +263,7 @@ take-near joined n P Q R w v x side (Ok (answers.Taken event')) g r step k = nea
     on : (end : End) → Went end → Holds (IsOnWith R) end
     on end (inl same) = same-on R k.own end k.p k.is k.on k.holds same
     on end (inr t) =
-        let was : t.0 ≡ k.p = some-peer t.0 k.p (sym t.3 ∙ k.is) in
+        let was : t.0 ≡ k.p = same-some t.0 k.p (sym t.3 ∙ k.is) in
         (t.1, ap (λ (e : End). e.peer) t.5, taken t.1 t.2 (ap (λ (y : Peering). next_event y) (sym was) ∙ t.4))
 take-near joined n P Q R w v x side (Ok (answers.Received received)) g r step k = absurd step.1
 take-near joined n P Q R w v x side (Ok (answers.Sent number)) g r step k = absurd step.1
@@ -305,13 +285,13 @@ tick-near joined P Q R w v x ms side (Ok answers.Done) g r step k = by (connecte
     shown = times (beside w.count (site_of w (other side))) (site_of w (other side)) (site_of w side) (site_of v side) ms h.here k.ends.e k.own k.far (is-end (from_start joined) w x side k.own k.far (sound joined w r) k.ends) (live k.own k.p k.is k.on)
 
     first : (end : End) → Happens k.own k.far (event.Tick now) end → end.peer ≡ Some (ticked k.p now)
-    first end t = ap (λ (e : End). e.peer) t.2 ∙ ap (λ (y : Peering). Some (ticked y now)) (some-peer t.0 k.p (sym t.1 ∙ k.is))
+    first end t = ap (λ (e : End). e.peer) t.2 ∙ ap (λ (y : Peering). Some (ticked y now)) (same-some t.0 k.p (sym t.1 ∙ k.is))
 
     -- whatever holds of it then
     after : (Z : Peering → Type 0) → Z (ticked k.p now) → ((limit : ℕ) → Z (with_throttle_limit (ticked k.p now) limit)) → (end : End) → Ticks now k.own k.far end → Holds Z end
     after Z one more end (inl t) = (ticked k.p now, first end t, one)
     after Z one more end (inr t) =
-        let was : t.3.0 ≡ ticked k.p now = some-peer t.3.0 (ticked k.p now) (sym t.3.1 ∙ first t.1 t.2) in
+        let was : t.3.0 ≡ ticked k.p now = same-some t.3.0 (ticked k.p now) (sym t.3.1 ∙ first t.1 t.2) in
         (with_throttle_limit (ticked k.p now) t.0, ap (λ (e : End). e.peer) t.3.3 ∙ ap (λ (y : Peering). Some (with_throttle_limit y t.0)) was, more t.0)
 
     by : ((ticked k.p now).state ≡ state.Connected) ⊎ (is_past (ticked k.p now).state ≡ true) → Lone Q v x side ⊎ Past v x side
@@ -451,8 +431,8 @@ not-its joined P w v x side n (Ok (answers.Sent (Some m))) r step is k d there o
         let g = served.gives in
         let t : IsThere old.host.slots k.ends.f.name k.ends.shows_far.peer = served.there in
         let named' : named old.host.slots k.ends.f.name ≡ Some k.ends.shows_far.peer = there-named old.host.slots k.ends.f.name k.ends.shows_far.peer t in
-        let one : g.peer ≡ k.ends.shows_far.peer = some-peer g.peer k.ends.shows_far.peer (sym g.held ∙ t.peer) in
-        let two : ended.p ≡ k.ends.shows_far.peer = some-peer ended.p k.ends.shows_far.peer (sym ended.is ∙ ap (λ (e : HostEnd). named old.host.slots e.name) (same ended.e ended.there) ∙ named') in
+        let one : g.peer ≡ k.ends.shows_far.peer = same-some g.peer k.ends.shows_far.peer (sym g.held ∙ t.peer) in
+        let two : ended.p ≡ k.ends.shows_far.peer = same-some ended.p k.ends.shows_far.peer (sym ended.is ∙ ap (λ (e : HostEnd). named old.host.slots e.name) (same ended.e ended.there) ∙ named') in
         let over : k.ends.shows_far.peer.state ≡ state.Ended = is-ended k.ends.shows_far.peer.state (ap (λ (q : Peering). has_ended q.state) (sym two) ∙ ended.up) in
         let none : (filled (pace_of g.peer old.host.clock) g.peer.outbox).messages ≡ [] =
         subst (λ (q : Peering). (filled (pace_of q old.host.clock) q.outbox).messages ≡ []) (sym one) (ended-puts-none joined w r (other side) k.ends.f.name k.ends.shows_far.peer named' over old.host.clock) in

@@ -1,7 +1,6 @@
 -- What each peer of a world has kept since it began: all that it has to send fits its datagrams, and only a client that asks has a CONNECT.
 use Rattle.std.proofs.Common.{◌≡◌, ℕ, ◌≤◌, ◌&&◌, min, inl, inr, Bool, true, false, cond, List, [], ◌∷◌, refl, sym, ap, subst, ◌∙◌, arith, Option, Some, None, Ok, Err}
 use Rattle.std.proofs.lemmas.Bool.Decides.{nat_tests}
-use Rattle.enet_codec.specs.declared.address.Addr.{Addr}
 use Rattle.enet_codec.specs.declared.command.Offer.{Offer}
 use Rattle.enet_codec.specs.declared.config.Config.{Config}
 use Rattle.enet_codec.specs.Config.{is_in_range}
@@ -13,16 +12,16 @@ use Rattle.enet_peer.specs.Peering.{Peering}
 use Rattle.enet_peer.specs.Peering as peers
 use Rattle.enet_peer.specs.Calls.{pace_of, is_connected}
 use Rattle.enet_slot.specs.declared.giving.Question.{Question}
-use Rattle.enet_slot.specs.Giving.{Basis, limits_of, joined_terms, offer_from, server_from}
+use Rattle.enet_slot.specs.Giving.{limits_of, joined_terms, offer_from, server_from}
 use Rattle.enet_slot.specs.Slot.{SlotState}
 use Rattle.enet_host.specs.Host.{Host, named}
 use Rattle.enet_host.specs.Opening as opening
 use Rattle.law_connection.specs.Steps as event
-use Rattle.law_connection.specs.Steps.{Way, leave_by}
+use Rattle.law_connection.specs.Steps.{leave_by}
 use Rattle.law_network.specs.declared.event.Side.{Side}
 use Rattle.law_network.specs.declared.event.Side.TheVariants.{A, B}
 use Rattle.law_network.specs.Alone.{LiveAlone, calls_at}
-use Rattle.law_network.specs.Beginnings.{BeginsAs, BeganBy, WasThere, Lived}
+use Rattle.law_network.specs.Beginnings.{BeganBy, Lived}
 use Rattle.law_network.specs.Calls.{Call, Series, later}
 use Rattle.law_network.specs.Calls as call
 use Rattle.law_network.specs.Common.{common_of}
@@ -34,6 +33,7 @@ use Rattle.law_network.proofs.Alone.{each-alone}
 use Rattle.law_network.proofs.Beginning.{each-beginning}
 use Rattle.law_network.proofs.Own.{of-the-host}
 use Rattle.law_network.proofs.Runs.{both}
+use Rattle.law_network.proofs.Submitting.{same-some}
 use Rattle.law_progress.proofs.Fitting.{Fits, fits-same, fits-obeyed, fits-takes, fits-went, fits-submitted, fits-left, fits-ticked, small-filled, room_of, joined-fits, asking-fits, answering-fits}
 use Rattle.law_progress.specs.Attempts.{after_take}
 use Rattle.law_progress.specs.Waits.{after_leave}
@@ -48,13 +48,10 @@ pub record Starts (P : Peering → Type 0) : Type 0 where
   pub asks : (c : Config) (now i : ℕ) (s : SlotState) (question : Question) → c.mtu ≤ 4096 → P (peers.connecting now (offer_from c i s question) (limits_of c))
   pub answers : (c : Config) (now i : ℕ) (s : SlotState) (o : Offer) → P (peers.answering now o (server_from c i s) (limits_of c))
 
-same-peer : (p q : Peering) → ◌≡◌ {A = Option Peering} (Some p) (Some q) → p ≡ q
-same-peer p q e = cc
-
 given : (P : Peering → Type 0) → Starts P → (c : Call) (h : Host) (i : ℕ) (s t : SlotState) (p : Peering) → h.config.mtu ≤ 4096 → falling.Begins c (common_of h) i s t → t.peer ≡ Some p → P p
 given P k c h i s t p low (falling.asks address channels info word is some free) has =
-    subst P (same-peer _ p has) (k.asks h.config h.clock i s (record { address = address; channels = channels; info = info; word = word }) low)
-given P k c h i s t p low (falling.answers from bytes commands header o is read nobody offer taken new free) has = subst P (same-peer _ p has) (k.answers h.config h.clock i s o)
+    subst P (same-some _ p has) (k.asks h.config h.clock i s (record { address = address; channels = channels; info = info; word = word }) low)
+given P k c h i s t p low (falling.answers from bytes commands header o is read nobody offer taken new free) has = subst P (same-some _ p has) (k.answers h.config h.clock i s o)
 
 same-mtu : (c : Call) (k : Config) → (config_by c k).mtu ≡ k.mtu
 same-mtu (call.SetBandwidth incoming outgoing (Ok done)) k = refl

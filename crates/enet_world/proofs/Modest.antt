@@ -32,6 +32,7 @@ use Rattle.law_progress.specs.Attempts.{after_take}
 use Rattle.law_progress.specs.Waits.{after_leave}
 use Rattle.enet_world.proofs.Lasting.{is_past, past-lasts}
 use Rattle.enet_world.proofs.Pings.{IsLone, Idle, is_ping, is_any, idle-lists, queued-lone, marked-lone, acknowledged-lone, answered-lone, filled-lone, connected, meets-connected}
+use Rattle.law_network.proofs.Runs.{both}
 
 abbrev pub Controlled : PeerState → Commands → Type 0
 Controlled state.Connected c = IsLone is_ping c
@@ -82,7 +83,7 @@ meets-stands p now sent m h = meets-connected IsModest p now sent m (record {
 abbrev in_state : PeerState → Peering → Peering
 in_state s p = record p { state = s }
 
-was-in : (p : Peering) (s : PeerState) → p.state ≡ s → in_state s p ≡ p
+pub was-in : (p : Peering) (s : PeerState) → p.state ≡ s → in_state s p ≡ p
 was-in p s e = ap (λ (t : PeerState). record p { state = t }) (sym e)
 
 meets-answering : (p : Peering) (now : ℕ) (sent : Option ℕ) (m : Message) → IsLone is_any p.outbox.control → IsModest (obeyed (in_state state.Answering p) now sent m).after
@@ -157,11 +158,6 @@ modest-obeyed p now sent m h = by p.state refl
     by s e = past-modest (obeyed p now sent m).after (past-lasts.comes p now sent m (ap is_past e))
 
 -- ---- time goes on
-both-so : (a b : Bool) → (a && b) ≡ true → (a ≡ true) × (b ≡ true)
-both-so true true h = (refl, refl)
-both-so true false h = absurd (let z : false ≡ true = h in cc)
-both-so false b h = absurd (let z : false ≡ true = h in cc)
-
 pinged-modest : (q : Peering) (now : ℕ) → IsModest q → IsModest (pinged q now)
 pinged-modest q now h = by (is_pinged q now) refl
   where
@@ -172,9 +168,9 @@ pinged-modest q now h = by (is_pinged q now) refl
     by : (b : Bool) → is_pinged q now ≡ b → IsModest (cond b (record q { outbox = with_control q.outbox control.Ping }) q)
     by false e = h
     by true e =
-        let first = both-so (is_connected q.state && has_nothing_reliable q.outbox) (leb q.ping_interval (elapsed_time now q.heard)) e in
-        let second = both-so (is_connected q.state) (has_nothing_reliable q.outbox) first.0 in
-        let third = both-so (controlling.is_idle q.outbox.control) (list_all has_no_reliable q.outbox.senders) second.1 in
+        let first = both (is_connected q.state && has_nothing_reliable q.outbox) (leb q.ping_interval (elapsed_time now q.heard)) e in
+        let second = both (is_connected q.state) (has_nothing_reliable q.outbox) first.0 in
+        let third = both (controlling.is_idle q.outbox.control) (list_all has_no_reliable q.outbox.senders) second.1 in
         one q.state second.0 third.0
 
 pub modest-ticked : (p : Peering) (now : ℕ) → IsModest p → IsModest (ticked p now)

@@ -1,5 +1,6 @@
 -- A moment comes to a peer whose patience isn't over: what was sent is as it was, or is due to go again.
 use Rattle.std.proofs.Common.{◌≡◌, ℕ, suc, ◌&&◌, ◌||◌, Bool, true, false, cond, List, [], ◌∷◌, map, refl, sym, ap, subst, ◌∙◌, inl, inr, Some}
+use Rattle.std.proofs.Math.Bool.{and-false}
 use Rattle.std.specs.List.{list_any, slice_get}
 use Rattle.enet_rtt.specs.Transmission as transmission
 use Rattle.enet_rtt.specs.Expiry.{gives_up, standard_patience}
@@ -26,17 +27,13 @@ any-none : {X : Type 0} (f : X → Bool) (xs : List X) → ((x : X) → Has xs x
 any-none f [] h = refl
 any-none f (x ∷ xs) h = (let own = h x (inl refl) in let rest = any-none f xs (λ y k. h y (inr k)) in (λ i. own i || rest i))
 
-and-false : (b : Bool) → (b && false) ≡ false
-and-false true = refl
-and-false false = refl
-
 ends-not : (now heard : ℕ) (patience : Patience) (t : Transmission) → patience ≡ standard_patience → gives_up standard_patience now heard t ≡ false → transmission.ends now patience heard t ≡ false
 ends-not now heard patience t is lasts = ap (λ (x : Patience). transmission.ends now x heard t) is ∙ ap (λ b. transmission.is_late now t && b) lasts ∙ and-false (transmission.is_late now t)
 
-pub has-place : (xs : List SendingEnd) (s : SendingEnd) → Has xs s → (i : ℕ) × (slice_get xs i ≡ Some s)
-has-place [] s h = absurd h
-has-place (x ∷ xs) s (inl e) = (0, ap Some e)
-has-place (x ∷ xs) s (inr h) = (let k = has-place xs s h in (suc k.0, k.1))
+pub has-place : {X : Type 0} (xs : List X) (x : X) → Has xs x → (i : ℕ) × (slice_get xs i ≡ Some x)
+has-place [] x h = absurd h
+has-place (y ∷ ys) x (inl e) = (0, ap Some e)
+has-place (y ∷ ys) x (inr h) = (let k = has-place ys x h in (suc k.0, k.1))
 
 -- by none of what was sent
 pub outlasts : (p : Peering) (now : ℕ) → p.patience ≡ standard_patience → ((t : SentControl) → Has p.outbox.control.sent t → gives_up standard_patience now p.heard t.transmission ≡ false)
@@ -68,7 +65,7 @@ sent-marked bound now xs channel t h =
     let k = Has-mapped (sender.marked bound now) m.0.sender.sent t (subst (λ (y : SendingEnd). Has y.sender.sent t) (sym m.2) h.2) in
     (k.0, (m.0, m.1, k.1), k.2)
 
-unmarked : (now : ℕ) (t : Transmission) → transmission.is_late now t ≡ false → transmission.marked 0 now t ≡ t
+pub unmarked : (now : ℕ) (t : Transmission) → transmission.is_late now t ≡ false → transmission.marked 0 now t ≡ t
 unmarked now t e = ap (λ b. cond b (record t { timeout = transmission.grown_time 0 t.timeout; due = true }) t) e
 
 pub waited : (p : Peering) (now : ℕ) → has_ended p.outbox now p.patience p.heard ≡ false → Waited now p (ticked p now)

@@ -1,5 +1,5 @@
 -- Only a client that asks has a CONNECT to send.
-use Rattle.std.proofs.Common.{◌≡◌, ℕ, zero, suc, ◌==◌, ◌⊎◌, inl, inr, Bool, true, false, cond, List, [], ◌∷◌, ◌++◌, map, refl, sym, ap, subst, ◌∙◌, Option, Some, None, slice_get, slice_set}
+use Rattle.std.proofs.Common.{◌≡◌, ℕ, ◌==◌, ◌⊎◌, inl, inr, Bool, true, false, cond, List, [], ◌∷◌, ◌++◌, refl, sym, ap, subst, ◌∙◌, Option, Some, None, slice_get, slice_set}
 use Rattle.std.specs.List.{position}
 use Rattle.enet_codec.specs.declared.command.Fragment.{Fragment}
 use Rattle.enet_codec.specs.declared.command.Offer.{Offer}
@@ -28,6 +28,7 @@ use Rattle.law_connection.proofs.Emits.{Has-from_map}
 use Rattle.law_connection.proofs.PeerChanges.{Core, Changes, is_offer}
 use Rattle.law_progress.proofs.Waiting.{Has-set, Has-removed}
 use Rattle.enet_world.proofs.Lasting.{Lasts, changes-last}
+use Rattle.law_network.proofs.Submitting.{same-some}
 
 -- no CONNECT is queued or sent of channel 0xFF
 pub record NoOffers (c : Commands) : Type 0 where
@@ -51,9 +52,6 @@ sent-more : (b : Bool) (sent : List SentControl) (s : SentControl) → is_offer 
 sent-more true sent s plain old x h = elim (Has-push_cases sent s x h) [ inl k ↦ old x k | inr e ↦ subst (λ (y : SentControl). is_offer y.command.control ≡ false) e plain ]
 sent-more false sent s plain old x h = old x h
 
-some-next : (x n : Next) → Some x ≡ Some n → x ≡ n
-some-next x n e = cc
-
 abbrev GoesPlain : Next → Type 0
 GoesPlain n = NoOffers n.commands × (is_offer n.command.control ≡ false)
 
@@ -68,7 +66,7 @@ queue-plain now timeout c (m ∷ rest) n is e a = by (is_in_span c.sent m.number
     all = subst (λ (l : List Numbered). (x : Numbered) → Has l x → is_offer x.control ≡ false) is a.queued
 
     by : (b : Bool) → cond b (Some made) None ≡ Some n → GoesPlain n
-    by true f = subst (λ (x : Next). NoOffers x.commands × (is_offer x.command.control ≡ false)) (some-next made n f)
+    by true f = subst (λ (x : Next). NoOffers x.commands × (is_offer x.command.control ≡ false)) (same-some made n f)
         (record { queued = λ x h. all x (inr h); sent = sent-more (is_reliable m.control) c.sent (begun now timeout m) (all m (inl refl)) a.sent }, all m (inl refl))
     by false f = absurd (let y : None ≡ Some n = f in cc)
 
@@ -76,7 +74,7 @@ resent-plain : (now : ℕ) (c : Commands) (i : ℕ) (o : Option SentControl) (n 
 resent-plain now c i None n is e a = absurd (let y : None ≡ Some n = e in cc)
 resent-plain now c i (Some p) n is e a =
     let plain : is_offer p.command.control ≡ false = a.sent p (Has-slice_get c.sent i p is) in
-    subst (λ (x : Next). NoOffers x.commands × (is_offer x.command.control ≡ false)) (some-next (record { command = p.command; commands = record c { sent = slice_set c.sent i (again now p) } }) n e)
+    subst (λ (x : Next). NoOffers x.commands × (is_offer x.command.control ≡ false)) (same-some (record { command = p.command; commands = record c { sent = slice_set c.sent i (again now p) } }) n e)
     (record { queued = a.queued; sent = λ x h. elim (Has-set c.sent i (again now p) x h) [ inl f ↦ subst (λ (y : SentControl). is_offer y.command.control ≡ false) f plain | inr k ↦ a.sent x k ] }, plain)
 
 next-plain : (now timeout : ℕ) (c : Commands) (n : Next) → next now timeout c ≡ Some n → NoOffers c → GoesPlain n

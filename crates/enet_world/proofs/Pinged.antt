@@ -5,7 +5,6 @@ use Rattle.enet_codec.specs.Message.{Message}
 use Rattle.enet_codec.specs.declared.stop.Stop.{Stop}
 use Rattle.enet_codec.specs.declared.stop.Stop.TheVariants as stop
 use Rattle.enet_senders.specs.Controlling as controlling
-use Rattle.enet_senders.specs.Controlling.{Commands}
 use Rattle.enet_senders.specs.declared.control.Control.{Control}
 use Rattle.enet_senders.specs.declared.control.Control.TheVariants as control
 use Rattle.enet_senders.specs.declared.control.Numbered.{Numbered}

@@ -1,7 +1,8 @@
 -- At most one command of channel 0xFF is queued or sent, and while the connection stands that is a PING: what each thing that happens at a
 -- peer makes of it.
-use Rattle.std.proofs.Common.{◌≡◌, ℕ, zero, suc, ◌≤◌, ◌&&◌, ◌==◌, Bool, true, false, cond, List, [], ◌∷◌, ◌++◌, length, map, refl, sym, ap, subst, ◌∙◌, inl, inr, ◌⊎◌, arith, Option, Some, None, Result, Ok, Err, is_some}
+use Rattle.std.proofs.Common.{◌≡◌, ℕ, zero, suc, ◌&&◌, ◌==◌, Bool, true, false, cond, List, [], ◌∷◌, ◌++◌, length, map, refl, sym, ap, subst, ◌∙◌, inl, inr, ◌⊎◌, arith, Option, Some, None, Result, Ok, Err, is_some}
 use Rattle.std.proofs.lemmas.Bool.Decides.{nat_tests}
+use Rattle.std.proofs.lemmas.List.{nil_from_length}
 use Rattle.std.specs.List.{slice_get, slice_set, remove}
 use Rattle.enet_codec.specs.Message.{Message, Body, acknowledge, connect, verify_connect, disconnect, ping, send_reliable, send_unreliable, send_fragment, send_unsequenced, send_unreliable_fragment, bandwidth_limit, throttle_configure}
 use Rattle.enet_codec.specs.declared.stop.Stop.{Stop}
@@ -19,7 +20,7 @@ use Rattle.enet_outbox.specs.declared.parts.Acknowledgement.{Acknowledgement}
 use Rattle.enet_outbox.specs.declared.parts.Matched.{Matched}
 use Rattle.enet_outbox.specs.declared.parts.Matched.TheVariants as matched
 use Rattle.enet_outbox.specs.declared.parts.Pace.{Pace}
-use Rattle.enet_outbox.specs.Outbox.{Outbox, matched_by, with_acknowledgement, with_control, has_nothing_reliable, has_no_reliable, lateness}
+use Rattle.enet_outbox.specs.Outbox.{Outbox, matched_by, with_acknowledgement}
 use Rattle.enet_outbox.specs.Outbox as outbox
 use Rattle.enet_outbox.specs.Emission.{filled}
 use Rattle.enet_outbox.proofs.Filled.{by-filling}
@@ -29,6 +30,7 @@ use Rattle.enet_peer.specs.Peering.{Peering}
 use Rattle.enet_peer.specs.CommandEffect.{obeyed, unless_crowded_out, stopped, is_allowed, is_connect, by_body, by_answer, by_arrival, answered, answered_at, is_answered_in, on_acknowledge, on_match, acknowledged, on_last_disconnect, on_disconnect_in, on_bandwidth, on_throttle}
 use Rattle.enet_peer.proofs.Obeying.{unless-holds}
 use Rattle.law_progress.proofs.Controls.{GoesControl, Heads, Repeats, goes-control}
+use Rattle.law_network.proofs.Submitting.{same-some}
 
 -- ---- channel 0xFF
 -- at most one command is queued or sent, which is such a one
@@ -43,9 +45,6 @@ is_ping _ = false
 
 abbrev pub is_any : Control → Bool
 is_any c = true
-
-same-some : {X : Type 0} (x y : X) → ◌≡◌ {A = Option X} (Some x) (Some y) → x ≡ y
-same-some x y e = cc
 
 -- it goes, or goes again
 abbrev pub GoesLone : (Control → Bool) → controlling.Next → Type 0
@@ -93,15 +92,11 @@ marked-lone f bound now c (Sent t ok a b) = Sent (controlling.marked bound now t
 pub queued-lone : (f : Control → Bool) (c : Commands) (what : Control) → f what ≡ true → c.queued ≡ [] → c.sent ≡ [] → IsLone f (controlling.with_queued c what)
 queued-lone f c what ok a b = Queued (record { number = (controlling.with_queued c what).number; control = what }) ok (ap (λ (l : List Numbered). l ++ (record { number = (controlling.with_queued c what).number; control = what }) ∷ []) a) b
 
-empty : {X : Type 0} (l : List X) → length l ≤ 0 → l ≡ []
-empty [] h = refl
-empty (y ∷ l) h = absurd (let z : suc (length l) ≤ 0 = h in omega arith)
-
-both-none : (m n : ℕ) → (m == 0 && n == 0) ≡ true → (m ≤ 0) × (n ≤ 0)
+both-none : (m n : ℕ) → (m == 0 && n == 0) ≡ true → (m ≡ 0) × (n ≡ 0)
 both-none m n e = (grind (arith, nat_tests), grind (arith, nat_tests))
 
 pub idle-lists : (c : Commands) → controlling.is_idle c ≡ true → (c.queued ≡ []) × (c.sent ≡ [])
-idle-lists c e = (let z = both-none (length c.queued) (length c.sent) e in (empty c.queued z.0, empty c.sent z.1))
+idle-lists c e = (let z = both-none (length c.queued) (length c.sent) e in (nil_from_length c.queued z.0, nil_from_length c.sent z.1))
 
 -- one is gone
 one-removed : (i : ℕ) (t : SentControl) → (remove (t ∷ []) i ≡ t ∷ []) ⊎ (remove (t ∷ []) i ≡ [])

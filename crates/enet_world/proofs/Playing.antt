@@ -1,13 +1,12 @@
 -- Each list that was played is that of a run; each front of it has the page, and a connection keeps its name.
 use Rattle.std.proofs.Common.{◌≡◌, ◌≤◌, ◌&&◌, ℕ, zero, suc, Bool, true, false, List, [], ◌∷◌, ◌++◌, take, refl, sym, ap, subst, ◌∙◌, arith, Option, Some, None, Result, Ok, Err, IfOk, slice_get}
-use Rattle.std.specs.Prelude.{zip, flat_map}
+use Rattle.std.specs.Prelude.{zip}
 use Rattle.std.proofs.lemmas.Grind.{flat_map-append}
 use Rattle.enet_codec.specs.declared.config.Config.{Config}
 use Rattle.enet_codec.specs.declared.event.PeerRef.{PeerRef}
 use Rattle.enet_codec.specs.declared.refusal.Refusal.{Refusal}
 use Rattle.enet_codec.specs.declared.refusal.Refusal.TheVariants.{BadConfig}
 use Rattle.enet_codec.specs.Config.{is_in_range}
-use Rattle.law_connection.specs.LinkSteps.{Has}
 use Rattle.law_network.specs.declared.event.Answer.{Answer}
 use Rattle.law_network.specs.declared.event.Side.{Side}
 use Rattle.law_network.specs.declared.event.WorldEvent.{WorldEvent}

@@ -1,6 +1,5 @@
 -- Whatever was sent is due to go again, or its timeout isn't over: at each peer, however long ago it was sent.
 use Rattle.std.proofs.Common.{◌≡◌, ℕ, ◌^◌, ◌<◌, ◌≤◌, ◌&&◌, not, leb, Bool, true, false, cond, List, map, refl, sym, ap, subst, ◌∙◌, inl, inr, ◌⊎◌, arith}
-use Rattle.std.proofs.lemmas.Bool.Decides.{nat_tests}
 use Rattle.std.specs.List.{list_any}
 use Rattle.enet_rtt.specs.Clock.{elapsed_time}
 use Rattle.enet_rtt.specs.Timing.{timeout}
@@ -24,12 +23,14 @@ use Rattle.enet_peer.specs.Endings.{cut_off_in}
 use Rattle.enet_peer.specs.Calls.{pace_of, gone_on_in, ticked, pinged, is_pinged, after_timeouts_by, growth_bound}
 use Rattle.law_progress.proofs.Ageing.{most}
 use Rattle.law_progress.proofs.Waiting.{Fair, Sends, each-filled, fair-went, none-of, or-both, Has-mapped}
+use Rattle.law_progress.proofs.Timed.{lt-of}
+use Rattle.enet_world.proofs.Moments.{unmarked}
 
 -- at this moment a sent command is due to go again, or its timeout isn't over
 abbrev pub Rests : ℕ → Transmission → Type 0
 Rests now t = (t.due ≡ true) ⊎ ((t.last < 2 ^ 32) × (elapsed_time now t.last ≤ t.timeout))
 
-no-time : (now : ℕ) → elapsed_time now now ≡ 0
+pub no-time : (now : ℕ) → elapsed_time now now ≡ 0
 no-time now = omega arith
 
 rests-now : (now wait : ℕ) → now < 2 ^ 32 → (now < 2 ^ 32) × (elapsed_time now now ≤ wait)
@@ -45,13 +46,10 @@ rests-marked bound now t k = by t.due refl (leb t.timeout (elapsed_time now t.la
     same : transmission.is_late now t ≡ false → Rests now t → Rests now (transmission.marked bound now t)
     same e r = subst (λ b. Rests now (cond b grows t)) (sym e) r
 
-    below : (m n : ℕ) → leb m n ≡ false → n ≤ m
-    below m n e = grind (arith, nat_tests)
-
     by : (due : Bool) → t.due ≡ due → (late : Bool) → leb t.timeout (elapsed_time now t.last) ≡ late → (t.due ≡ true) ⊎ (t.last < 2 ^ 32) → Rests now (transmission.marked bound now t)
     by true e late f j = same (ap (λ b. not b && leb t.timeout (elapsed_time now t.last)) e) (inl e)
     by false e false f (inl due) = absurd (let z : true ≡ false = sym due ∙ e in cc)
-    by false e false f (inr low) = same (λ i. not (e i) && f i) (inr (low, below t.timeout (elapsed_time now t.last) f))
+    by false e false f (inr low) = same (λ i. not (e i) && f i) (inr (low, (let z = lt-of t.timeout (elapsed_time now t.last) f in omega arith)))
     by false e true f j = subst (λ b. Rests now (cond b grows t)) (sym (λ i. not (e i) && f i)) (inl refl)
 
 dated : (now : ℕ) (t : Transmission) → Rests now t → (t.due ≡ true) ⊎ (t.last < 2 ^ 32)
@@ -80,15 +78,12 @@ rests-ticked now next p h = go (has_ended p.outbox next p.patience p.heard) (has
     )
 
     -- nothing is late: all stays as it was
-    same : (t : Transmission) → transmission.is_late next t ≡ false → transmission.marked 0 next t ≡ t
-    same t e = ap (λ b. cond b (record t { timeout = transmission.grown_time 0 t.timeout; due = true }) t) e
-
     stays : has_late p.outbox next ≡ false → Fair (Rests next) most p
     stays f = (let both = or-both (list_any (controlling.is_late next) p.outbox.control.sent) _ f in (
       (
-        (λ t k. subst (λ (x : Transmission). Rests next x) (same t.transmission (none-of (controlling.is_late next) p.outbox.control.sent t both.0 k)) (goes 0 t.transmission (h.0.0 t k))),
+        (λ t k. subst (λ (x : Transmission). Rests next x) (unmarked next t.transmission (none-of (controlling.is_late next) p.outbox.control.sent t both.0 k)) (goes 0 t.transmission (h.0.0 t k))),
         (λ s k t j. subst (λ (x : Transmission). Rests next x)
-            (same t.transmission (none-of (sender.is_late next) s.sender.sent t (none-of (λ (x : SendingEnd). list_any (sender.is_late next) x.sender.sent) p.outbox.senders s both.1 k) j))
+            (unmarked next t.transmission (none-of (sender.is_late next) s.sender.sent t (none-of (λ (x : SendingEnd). list_any (sender.is_late next) x.sender.sent) p.outbox.senders s both.1 k) j))
             (goes 0 t.transmission (h.0.1 s k t j))),
       ),
       h.1,

@@ -13,6 +13,7 @@ use Rattle.law_network.specs.declared.event.Side.{Side}
 use Rattle.law_network.specs.declared.event.Side.TheVariants.{A, B}
 use Rattle.law_network.specs.Network.{HostEnd}
 use Rattle.law_network.specs.World.{World, site_of}
+use Rattle.law_network.proofs.Runs.{both}
 use Rattle.law_progress.proofs.Exchanges.{same-peer}
 use Rattle.law_progress.proofs.Waiting.{Each}
 use Rattle.enet_site.specs.Standing.{peer_at, state_at}
@@ -28,7 +29,7 @@ use Rattle.enet_world.proofs.Habits.{Habits, rests-at}
 use Rattle.enet_world.proofs.InRounds.{clock_at, named-up, habit-up, lone-up}
 use Rattle.enet_world.proofs.Punctual.{Rests}
 use Rattle.enet_world.proofs.Steady.{IsPlain, Ready, one-lasts, two-lasts, ready-first, ReadyAgain, steady-round}
-use Rattle.enet_world.proofs.Through.{Smooth, smooth-so, smooth-parts, both-so, AtMoment, at-moment-on, Rounded, round-goes-on, round-clocks, habits-rounds, reached-rounds, IsConnected, connected-at, Begun, begun, shown-end-of, kept-round, reached-round}
+use Rattle.enet_world.proofs.Through.{Smooth, smooth-so, smooth-parts, AtMoment, at-moment-on, Rounded, round-goes-on, round-clocks, habits-rounds, reached-rounds, IsConnected, connected-at, Begun, begun, shown-end-of, kept-round, reached-round}
 use Rattle.enet_world.proofs.TwoEnds.{from_start, sound, host-at, Up, up-swapped}
 
 -- ---- rounds
@@ -139,7 +140,7 @@ pub both-stand : (joined : Bool) (ms rounds : ℕ) (old new : World) → IsReach
 both-stand joined ms rounds old new r habits x before brief young all side = still side
   where
     parts : (is_smooth all.before.a ≡ true) × (is_smooth all.before.b ≡ true)
-    parts = both-so (is_smooth all.before.a) (is_smooth all.before.b) all.smooth
+    parts = both (is_smooth all.before.a) (is_smooth all.before.b) all.smooth
 
     here : IsConnected old.a x
     here = connected-at old.a x before.0

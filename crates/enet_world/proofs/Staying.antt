@@ -1,5 +1,5 @@
 -- While both ends are connected, no DISCONNECT goes: a connected peer has none to send, and by no other command it ceases to be connected.
-use Rattle.std.proofs.Common.{◌≡◌, ℕ, Bool, true, false, List, [], ◌∷◌, ◌++◌, map, sym, ap, subst, ◌∙◌, inl, inr, Option, Some, None}
+use Rattle.std.proofs.Common.{◌≡◌, ℕ, Bool, true, false, List, [], ◌∷◌, ◌++◌, append-nil, map, refl, sym, ap, subst, ◌∙◌, inl, inr, Option, Some, None}
 use Rattle.enet_codec.specs.declared.command.Fragment.{Fragment}
 use Rattle.enet_codec.specs.Message.{Message, disconnect}
 use Rattle.enet_senders.specs.declared.control.Control.{Control}
@@ -72,12 +72,10 @@ filled-said pace b lone = let a = all in a.messages
       drops_data = λ f k s n t there due kind a. record { control = a.control; messages = a.messages };
     }) (record { control = lone; messages = λ m info h. absurd h })
 
--- so none is among what its end puts out
-pub puts-none-ends : (now : ℕ) (own far new : End) (p : Peering) (puts : List Put) → own.peer ≡ Some p → IsLone is_ping p.outbox.control → Happens own far (Emit now) new → new.log ≡ own.log ++ puts
-    → (x : Put) (info : ℕ) → Has puts x → x.message.body ≡ disconnect info → ⊥
-puts-none-ends now own far new p puts is lone h logged x info has says =
-    let m = Has-from_map put ms x (subst (λ (l : List Put). Has l x) puts-are has) in
-    filled-said (pace_of p now) p.outbox lone m.0 info m.1 (ap (λ (y : Put). y.message.body) m.2 ∙ says)
+-- what an end puts out is what its peer has to send
+puts-are : (now : ℕ) (own far new : End) (p : Peering) (puts : List Put) → own.peer ≡ Some p → Happens own far (Emit now) new → new.log ≡ own.log ++ puts
+    → (put : Message → Put) × (puts ≡ map put (filled (pace_of p now) p.outbox).messages) × ((m : Message) → (put m).message ≡ m)
+puts-are now own far new p puts is h logged = (put, append_cancel_left own.log puts (map put ms) (sym logged ∙ ap (λ (e : End). e.log) after), λ m. refl)
   where
     ms : List Message
     ms = (filled (pace_of p now) p.outbox).messages
@@ -88,8 +86,25 @@ puts-none-ends now own far new p puts is lone h logged x info has says =
     after : new ≡ with_emission own far p now
     after = subst (λ (y : Peering). new ≡ with_emission own far y now) (same-peer own h.0 p h.1 is) h.2
 
-    puts-are : puts ≡ map put ms
-    puts-are = append_cancel_left own.log puts (map put ms) (sym logged ∙ ap (λ (e : End). e.log) after)
+pub was-filled : (now : ℕ) (own far new : End) (p : Peering) (puts : List Put) → own.peer ≡ Some p → Happens own far (Emit now) new → new.log ≡ own.log ++ puts → (x : Put) → Has puts x → Has (filled (pace_of p now) p.outbox).messages x.message
+was-filled now own far new p puts is h logged x has =
+    let all = puts-are now own far new p puts is h logged in
+    let m = Has-from_map all.0 (filled (pace_of p now) p.outbox).messages x (subst (λ (l : List Put). Has l x) all.1 has) in
+    subst (λ (y : Message). Has (filled (pace_of p now) p.outbox).messages y) (sym (all.2 m.0) ∙ ap (λ (y : Put). y.message) m.2) m.1
+
+pub none-filled : (now : ℕ) (own far new : End) (p : Peering) → own.peer ≡ Some p → Happens own far (Emit now) new → new.log ≡ own.log → (filled (pace_of p now) p.outbox).messages ≡ []
+none-filled now own far new p is h same =
+    let all = puts-are now own far new p [] is h (same ∙ sym (append-nil own.log)) in
+    none-put all.0 (filled (pace_of p now) p.outbox).messages (sym all.1)
+  where
+    none-put : (f : Message → Put) (ms : List Message) → map f ms ≡ [] → ms ≡ []
+    none-put f [] e = refl
+    none-put f (m ∷ ms) e = absurd (cc)
+
+-- so none is among what its end puts out
+pub puts-none-ends : (now : ℕ) (own far new : End) (p : Peering) (puts : List Put) → own.peer ≡ Some p → IsLone is_ping p.outbox.control → Happens own far (Emit now) new → new.log ≡ own.log ++ puts
+    → (x : Put) (info : ℕ) → Has puts x → x.message.body ≡ disconnect info → ⊥
+puts-none-ends now own far new p puts is lone h logged x info has says = filled-said (pace_of p now) p.outbox lone x.message info (was-filled now own far new p puts is h logged x has) says
 
 -- and it is connected then
 pub emits-on : (now : ℕ) (own far new : End) (p : Peering) → own.peer ≡ Some p → p.state ≡ state.Connected → Happens own far (Emit now) new → new.peer ≡ Some (put_out p now)

@@ -23,11 +23,14 @@ use Rattle.enet_outbox.specs.Outbox as outbox
 use Rattle.enet_outbox.specs.Emission.{filled}
 use Rattle.enet_outbox.proofs.Filled.{by-filling}
 use Rattle.law_connection.proofs.Runs.{and-left, and-right}
+use Rattle.law_connection.proofs.Lists.{Has-push}
+use Rattle.law_connection.proofs.CarriageLemmas.{Has-append_left}
 use Rattle.law_progress.specs.Outboxes.{WaitsForSome}
 use Rattle.law_progress.proofs.PutsOut.{found-passes}
 use Rattle.law_progress.proofs.Spent.{Goes, First, Again, goes-of}
 use Rattle.law_progress.proofs.Trips.{Has-map}
 use Rattle.law_progress.proofs.Waiting.{Each}
+use Rattle.law_network.proofs.Submitting.{same-some}
 
 -- ---- lists that changed in one place
 set-keeps : {X : Type 0} (xs : List X) (i : ℕ) (y x : X) → Has xs x → Has (slice_set xs i y) x ⊎ (slice_get xs i ≡ Some x)
@@ -42,21 +45,9 @@ set-has [] i y x e = absurd (cc)
 set-has (z ∷ zs) zero y x e = inl refl
 set-has (z ∷ zs) (suc i) y x e = inr (set-has zs i y x e)
 
-has-more : {X : Type 0} (xs ys : List X) (x : X) → Has xs x → Has (xs ++ ys) x
-has-more [] ys x h = absurd h
-has-more (z ∷ zs) ys x (inl e) = inl e
-has-more (z ∷ zs) ys x (inr h) = inr (has-more zs ys x h)
-
-has-last : {X : Type 0} (xs : List X) (x : X) → Has (xs ++ x ∷ []) x
-has-last [] x = inl refl
-has-last (z ∷ zs) x = inr (has-last zs x)
-
 pushed-if : {X : Type 0} (b : Bool) (xs : List X) (y x : X) → Has xs x → Has (cond b (xs ++ y ∷ []) xs) x
-pushed-if true xs y x h = has-more xs (y ∷ []) x h
+pushed-if true xs y x h = Has-append_left xs (y ∷ []) x h
 pushed-if false xs y x h = h
-
-one-is : {X : Type 0} (x y : X) → ◌≡◌ {A = Option X} (Some x) (Some y) → x ≡ y
-one-is x y e = cc
 
 -- ---- something that was sent waits, of which this holds
 abbrev SomeControl : (Transmission → Type 0) → List SentControl → Type 0
@@ -79,7 +70,7 @@ control-next : (R : Transmission → Type 0) (now wait : ℕ) (c : Commands) (n 
 control-next R now wait c n again e (t, h, r) = go (position (λ (p : SentControl). p.transmission.due) c.sent) refl e
   where
     after : (u : controlling.Next) → ◌≡◌ {A = Option controlling.Next} (Some u) (Some n) → SomeControl R u.commands.sent → SomeControl R n.commands.sent
-    after u k x = subst (λ (v : controlling.Next). SomeControl R v.commands.sent) (one-is u n k) x
+    after u k x = subst (λ (v : controlling.Next). SomeControl R v.commands.sent) (same-some u n k) x
 
     from_queue : (q : List Numbered) → controlling.next_queued now wait c q ≡ Some n → SomeControl R n.commands.sent
     from_queue [] k = absurd (cc)
@@ -100,7 +91,7 @@ control-next R now wait c n again e (t, h, r) = go (position (λ (p : SentContro
           | inr here ↦ (
             controlling.again now p,
             set-has c.sent i (controlling.again now p) p there,
-            again p.transmission (subst (λ (y : SentControl). R y.transmission) (one-is t p (sym here ∙ there)) r) (found-passes (λ (q : SentControl). q.transmission.due) c.sent i p w there),
+            again p.transmission (subst (λ (y : SentControl). R y.transmission) (same-some t p (sym here ∙ there)) r) (found-passes (λ (q : SentControl). q.transmission.due) c.sent i p w there),
           )
         ])
 
@@ -115,13 +106,13 @@ data-next R o s n again e (t, h, r) = by (goes-of o s n e)
     by (First c rest q may is) = subst (λ (x : Next). SomeData R x.sender.sent) is (t, pushed-if c.reliable s.sent (sender.begun o.now o.timeout c) t h, r)
     by (Again i p there due is) = subst (λ (x : Next). SomeData R x.sender.sent) is (elim (set-keeps s.sent i (sender.again o.now p) t h) [
       | inl kept ↦ (t, kept, r)
-      | inr here ↦ (sender.again o.now p, set-has s.sent i (sender.again o.now p) p there, again p.transmission (subst (λ (y : Sent). R y.transmission) (one-is t p (sym here ∙ there)) r) due)
+      | inr here ↦ (sender.again o.now p, set-has s.sent i (sender.again o.now p) p there, again p.transmission (subst (λ (y : Sent). R y.transmission) (same-some t p (sym here ∙ there)) r) due)
     ])
 
 end-set : (R : Transmission → Type 0) (xs : List SendingEnd) (k : ℕ) (s : SendingEnd) (new : Sender) → slice_get xs k ≡ Some s → (SomeData R s.sender.sent → SomeData R new.sent) → SomeEnd R xs → SomeEnd R (slice_set xs k (record s { sender = new }))
 end-set R xs k s new there own (x, h, some) = elim (set-keeps xs k (record s { sender = new }) x h) [
   | inl kept ↦ (x, kept, some)
-  | inr here ↦ (record s { sender = new }, set-has xs k (record s { sender = new }) s there, own (subst (λ (y : SendingEnd). SomeData R y.sender.sent) (one-is x s (sym here ∙ there)) some))
+  | inr here ↦ (record s { sender = new }, set-has xs k (record s { sender = new }) s there, own (subst (λ (y : SendingEnd). SomeData R y.sender.sent) (same-some x s (sym here ∙ there)) some))
 ]
 
 -- a datagram is filled
@@ -164,13 +155,13 @@ abbrev pub HasControl : Commands → Type 0
 HasControl c = ((n : Numbered) × Has c.queued n × (controlling.is_reliable n.control ≡ true)) ⊎ ((t : SentControl) × Has c.sent t)
 
 pub has-queued : (c : Commands) (what : Control) → controlling.is_reliable what ≡ true → HasControl (controlling.with_queued c what)
-has-queued c what reliable = inl (record { number = (controlling.with_queued c what).number; control = what }, has-last c.queued (record { number = (controlling.with_queued c what).number; control = what }), reliable)
+has-queued c what reliable = inl (record { number = (controlling.with_queued c what).number; control = what }, Has-push c.queued (record { number = (controlling.with_queued c what).number; control = what }), reliable)
 
 stays-controlled : (now wait : ℕ) (c : Commands) (n : controlling.Next) → controlling.next now wait c ≡ Some n → HasControl c → HasControl n.commands
 stays-controlled now wait c n e has = go (position (λ (p : SentControl). p.transmission.due) c.sent) e
   where
     after : (u : controlling.Next) → ◌≡◌ {A = Option controlling.Next} (Some u) (Some n) → HasControl u.commands → HasControl n.commands
-    after u k x = subst (λ (v : controlling.Next). HasControl v.commands) (one-is u n k) x
+    after u k x = subst (λ (v : controlling.Next). HasControl v.commands) (same-some u n k) x
 
     from_queue : (q : List Numbered) → c.queued ≡ q → controlling.next_queued now wait c q ≡ Some n → HasControl n.commands
     from_queue [] is k = absurd (cc)
@@ -180,7 +171,7 @@ stays-controlled now wait c n e has = go (position (λ (p : SentControl). p.tran
         u = record { command = x; commands = record c { queued = rest; sent = cond (controlling.is_reliable x.control) (c.sent ++ controlling.begun now wait x ∷ []) c.sent } }
 
         goes : (b : Bool) → b ≡ true → Has (cond b (c.sent ++ controlling.begun now wait x ∷ []) c.sent) (controlling.begun now wait x)
-        goes true r = has-last c.sent (controlling.begun now wait x)
+        goes true r = Has-push c.sent (controlling.begun now wait x)
         goes false r = absurd (cc)
 
         left : (m : Numbered) → controlling.is_reliable m.control ≡ true → Has (x ∷ rest) m → HasControl u.commands

@@ -38,7 +38,7 @@ use Rattle.law_network.specs.World.{World, HappensAt, Steps, site_of, other}
 use Rattle.law_network.proofs.Agreed.{same-peer}
 use Rattle.law_network.proofs.Delivering.{end-there}
 use Rattle.law_network.proofs.Own.{of-the-host}
-use Rattle.law_network.proofs.Runs.{Sound}
+use Rattle.law_network.proofs.Runs.{Sound, both as both-so}
 use Rattle.law_network.proofs.Submitting.{same-some}
 use Rattle.law_network.proofs.Worlds.{IsHost, KeptEither, Pair, acts-of}
 use Rattle.law_progress.specs.Exchanges.{IsOpen, BothThrough, IsThrough, AllOver, outstanding_over}
@@ -47,6 +47,7 @@ use Rattle.law_progress.specs.Links.{AllDispatched}
 use Rattle.law_progress.proofs.Exchanges.{Joint, joint-swap}
 use Rattle.law_progress.proofs.Fitting.{all-fits}
 use Rattle.law_progress.proofs.InTurn.{all-in-turn}
+use Rattle.law_progress.proofs.Waiting.{or-both}
 use Rattle.law_headline.specs.Page.{came}
 use Rattle.enet_site.specs.Standing.{peer_at, state_at}
 use Rattle.enet_world.specs.declared.calm.Calm.{Calm}
@@ -56,7 +57,7 @@ use Rattle.enet_world.specs.Progress.{clock_by_rounds, AllCame, WasTaken, GetsTh
 use Rattle.enet_world.specs.Private.Worlds.{IsReached}
 use Rattle.enet_world.proofs.Delivering.{standing}
 use Rattle.enet_world.proofs.Habits.{Habits, habits-step}
-use Rattle.enet_world.proofs.InRounds.{clock_at, StandStill, Keeps, kept-out, kept-taken, still-keeps, reached-keeps, habits-keeps, lost-keeps, IsLost, lost-step, Ticked, ticked, ticked-on, PutsOutAll, puts-all-out, TakesOut, takes-all, IsEmpty, named-up}
+use Rattle.enet_world.proofs.InRounds.{clock_at, StandStill, Keeps, kept-out, kept-taken, still-keeps, reached-keeps, habits-keeps, lost-keeps, IsLost, lost-step, Ticked, ticked, ticked-on, PutsOutAll, puts-all-out, TakesOut, takes-all, IsEmpty, named-up, no-more}
 use Rattle.enet_world.proofs.Lasting.{is_past, not-past}
 use Rattle.enet_world.proofs.Living.{named-fits}
 use Rattle.enet_world.proofs.Reaching.{reached-step}
@@ -145,9 +146,6 @@ lost-round joined x ms told w v d h =
 
 patient : (joined : Bool) (w : World) (x : ℕ) (side : Side) (own far : End) (u : Up joined w x side own far) → (p : Peering) → own.peer ≡ Some p → p.state ≡ state.Connected
 patient joined w x side own far u p is = ap (λ (y : Peering). y.state) (same-some p u.p (sym is ∙ u.is_p)) ∙ u.on_p
-
-parts : (m n k : ℕ) → k ≡ 0 → k ≡ m + n → (m ≡ 0) × (n ≡ 0)
-parts m n k none all = (omega arith, omega arith)
 
 -- both clocks went on, and both ends are connected still
 pub record AtMoment (joined : Bool) (v : World) (x now there : ℕ) (own far : End) : Type 0 where
@@ -249,10 +247,10 @@ round-goes-on joined ms told w v x own far r habits d a b m = record {
     kept = along Habits habits-keeps ms told w v d (habits-ticked ms told w v d habits)
 
     cuts_a : (d.cut_forth ≡ 0) × (d.cut_a ≡ 0)
-    cuts_a = parts d.cut_forth d.cut_a told.a.cut_short a.cut d.all_a
+    cuts_a = no-more d.cut_forth d.cut_a told.a.cut_short a.cut d.all_a
 
     cuts_b : (d.cut_back ≡ 0) × (d.cut_b ≡ 0)
-    cuts_b = parts d.cut_back d.cut_b told.b.cut_short b.cut d.all_b
+    cuts_b = no-more d.cut_back d.cut_b told.b.cut_short b.cut d.all_b
 
     clocks : (side : Side) → clock_at d.ticked side ≡ clock_after (clock_at w side) ms
     clocks = ticked-clocks ms told w v d
@@ -393,13 +391,9 @@ split ms a b k (suc r) n e =
 even : (n : ℕ) → (n % 2 == 1) ≡ false → n % 2 ≡ 0
 even n h = grind (arith, nat_tests)
 
-or-left : (a b : Bool) → (a || b) ≡ false → a ≡ false
-or-left true b h = absurd (let y : true ≡ false = h in cc)
-or-left false b h = refl
-
 -- a packet that doesn't go reliable isn't flagged so
 unflagged : (mtu count : ℕ) (p : command_choice.Packet) → goes_reliable mtu count p ≡ false → p.flags % 2 ≡ 0
-unflagged mtu count p h = even p.flags (or-left (p.flags % 2 == 1) (count == 65535) (or-left ((p.flags % 2 == 1) || count == 65535) (is_long mtu p && not (is_flagged_unreliable_fragment p)) h))
+unflagged mtu count p h = even p.flags ((or-both (p.flags % 2 == 1) (count == 65535) (or-both ((p.flags % 2 == 1) || count == 65535) (is_long mtu p && not (is_flagged_unreliable_fragment p)) h).0).0)
 
 -- nor is one that goes unsequenced
 and-not : (a b c : Bool) → (a && not b && not c) ≡ true → b ≡ false
@@ -559,11 +553,6 @@ begun joined w x r a b = record {
 
 pub smooth-so : (s : Share) → is_smooth s ≡ true → Smooth s
 smooth-so s e = record { refused = grind (arith, nat_tests); stopped = grind (arith, nat_tests); cut = grind (arith, nat_tests) }
-
-pub both-so : (a b : Bool) → (a && b) ≡ true → (a ≡ true) × (b ≡ true)
-both-so true true h = (refl, refl)
-both-so true false h = absurd (cc)
-both-so false b h = absurd (cc)
 
 pub shown-end-of : (s : Site) (count x : ℕ) (e : HostEnd) → IsHost s count → Has s.ends e → e.connection ≡ x → end_of x s.ends ≡ Some e
 shown-end-of s count x e k h of = subst (λ (n : ℕ). end_of n s.ends ≡ Some e) of (end-there s.ends e h (k.apart e h))

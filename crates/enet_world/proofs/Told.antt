@@ -1,8 +1,7 @@
 -- By one event, and by a list of them, what a world keeps is what its transcript tells; so the headline is on it.
 use Rattle.std.proofs.Common.{◌≡◌, ◌≢◌, ℕ, zero, suc, ◌+◌, ◌<◌, ◌⊎◌, inl, inr, ◌==◌, ◌&&◌, Bool, true, false, cond, List, [], ◌∷◌, ◌++◌, map, length, refl, sym, ap, subst, ◌∙◌, append-nil, arith, Option, Some, None, Result, Ok, Err, slice_get}
-use Rattle.std.specs.Prelude.{zip, flat_map}
+use Rattle.std.specs.Prelude.{zip}
 use Rattle.std.proofs.lemmas.List.{length-append}
-use Rattle.std.proofs.lemmas.Option.{slice_get_within}
 use Rattle.enet_codec.specs.declared.config.Config.{Config}
 use Rattle.enet_codec.specs.declared.event.Event.{Event}
 use Rattle.enet_codec.specs.declared.event.PeerRef.{PeerRef}
@@ -11,7 +10,6 @@ use Rattle.enet_codec.specs.declared.refusal.Refusal.{Refusal}
 use Rattle.enet_codec.specs.Config.{is_in_range}
 use Rattle.law_connection.specs.LinkSteps.{Has}
 use Rattle.law_connection.proofs.Lists.{Has-push}
-use Rattle.law_network.specs.Calls as call
 use Rattle.law_network.specs.declared.event.Answer.{Answer}
 use Rattle.law_network.specs.declared.event.Answer.TheVariants as answers
 use Rattle.law_network.specs.declared.event.Side.{Side}
@@ -19,23 +17,22 @@ use Rattle.law_network.specs.declared.event.Side.TheVariants.{A, B}
 use Rattle.law_network.specs.declared.event.WorldEvent.{WorldEvent}
 use Rattle.law_network.specs.declared.event.WorldEvent.TheVariants as happen
 use Rattle.law_network.specs.Headline as kept
-use Rattle.law_network.specs.Headline.{HasHeadlineAt, HasHeadlineBetween}
+use Rattle.law_network.specs.Headline.{HasHeadlineBetween}
 use Rattle.law_network.specs.Network.{HostEnd, Site, fresh_end, end_of, is_same_name}
-use Rattle.law_network.specs.Steps.{Around, Happening, Calls, Delivers, HappensAmong, beside, count_after}
+use Rattle.law_network.specs.Steps.{Around, Happening, HappensAmong, beside, count_after}
 use Rattle.law_network.specs.World.{World, site_of, other, side_of, HappensAt, Makes, Steps, Runs, open_site, open_world}
 use Rattle.law_network.proofs.Growing.{Grows, grows, more_of, stays-there}
 use Rattle.law_network.proofs.Owned.{are-ends, none-held}
 use Rattle.law_network.proofs.Running.{runs-push}
 use Rattle.law_network.proofs.Runs.{Sound, sound-list, few-of, both}
-use Rattle.law_network.proofs.Headlines.{headline-list}
 use Rattle.law_network.proofs.Lists.{get-within}
 use Rattle.law_network.proofs.Submitting.{same-some}
 use Rattle.law_headline.specs.Kept.{submitted_by, taken_by, is_guest, IsRecorded, IsCovered}
-use Rattle.law_headline.specs.Page.{User, IsInOrder, is_of}
+use Rattle.law_headline.specs.Page.{IsInOrder, is_of}
 use Rattle.law_headline.proofs.Page.{IsUsers, is-end, has-end, called, called-some, kept-by}
 use Rattle.law_headline.proofs.Telling as telling
 use Rattle.law_headline.proofs.Telling.{push, runs-on, get-either}
-use Rattle.enet_world.specs.Transcript.{Happened, is_side, submits, takes, asks, submitted, taken, asked, user, named_at, IsHeadline, IsOnTranscript}
+use Rattle.enet_world.specs.Transcript.{Happened, is_side, submits, takes, asks, submitted, taken, asked, user, named_at, IsOnTranscript}
 
 -- ---- sides
 
@@ -58,10 +55,6 @@ other-side B A e = refl
 is-other : (s : Side) → is_side s (other s) ≡ false
 is-other A = refl
 is-other B = refl
-
-other-twice : (s : Side) → other (other s) ≡ s
-other-twice A = refl
-other-twice B = refl
 
 -- a side of a world after something happened at another or the same one
 stays-away : (m s : Side) (what : Happening) (w v : World) → HappensAt m what w v → is_side m s ≡ false → site_of v s ≡ site_of w s

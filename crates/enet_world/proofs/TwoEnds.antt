@@ -1,20 +1,16 @@
 -- The two ends of a connection through what happens in a world: they go on, or one of them is past its connection, and stays so.
-use Rattle.std.proofs.Common.{◌≡◌, ◌≢◌, ◌<◌, ◌≤◌, ◌==◌, ◌⊎◌, ℕ, Bool, true, false, List, [], ◌∷◌, ◌++◌, length, refl, sym, ap, subst, ◌∙◌, inl, inr, Option, Some, None, Result, Ok, Err}
-use Rattle.std.specs.List.{slice_get}
-use Rattle.enet_codec.specs.declared.event.Event.{Event as Told}
+use Rattle.std.proofs.Common.{◌≡◌, ◌==◌, ◌⊎◌, ℕ, Bool, true, false, List, refl, sym, ap, subst, ◌∙◌, inl, inr, Some, Result, Ok, Err}
 use Rattle.enet_codec.specs.declared.refusal.Refusal.{Refusal}
 use Rattle.enet_peer.specs.declared.parts.PeerState.TheVariants as state
 use Rattle.enet_peer.specs.Peering.{Peering}
-use Rattle.enet_host.specs.Ticking.{clock_after}
 use Rattle.law_connection.specs.Connection.{End}
 use Rattle.law_connection.specs.LinkSteps.{Has}
-use Rattle.law_connection.specs.Steps.{Event, Happens}
+use Rattle.law_connection.specs.Steps.{Event}
 use Rattle.law_network.specs.declared.event.Answer.{Answer}
-use Rattle.law_network.specs.declared.event.Answer.TheVariants as answers
 use Rattle.law_network.specs.declared.event.Side.{Side}
 use Rattle.law_network.specs.declared.event.Side.TheVariants.{A, B}
 use Rattle.law_network.specs.declared.event.WorldEvent.{WorldEvent}
-use Rattle.law_network.specs.Law.{GoesOn, IsBetween, Faces, ShowsAt}
+use Rattle.law_network.specs.Law.{GoesOn, IsBetween, Faces}
 use Rattle.law_network.specs.Network.{HostEnd, Site}
 use Rattle.law_network.specs.Shown.{Shows, ShowsFar, RunsAt}
 use Rattle.law_network.specs.Steps.{Happening, Calls, Delivers, beside}
@@ -23,9 +19,10 @@ use Rattle.law_network.specs.World.{World, HappensAt, Steps, side_of, site_of, o
 use Rattle.law_network.proofs.OneThing.{one-thing}
 use Rattle.law_network.proofs.Runs.{Sound, sound-list, sound-joined-list}
 use Rattle.law_network.proofs.Worlds.{IsHost, far-shown}
+use Rattle.law_network.proofs.Submitting.{same-some}
 use Rattle.law_progress.proofs.Exchanges.{Joint, joint-swap}
 use Rattle.enet_world.specs.Private.Worlds.{IsReached}
-use Rattle.enet_world.proofs.Lasting.{IsIn, Holds, holds-here, lasts-run, is_past, is_begun, past-lasts, begun-lasts, connected-or-past, not-past}
+use Rattle.enet_world.proofs.Lasting.{IsIn, Holds, lasts-run, is_past, is_begun, past-lasts, connected-or-past}
 
 -- ---- a world that is reached
 -- which connections stand from the start
@@ -200,7 +197,4 @@ up-or-down joined v x side new far q k j h is on = elim (on-or-past new h) [
 ]
 
 pub live : (e : End) (p : Peering) → e.peer ≡ Some p → p.state ≡ state.Connected → IsLive e
-live e p is on q there free = (let same : p ≡ q = some-peer p q (sym is ∙ there) in let z : state.Connected ≡ state.Free = sym on ∙ ap (λ (y : Peering). y.state) same ∙ free in cc)
-  where
-    some-peer : (a b : Peering) → ◌≡◌ {A = Option Peering} (Some a) (Some b) → a ≡ b
-    some-peer a b e = cc
+live e p is on q there free = (let same : p ≡ q = same-some p q (sym is ∙ there) in let z : state.Connected ≡ state.Free = sym on ∙ ap (λ (y : Peering). y.state) same ∙ free in cc)

@@ -1,7 +1,7 @@
 -- A peer to which nothing comes: it is pinged, something it sent waits for its acknowledgement, and it ends once its patience is over.
-use Rattle.std.proofs.Common.{◌≡◌, ℕ, suc, ◌+◌, ◌-◌, ◌*◌, ◌%◌, ◌^◌, ◌<◌, ◌≤◌, ◌==◌, ◌&&◌, ◌||◌, not, leb, ltb, Bool, true, false, cond, List, [], ◌∷◌, length, refl, sym, ap, subst, ◌∙◌, inl, inr, ◌⊎◌, arith, Some, None, is_some}
+use Rattle.std.proofs.Common.{◌≡◌, ℕ, suc, ◌+◌, ◌-◌, ◌*◌, ◌%◌, ◌^◌, ◌<◌, ◌≤◌, ◌==◌, ◌&&◌, ◌||◌, not, leb, ltb, Bool, true, false, cond, List, [], ◌∷◌, length, refl, sym, ap, subst, ◌∙◌, inl, inr, ◌⊎◌, arith, None, is_some}
 use Rattle.std.proofs.lemmas.Bool.Decides.{nat_tests}
-use Rattle.std.specs.List.{position, slice_get, list_any, list_all}
+use Rattle.std.specs.List.{position, list_any, list_all}
 use Rattle.enet_rtt.specs.Clock.{elapsed_time, since_later}
 use Rattle.enet_rtt.specs.Transmission as transmission
 use Rattle.enet_rtt.specs.Expiry.{gives_up}
@@ -11,7 +11,6 @@ use Rattle.enet_rtt.specs.declared.expiry.Expiry.TheVariants.{No, Resend, End}
 use Rattle.enet_fragment.specs.declared.data.DataCommand.{DataCommand}
 use Rattle.law_connection.specs.LinkSteps.{Has}
 use Rattle.enet_senders.specs.Controlling as controlling
-use Rattle.enet_senders.specs.Controlling.{Commands}
 use Rattle.enet_senders.specs.declared.control.Control.TheVariants as control
 use Rattle.enet_sender.specs.declared.sent.Sent.{Sent}
 use Rattle.enet_sender.specs.Sender as sender
@@ -25,7 +24,7 @@ use Rattle.enet_peer.specs.declared.parts.PeerState.{PeerState}
 use Rattle.enet_peer.specs.declared.parts.PeerState.TheVariants as state
 use Rattle.enet_peer.specs.Peering.{Peering}
 use Rattle.enet_peer.specs.Endings.{cut_off_in}
-use Rattle.enet_peer.specs.Calls.{is_connected, pace_of, gone_on, gone_on_in, ticked, pinged, is_pinged, after_timeouts_by, growth_bound, with_throttle_limit}
+use Rattle.enet_peer.specs.Calls.{is_connected, pace_of, ticked, pinged, is_pinged, after_timeouts_by, growth_bound, with_throttle_limit}
 use Rattle.law_connection.proofs.Runs.{and-left, and-right}
 use Rattle.law_progress.specs.Outboxes.{NothingMayGo, WaitsForSome}
 use Rattle.law_progress.proofs.Ageing.{Aged}
@@ -39,11 +38,9 @@ use Rattle.law_progress.proofs.Timed.{elapsed-is, le-of, lt-of}
 use Rattle.law_progress.proofs.Waiting.{Each, Rests, none-of, or-both}
 use Rattle.enet_world.proofs.StillSent.{StillWaits, GoesAgain, still-filled, still-marked, still-so, still-with, none-waits, HasControl, has-queued, controlled-filled, not-idle}
 use Rattle.enet_world.proofs.Untouched.{pinged-state}
+use Rattle.enet_world.proofs.Moments.{has-place, unmarked}
 
 -- ---- a connected peer puts out, and time goes on
-pub went-on : (r : Peering) → r.state ≡ state.Connected → gone_on r ≡ r
-went-on r e = subst (λ (s : PeerState). gone_on_in s (record r { state = s }) ≡ record r { state = s }) (sym e) refl
-
 pinged-heard : (q : Peering) (n : ℕ) → (pinged q n).heard ≡ q.heard
 pinged-heard q n = by (is_pinged q n)
   where
@@ -364,20 +361,12 @@ still-ticked since now time d p on stays patient near rests waits = (
     comes : StillWaits Now p.outbox
     comes = comes-so since now time d p on stays patient near rests waits
 
-    same : (t : Transmission) → transmission.is_late n t ≡ false → transmission.marked 0 n t ≡ t
-    same t e = ap (λ b. cond b (record t { timeout = transmission.grown_time 0 t.timeout; due = true }) t) e
-
     by : (b : Bool) → has_late p.outbox n ≡ b → StillWaits Later (after_timeouts_by (cond b Resend No) p n).outbox
     by true e = still-marked Now Later (growth_bound p) n p.outbox (λ t c. old-marked since now time d (growth_bound p) p.patience p.heard t c) comes
-    by false e = still-so (λ t. Now t × (transmission.is_late n t ≡ false)) Later p.outbox (λ t h. subst Later (same t h.1) (old-marked since now time d 0 p.patience p.heard t h.0))
+    by false e = still-so (λ t. Now t × (transmission.is_late n t ≡ false)) Later p.outbox (λ t h. subst Later (unmarked n t h.1) (old-marked since now time d 0 p.patience p.heard t h.0))
         (still-with Now (λ t. transmission.is_late n t ≡ false) p.outbox (not-late p.outbox n e) comes)
 
 -- ---- all was put out
-place : {X : Type 0} (xs : List X) (x : X) → Has xs x → (i : ℕ) × (slice_get xs i ≡ Some x)
-place [] x h = absurd h
-place (y ∷ ys) x (inl e) = (0, ap Some e)
-place (y ∷ ys) x (inr h) = (let w = place ys x h in (suc w.0, w.1))
-
 all-rest : (p : Peering) (n : ℕ) → Fits p → (filled (pace_of p n) p.outbox).messages ≡ [] → AllRest (put_out p n)
 all-rest p n fits none = (controls-rest pace.now pace.timeout o.control nothing.controls, channels)
   where
@@ -391,7 +380,7 @@ all-rest p n fits none = (controls-rest pace.now pace.timeout o.control nothing.
     nothing = nothing-may-go pace p.outbox (all-fits p n fits) none
 
     channels : (s : SendingEnd) → Has o.senders s → (t : Sent) → Has s.sender.sent t → Rests t.transmission
-    channels s h t k = (let w = place o.senders s h in sender-rests (occasion pace o) s.sender (nothing.channels w.0 s w.1) t k)
+    channels s h t k = (let w = has-place o.senders s h in sender-rests (occasion pace o) s.sender (nothing.channels w.0 s w.1) t k)
 
 -- what is known of a peer by one moment: before it, while it puts out, and once it has put all out
 pub record Goes (n : ℕ) (P Q R : Peering → Type 0) : Type 0 where

@@ -26,6 +26,7 @@ use Rattle.law_network.specs.Deeds.{Deed, Alone, AllAlone, emitted}
 use Rattle.law_network.specs.Deeds as deed
 use Rattle.law_network.proofs.Matching.{was-set, matches}
 use Rattle.enet_world.proofs.Lasting.{obeys}
+use Rattle.enet_world.proofs.Modest.{was-in}
 
 -- ---- states
 abbrev pub is_up : PeerState → Bool
@@ -41,9 +42,6 @@ Next s t = (t ≡ s) ⊎ ((t ≡ state.Ended) ⊎ ((s ≡ state.Connected) × (t
 -- a peer in a state
 abbrev in_state : PeerState → Peering → Peering
 in_state s r = record r { state = s }
-
-was-in : (p : Peering) (s : PeerState) → p.state ≡ s → in_state s p ≡ p
-was-in p s e = ap (λ (t : PeerState). record p { state = t }) (sym e)
 
 -- what holds in each state that is up
 each-up : (P : PeerState → Peering → Type 0) → ((r : Peering) → P state.Connected (in_state state.Connected r)) → ((r : Peering) → P state.AckDisconnect (in_state state.AckDisconnect r))

@@ -1,5 +1,5 @@
 -- What becomes of an end of a connection at its host, whose user only takes.
-use Rattle.std.proofs.Common.{◌≡◌, ◌≢◌, ◌≤◌, ◌==◌, ◌⊎◌, inl, inr, ℕ, ◌+◌, Bool, true, false, cond, List, [], ◌∷◌, ◌++◌, append_assoc, map, refl, sym, ap, subst, ◌∙◌, arith, Option, Some, None, nat_lt}
+use Rattle.std.proofs.Common.{◌≡◌, ◌≢◌, ◌≤◌, ◌==◌, ◌⊎◌, inl, inr, ℕ, Bool, true, false, cond, List, [], ◌∷◌, ◌++◌, append_assoc, map, refl, sym, ap, subst, ◌∙◌, arith, Option, Some, None, nat_lt}
 use Rattle.std.proofs.lemmas.Bool.Decides.{nat_tests}
 use Rattle.enet_codec.specs.declared.address.Addr.{Addr}
 use Rattle.enet_codec.specs.declared.event.Event.{Event}
@@ -31,7 +31,7 @@ use Rattle.law_network.specs.Steps.{Happens, Calls, BringsOne, Logs, after_event
 use Rattle.law_network.proofs.IsolationServing.{taken-event}
 use Rattle.law_network.proofs.Lists.{same-or}
 use Rattle.law_network.proofs.Names.{IsThere, named-there, there-named, IsSpent, spent-step, spent-nobody}
-use Rattle.law_network.proofs.OneThing.{event-ends}
+use Rattle.law_network.proofs.OneThing.{event-ends, same-part}
 use Rattle.law_network.proofs.Peers as peers
 use Rattle.law_network.proofs.Peers.{Moved, shows-held}
 use Rattle.law_network.proofs.Submitting.{same-name, other-slot, not-there, same-some, same-slot}
@@ -91,14 +91,10 @@ end-mapped change same (f ∷ ends) x e h =
     by true rest k = ap (λ (y : HostEnd). Some (change y)) (same-some f e k)
     by false rest k = rest k
 
-part-if : {X : Type 0} (part : HostEnd → X) (b : Bool) (f e : HostEnd) → part f ≡ part e → part (cond b f e) ≡ part e
-part-if part true f e same = same
-part-if part false f e same = refl
-
 end-with : (change : HostEnd → HostEnd) (name : PeerRef) → ((e : HostEnd) → (change e).connection ≡ e.connection) → (ends : List HostEnd) (x : ℕ) (e : HostEnd) → end_of x ends ≡ Some e
     → end_of x (with_end change name ends) ≡ Some (cond (is_same_name e.name name) (change e) e)
 end-with change name same ends x e h =
-    end-mapped (λ (y : HostEnd). cond (is_same_name y.name name) (change y) y) (λ y. part-if (λ (z : HostEnd). z.connection) (is_same_name y.name name) (change y) y (same y)) ends x e h
+    end-mapped (λ (y : HostEnd). cond (is_same_name y.name name) (change y) y) (λ y. same-part (λ (z : HostEnd). z.connection) (is_same_name y.name name) (change y) y (same y)) ends x e h
 
 pub remains-same : (x : ℕ) (old new : Site) → new.ends ≡ old.ends → Remains x old new
 remains-same x old new same e there = (e, ap (end_of x) same ∙ there, refl, refl)
@@ -110,8 +106,8 @@ remains-counted : (x : ℕ) (old new : Site) (numbers : List ℕ) (name : PeerRe
 remains-counted x old new numbers name is e there = (
   cond (is_same_name e.name name) (record e { greatest = numbers }) e,
   ap (end_of x) is ∙ end-with (λ (y : HostEnd). record y { greatest = numbers }) name (λ y. refl) old.ends x e there,
-  part-if (λ (y : HostEnd). y.name) (is_same_name e.name name) (record e { greatest = numbers }) e refl,
-  part-if (λ (y : HostEnd). y.events) (is_same_name e.name name) (record e { greatest = numbers }) e refl,
+  same-part (λ (y : HostEnd). y.name) (is_same_name e.name name) (record e { greatest = numbers }) e refl,
+  same-part (λ (y : HostEnd). y.events) (is_same_name e.name name) (record e { greatest = numbers }) e refl,
 )
 
 -- ---- what falls to a peer by what isn't its user's

@@ -2,12 +2,14 @@
 -- `d` of them.
 use Rattle.std.proofs.Common.{zero, suc, ◌≡◌, ℕ, ◌+◌, ◌-◌, ◌*◌, ◌%◌, ◌^◌, ◌<◌, ◌≤◌, ◌&&◌, ◌||◌, not, leb, min, Bool, true, false, cond, refl, sym, ap, subst, ◌∙◌, inl, inr, ◌⊎◌, arith}
 use Rattle.std.proofs.lemmas.Bool.Decides.{nat_tests}
+use Rattle.std.proofs.Math.Bool.{and-false}
 use Rattle.enet_rtt.specs.Clock.{elapsed_time, since_later}
 use Rattle.enet_rtt.specs.Transmission as transmission
 use Rattle.enet_rtt.specs.Expiry.{gives_up, standard_patience}
 use Rattle.enet_rtt.specs.declared.transmission.Transmission.{Transmission}
 use Rattle.enet_world.specs.Stands.{IsYoung}
-use Rattle.enet_world.proofs.Punctual.{Rests}
+use Rattle.enet_world.proofs.Punctual.{Rests, no-time}
+use Rattle.law_progress.proofs.Timed.{lt-of}
 
 -- ---- a clock
 abbrev pub moment : ℕ → ℕ → ℕ
@@ -52,9 +54,6 @@ marked-by age later most d n bound t goes high low o = by t.due refl (leb t.time
     same : transmission.is_late m t ≡ false → LaterBy later most d m t → LaterBy later most d m (transmission.marked bound m t)
     same e r = subst (λ b. LaterBy later most d m (cond b grows t)) (sym e) r
 
-    below : (i j : ℕ) → leb i j ≡ false → j ≤ i
-    below i j e = grind (arith, nat_tests)
-
     by : (due : Bool) → t.due ≡ due → (late : Bool) → leb t.timeout (elapsed_time m t.last) ≡ late → OldBy age most d n t → LaterBy later most d m (transmission.marked bound m t)
     by true e late f (inl k) = same (ap (λ b. not b && leb t.timeout (elapsed_time m t.last)) e) (inl (e, (let z = k.1 in omega arith)))
     by true e late f (inr k) = same (ap (λ b. not b && leb t.timeout (elapsed_time m t.last)) e) (inl (e, (let z = k.near in let y = k.waits in omega arith)))
@@ -62,7 +61,7 @@ marked-by age later most d n bound t goes high low o = by t.due refl (leb t.time
     by false e true f (inr k) = subst (λ b. LaterBy later most d m (cond b grows t)) (sym (λ i. not (e i) && f i)) (inl (refl, (let z = k.near in let y = k.waits in omega arith)))
     by false e false f (inr k) =
         let went : elapsed_time m t.last ≡ elapsed_time n t.last + d = exact n d t.last k.last (let z = k.waits in let y = k.brief in omega arith) in
-        same (λ i. not (e i) && f i) (inr (record { last = k.last; waits = below t.timeout (elapsed_time m t.last) f; brief = k.brief; near = (let z = k.near in omega arith) }))
+        same (λ i. not (e i) && f i) (inr (record { last = k.last; waits = (let z = lt-of t.timeout (elapsed_time m t.last) f in omega arith); brief = k.brief; near = (let z = k.near in omega arith) }))
 
 late-by : (age later most d n : ℕ) (t : Transmission) → later ≤ age + d → OldBy age most d n t → later < most
 late-by age later most d n t goes (inl k) = (let z = k.1 in omega arith)
@@ -105,9 +104,6 @@ near-marked d n heard bound t low o = by t.due refl (leb t.timeout (elapsed_time
     same : transmission.is_late m t ≡ false → IsNearer d m heard t → IsNearer d m heard (transmission.marked bound m t)
     same e r = subst (λ b. IsNearer d m heard (cond b grows t)) (sym e) r
 
-    below : (i j : ℕ) → leb i j ≡ false → j ≤ i
-    below i j e = grind (arith, nat_tests)
-
     by : (due : Bool) → t.due ≡ due → (late : Bool) → leb t.timeout (elapsed_time m t.last) ≡ late → IsNear d n heard t → IsNearer d m heard (transmission.marked bound m t)
     by true e late f (inl k) = same (ap (λ b. not b && leb t.timeout (elapsed_time m t.last)) e) (inl (e, (let z = k.1 in let y = went in omega arith)))
     by true e late f (inr k) = same (ap (λ b. not b && leb t.timeout (elapsed_time m t.last)) e) (inl (e, (let z = k.near in let x = k.waits in let y = went in omega arith)))
@@ -115,7 +111,7 @@ near-marked d n heard bound t low o = by t.due refl (leb t.timeout (elapsed_time
     by false e true f (inr k) = subst (λ b. IsNearer d m heard (cond b grows t)) (sym (λ i. not (e i) && f i)) (inl (refl, (let z = k.near in let x = k.waits in let y = went in let g = longer bound t.timeout in omega arith)))
     by false e false f (inr k) =
         let on : elapsed_time m t.last ≡ elapsed_time n t.last + d = exact n d t.last k.last (let z = k.waits in let y = k.brief in omega arith) in
-        same (λ i. not (e i) && f i) (inr (record { last = k.last; waits = below t.timeout (elapsed_time m t.last) f; brief = k.brief; near = (let z = k.near in let y = went in omega arith) }))
+        same (λ i. not (e i) && f i) (inr (record { last = k.last; waits = (let z = lt-of t.timeout (elapsed_time m t.last) f in omega arith); brief = k.brief; near = (let z = k.near in let y = went in omega arith) }))
 
 near-less : (d n heard since : ℕ) (t : Transmission) → since_later n t.first since ≤ since_later n t.first heard → IsNear d n heard t → IsNear d n since t
 near-less d n heard since t h (inl k) = inl (k.0, (let z = k.1 in omega arith))
@@ -154,10 +150,6 @@ few-tries (suc (suc (suc (suc (suc (suc n)))))) h = absurd (omega arith)
 lasts : (n heard : ℕ) (t : Transmission) → elapsed_time n t.first < 30000 → (t.attempts ≤ 5) ⊎ (since_later n t.first heard < elapsed_time n t.last + t.timeout + 5000) → gives_up standard_patience n heard t ≡ false
 lasts n heard t low some = (λ i. above 30000 (elapsed_time n t.first) low i || second some i)
   where
-    and-false : (b : Bool) → (b && false) ≡ false
-    and-false true = refl
-    and-false false = refl
-
     second : (t.attempts ≤ 5) ⊎ (since_later n t.first heard < elapsed_time n t.last + t.timeout + 5000) → (leb 32 (2 ^ (t.attempts - 1)) && leb (elapsed_time n t.last + t.timeout + 5000) (since_later n t.first heard)) ≡ false
     second (inl few) = ap (λ b. b && leb (elapsed_time n t.last + t.timeout + 5000) (since_later n t.first heard)) (few-tries t.attempts few)
     second (inr near) = ap (λ b. leb 32 (2 ^ (t.attempts - 1)) && b) (above (elapsed_time n t.last + t.timeout + 5000) (since_later n t.first heard) near) ∙ and-false (leb 32 (2 ^ (t.attempts - 1)))
@@ -178,14 +170,11 @@ pub round-lasts : (d n heard : ℕ) (t : Transmission) → d < 30000 → HasARou
 unfolding HasARound
 round-lasts d n heard t low o = lasts (moment n d) heard t (let a = at-most n d t.first in let z = o.1 in omega arith) (by o.0)
   where
-    none : (k : ℕ) → elapsed_time k k ≡ 0
-    none k = omega arith
-
     by : (t.attempts ≤ 5) ⊎ ((t.last ≡ n) × (n < 2 ^ 32) × (since_later n t.first heard < 5000 + t.timeout)) → (t.attempts ≤ 5) ⊎ (since_later (moment n d) t.first heard < elapsed_time (moment n d) t.last + t.timeout + 5000)
     by (inl few) = inl few
     by (inr k) =
         let y = later-at-most n d t.first heard in
-        let at : elapsed_time n n ≡ 0 = none n in
+        let at : elapsed_time n n ≡ 0 = no-time n in
         let on : elapsed_time (moment n d) n ≡ elapsed_time n n + d = exact n d n k.1 (omega arith) in
         let is : elapsed_time (moment n d) t.last ≡ elapsed_time (moment n d) n = ap (elapsed_time (moment n d)) k.0 in
         inr (let z = k.2 in omega arith)
@@ -231,9 +220,6 @@ older-stays d n heard t e o = (by o.0, stays-by (elapsed_time n t.first) 30000 d
 not-more : (n x heard : ℕ) → since_later n x n ≤ since_later n x heard
 not-more n x heard = none (elapsed_time n x) (elapsed_time n n) (elapsed_time n heard) (no-time n)
   where
-    no-time : (k : ℕ) → elapsed_time k k ≡ 0
-    no-time k = omega arith
-
     none : (a b c : ℕ) → b ≡ 0 → min a b ≤ min a c
     none a b c e = grind arith
 
@@ -266,9 +252,6 @@ round-since d n heard since t (inr e) o = subst (λ h. HasARound d n h t) (sym e
 pub begun-has : (d n heard wait : ℕ) → d < 30000 → HasARound d n heard (transmission.begun n wait)
 unfolding HasARound
 begun-has d n heard wait low = (inl (omega arith), (let z = no-time n in omega arith))
-  where
-    no-time : (k : ℕ) → elapsed_time k k ≡ 0
-    no-time k = omega arith
 
 pub again-has : (d n heard : ℕ) (t : Transmission) → n < 2 ^ 32 → IsOlder d n heard t → HasARound d n heard (transmission.again n t)
 unfolding IsOlder HasARound
