@@ -1,5 +1,5 @@
 -- Of each peer that is connected before rounds without losses: it is so after them, or its user was told.
-use Rattle.std.proofs.Common.{◌≡◌, ◌≢◌, ◌<◌, ◌≤◌, ◌⊎◌, ◌&&◌, inl, inr, ℕ, zero, suc, Bool, true, false, List, [], ◌∷◌, ◌++◌, append-nil, refl, sym, ap, subst, ◌∙◌, arith, Option, Some, None, Result, Ok, Err}
+use Rattle.std.proofs.Common.{◌≡◌, ◌≢◌, ◌<◌, ◌≤◌, ◌⊎◌, inl, inr, ℕ, zero, suc, Bool, true, false, List, [], ◌∷◌, ◌++◌, append-nil, refl, sym, ap, subst, ◌∙◌, arith, Option, Some, None, Result, Ok, Err}
 use Rattle.std.specs.List.{slice_get}
 use Rattle.std.specs.Option.{option_and_then, option_map}
 use Rattle.enet_codec.specs.declared.event.Event.{Event}
@@ -26,9 +26,9 @@ use Rattle.law_network.proofs.Submitting.{same-some}
 use Rattle.enet_site.specs.Standing.{state_at}
 use Rattle.enet_world.specs.declared.calm.Calm.{Calm}
 use Rattle.enet_world.specs.declared.calm.Share.{Share}
-use Rattle.enet_world.specs.Calm.{most, datagram_in, event_in, refusals_in, PutsNone, PutsAllOut, TakesNone, TakesAll, Round, Rounds, both, is_smooth}
-use Rattle.enet_world.specs.Ended.{share_of, IsUncut, name_at, IsTold, IsToldOrWillBe, StandsOrEnds, is_ending, TellsEnds, AllTaken, ComesOrEnds}
-use Rattle.enet_world.specs.Progress.{AreConnected, AreEnough}
+use Rattle.enet_world.specs.Calm.{most, datagram_in, event_in, refusals_in, PutsNone, PutsAllOut, TakesNone, TakesAll, Round, Rounds, both}
+use Rattle.enet_world.specs.Ended.{share_of, IsUncut, name_at, IsTold, IsToldOrWillBe, StandsOrEnds, is_ending, TellsEnds, ComesOrEnds}
+use Rattle.enet_world.specs.Progress.{AreConnected, BroughtAll}
 use Rattle.enet_world.specs.Private.Worlds.{IsReached}
 use Rattle.enet_world.proofs.Habits.{Habits}
 use Rattle.enet_world.proofs.InRounds.{Keeps, kept-many, kept-out, kept-takes, kept-taken, no-more}
@@ -432,7 +432,7 @@ comes-or-ends joined ms rounds told old new r habits d x before uncut_a uncut_b 
     ends = tells-ends joined ms rounds told old new r d
 
     by : StandsOrEnds old new x A → StandsOrEnds old new x B
-        → (IsToldOrWillBe old new x A ⊎ IsToldOrWillBe old new x B) ⊎ (AreConnected new x × ((is_smooth told.a && is_smooth told.b) ≡ true → AreEnough ms rounds old x → AllTaken new x))
+        → (IsToldOrWillBe old new x A ⊎ IsToldOrWillBe old new x B) ⊎ (AreConnected new x × BroughtAll ms rounds told old new x)
     by (inl a) (inl b) = inr ((a.0, b.0), λ smooth enough. gets-through joined ms rounds told old new r habits d x before (a.0, b.0) smooth enough)
     by (inr a) b = inl (inl a)
     by (inl a) (inr b) = inl (inr b)

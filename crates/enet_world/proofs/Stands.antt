@@ -1,4 +1,5 @@
--- Rounds in which nothing stood in the way leave two connected peers connected, where what waited before them was young.
+-- Rounds of less than 30 seconds, in which nothing stood in the way before the last, leave two connected peers connected, where what waited for its
+-- acknowledgement before them was young.
 use Rattle.std.proofs.Common.{refl, ◌≡◌, ◌<◌, inl, inr, ℕ, zero, suc, min, Bool, true, sym, ap, subst, ◌∙◌, Option, Some, None, ◌+◌, ◌*◌, ◌≤◌, arith, [], append-nil}
 use Rattle.std.specs.Option.{option_and_then, option_map}
 use Rattle.enet_rtt.specs.Clock.{elapsed_time, since_later}

@@ -1,5 +1,5 @@
 -- A peer that is connected before rounds without losses doesn't go in silence: it is connected still, or its user is told that it isn't.
-use Rattle.std.specs.Prelude.{◌≡◌, ◌<◌, ◌⊎◌, ◌&&◌, ℕ, Bool, true, false, Option, List, [], ◌∷◌, ◌++◌, Some, None}
+use Rattle.std.specs.Prelude.{◌≡◌, ◌<◌, ◌⊎◌, ℕ, Bool, true, false, Option, List, [], ◌∷◌, ◌++◌, Some, None}
 use Rattle.std.specs.Option.{option_map}
 use Rattle.enet_codec.specs.declared.event.Event.{Event}
 use Rattle.enet_codec.specs.declared.event.Event.TheVariants as events
@@ -14,8 +14,7 @@ use Rattle.law_network.specs.World.{World, site_of}
 use Rattle.enet_site.specs.Standing.{state_at}
 use Rattle.enet_world.specs.declared.calm.Calm.{Calm}
 use Rattle.enet_world.specs.declared.calm.Share.{Share}
-use Rattle.enet_world.specs.Calm.{is_smooth}
-use Rattle.enet_world.specs.Progress.{AreConnected, AreEnough, WasTaken}
+use Rattle.enet_world.specs.Progress.{AreConnected, BroughtAll}
 
 -- what a side did
 abbrev pub share_of : Calm → Side → Share
@@ -62,14 +61,10 @@ pub record TellsEnds (rounds : ℕ) (counts : Calm) (old new : World) : Type 0 w
   pub ending : (x : ℕ) (side : Side) (s : PeerState) → is_ending s ≡ true → IsUncut counts side → state_at (site_of old side) x ≡ Some s → 0 < rounds
       → IsTold old new x side
 
--- each user has taken what the other submitted reliably on connection x
-abbrev pub AllTaken : World → ℕ → Type 0
-AllTaken w x = (channel : ℕ) → channel < 255 → WasTaken w x A channel × WasTaken w x B channel
-
 -- so of a connection whose peers are both connected before the rounds, where neither side is cut short: it ends at a side whose user is told or will
--- be; or it stands after them, and all comes, both ways, where nothing stood in the way and the rounds were enough
+-- be; or it stands after them, and they brought all, if nothing stood in the way and they were enough
 abbrev pub ComesOrEnds : ℕ → ℕ → Calm → World → World → Type 0
 ComesOrEnds ms rounds counts old new =
     (x : ℕ) → AreConnected old x → IsUncut counts A → IsUncut counts B
     → (IsToldOrWillBe old new x A ⊎ IsToldOrWillBe old new x B)
-    ⊎ (AreConnected new x × ((is_smooth counts.a && is_smooth counts.b) ≡ true → AreEnough ms rounds old x → AllTaken new x))
+    ⊎ (AreConnected new x × BroughtAll ms rounds counts old new x)

@@ -45,8 +45,14 @@ AllCame (p ∷ ps) bs = ((rest : List (List ℕ)) × (bs ≡ p.body ∷ rest) ×
 abbrev pub WasTaken : World → ℕ → Side → ℕ → Type 0
 WasTaken w x side channel = AllCame (submitted_at channel (end_at w x side)) (came channel (events_at (end_at w x (other side))))
 
--- so it is, both ways, of a connection whose peers are connected before the rounds and after them, where nothing stood in the way and they
--- were enough
+-- each user has taken what the other submitted reliably on connection x
+abbrev pub AllTaken : World → ℕ → Type 0
+AllTaken w x = (channel : ℕ) → channel < 255 → WasTaken w x A channel × WasTaken w x B channel
+
+-- the rounds brought all of connection x, if nothing stood in the way and they were enough
+abbrev pub BroughtAll : ℕ → ℕ → Calm → World → World → ℕ → Type 0
+BroughtAll ms rounds counts old new x = (is_smooth counts.a && is_smooth counts.b) ≡ true → AreEnough ms rounds old x → AllTaken new x
+
+-- so of each connection whose peers are connected before them and after them
 abbrev pub GetsThrough : ℕ → ℕ → Calm → World → World → Type 0
-GetsThrough ms rounds told old new = (x : ℕ) → AreConnected old x → AreConnected new x → (is_smooth told.a && is_smooth told.b) ≡ true → AreEnough ms rounds old x
-    → (channel : ℕ) → channel < 255 → WasTaken new x A channel × WasTaken new x B channel
+GetsThrough ms rounds counts old new = (x : ℕ) → AreConnected old x → AreConnected new x → BroughtAll ms rounds counts old new x

@@ -1,4 +1,5 @@
--- On a network that loses nothing, no connection is lost: two peers that are connected stay so. Times are in milliseconds.
+-- On a network that loses nothing, no connection is lost: two peers that are connected stay so, where nothing stood in the way before the last
+-- round, a round takes less than 30 seconds, and what waited for its acknowledgement before the rounds was young. Times are in milliseconds.
 use Rattle.std.specs.Prelude.{◌≡◌, ◌<◌, ◌≤◌, ◌+◌, ◌*◌, ◌&&◌, ◌⊎◌, ℕ, true, Some}
 use Rattle.enet_rtt.specs.Clock.{elapsed_time, since_later}
 use Rattle.enet_rtt.specs.declared.transmission.Transmission.{Transmission}
@@ -32,7 +33,7 @@ abbrev pub AreYoung : ℕ → World → ℕ → Side → Type 0
 AreYoung ms w x side = (p : Peering) → peer_at (site_of w side) x ≡ Some p → AllYoung ms (site_of w side).host.clock p
 
 -- so many rounds, the last after others in which nothing stood in the way
-pub record AreSmoothYet (ms rounds : ℕ) (old new : World) : Type 0 where
+pub record AreSmoothBeforeLast (ms rounds : ℕ) (old new : World) : Type 0 where
   pub earlier : ℕ
   pub before : Calm
   pub between : World
@@ -46,4 +47,4 @@ pub record AreSmoothYet (ms rounds : ℕ) (old new : World) : Type 0 where
 -- round takes less than 30 seconds, and all that waited for its acknowledgement at first, at either, was young
 abbrev pub BothStand : ℕ → ℕ → World → World → Type 0
 BothStand ms rounds old new =
-    (x : ℕ) → AreConnected old x → ms < 30000 → ((side : Side) → AreYoung ms old x side) → AreSmoothYet ms rounds old new → (side : Side) → IsStill state.Connected old new x side
+    (x : ℕ) → AreConnected old x → ms < 30000 → ((side : Side) → AreYoung ms old x side) → AreSmoothBeforeLast ms rounds old new → (side : Side) → IsStill state.Connected old new x side
