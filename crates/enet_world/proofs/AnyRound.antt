@@ -205,10 +205,7 @@ carried-on joined w v x side own far refused stopped r habits u c = by c.answer 
     by (Err why) step = (o.new, far, subst (λ (y : World). Up joined y x side o.new far) (sym step.1) up)
     by (Ok (answers.Received received)) step = arrives-on joined c.between v x side (clock_at w side) own far u.p c.k received o (reached-step joined w c.between (happen.Turn side) c.told r c.goes)
         (subst (λ (e : Happening). HappensAt (other side) e c.between v) step.1 step.2) u.is_p (lone-up joined w x side own far habits u) u.q u.is_q u.on_q
-    by (Ok (answers.Sent number)) step = absurd step.1
-    by (Ok (answers.Peer name)) step = absurd step.1
-    by (Ok answers.Done) step = absurd step.1
-    by (Ok (answers.Taken event')) step = absurd step.1
+    by (Ok answer) step = absurd step.1
 
 many-on : (joined : Bool) (w v : World) (x : ℕ) (side : Side) (own far : End) (n refused stopped : ℕ) → IsReached joined w → Habits w → Up joined w x side own far → CarriesMany side n refused stopped w v → AreUp joined v x side
 many-on joined w v x side own far zero refused stopped r habits u c = (own, far, subst (λ (y : World). Up joined y x side own far) (sym c.2) u)
@@ -220,10 +217,7 @@ none-on : (joined : Bool) (w v : World) (x : ℕ) (side : Side) (own far : End) 
 none-on joined w v x side own far (Err why) r step none u = (own, far, subst (λ (y : World). Up joined y x side own far) (sym step.1) u)
 none-on joined w v x side own far (Ok (answers.Sent None)) r step none u = (let f = rested joined w v x side own far step.1.0 r (subst (λ (e : Happening). HappensAt side e w v) step.1.1 step.2) u in (f.0, far, f.1))
 none-on joined w v x side own far (Ok (answers.Sent (Some n))) r step none u = absurd (let z : ◌≡◌ {A = Option ℕ} (Some n) None = none in cc)
-none-on joined w v x side own far (Ok (answers.Peer name)) r step none u = absurd step.1
-none-on joined w v x side own far (Ok (answers.Received received)) r step none u = absurd step.1
-none-on joined w v x side own far (Ok answers.Done) r step none u = absurd step.1
-none-on joined w v x side own far (Ok (answers.Taken event')) r step none u = absurd step.1
+none-on joined w v x side own far (Ok answer) r step none u = absurd step.1
 
 out-on : (joined : Bool) (w v : World) (x : ℕ) (side : Side) (sent refused stopped cut : ℕ) → IsReached joined w → Habits w → AreUp joined w x side → PutsAllOut side sent refused stopped cut w v → AreUp joined v x side
 out-on joined w v x side sent refused stopped cut r habits a c = by c.2

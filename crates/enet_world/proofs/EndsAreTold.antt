@@ -63,10 +63,7 @@ ticks joined f rises was x ms at side w v (Ok answers.Done) r step k =
     let h : HappensAt at (Calls (call.Tick ms)) w v = subst (λ (e : Happening). HappensAt at e w v) step.1 step.2 in
     at-side (λ s. IsEither f was s x) at side (Calls (call.Tick ms)) w v h
     (λ y. keeps-site f rises was x (call.Tick ms) (site_of w at) (site_of v at) (few-at joined w r at) h.here.0 tt (remains-same x (site_of w at) (site_of v at) (ap (λ (s : Site). s.ends) h.here.1)) y) k
-ticks joined f rises was x ms at side w v (Ok (answers.Peer name)) r step k = absurd step.1
-ticks joined f rises was x ms at side w v (Ok (answers.Received received)) r step k = absurd step.1
-ticks joined f rises was x ms at side w v (Ok (answers.Sent number)) r step k = absurd step.1
-ticks joined f rises was x ms at side w v (Ok (answers.Taken event)) r step k = absurd step.1
+ticks joined f rises was x ms at side w v (Ok answer) r step k = absurd step.1
 
 pub turns : (joined : Bool) (f : PeerState → Bool) → Rises f → (was : HostEnd) (x : ℕ) (at side : Side) (w v : World) (answer : Result Answer Refusal) → IsReached joined w → Steps w (happen.Turn at) answer v
     → IsEither f was (site_of w side) x → IsEither f was (site_of v side) x
@@ -79,10 +76,7 @@ turns joined f rises was x at side w v (Ok (answers.Sent (Some n))) r step k =
     let h : HappensAt at (Calls (call.Service (Some step.1.0) step.1.1)) w v = subst (λ (e : Happening). HappensAt at e w v) step.1.2 step.2 in
     at-side (λ s. IsEither f was s x) at side (Calls (call.Service (Some step.1.0) step.1.1)) w v h
     (λ y. serves-site f rises was x w.count step.1.0 step.1.1 (site_of w (other at)) (site_of w at) (site_of v at) (few-at joined w r at) h.here y) k
-turns joined f rises was x at side w v (Ok (answers.Peer name)) r step k = absurd step.1
-turns joined f rises was x at side w v (Ok (answers.Received received)) r step k = absurd step.1
-turns joined f rises was x at side w v (Ok answers.Done) r step k = absurd step.1
-turns joined f rises was x at side w v (Ok (answers.Taken event)) r step k = absurd step.1
+turns joined f rises was x at side w v (Ok answer) r step k = absurd step.1
 
 pub delivers : (joined : Bool) (f : PeerState → Bool) → Rises f → (was : HostEnd) (x n : ℕ) (at side : Side) (w v : World) (answer : Result Answer Refusal) → IsReached joined w → Steps w (happen.Deliver at n) answer v
     → IsEither f was (site_of w side) x → IsEither f was (site_of v side) x
@@ -91,10 +85,7 @@ delivers joined f rises was x n at side w v (Ok (answers.Received received)) r s
     let h : HappensAt at (Delivers n received) w v = subst (λ (e : Happening). HappensAt at e w v) step.1 step.2 in
     at-side (λ s. IsEither f was s x) at side (Delivers n received) w v h
     (λ y. delivers-site f rises was x (site_of w (other at)) (site_of w at) (site_of v at) received (slice_get (site_of w (other at)).log n) (few-at joined w r at) h.here y) k
-delivers joined f rises was x n at side w v (Ok (answers.Sent number)) r step k = absurd step.1
-delivers joined f rises was x n at side w v (Ok (answers.Peer name)) r step k = absurd step.1
-delivers joined f rises was x n at side w v (Ok answers.Done) r step k = absurd step.1
-delivers joined f rises was x n at side w v (Ok (answers.Taken event)) r step k = absurd step.1
+delivers joined f rises was x n at side w v (Ok answer) r step k = absurd step.1
 
 pub takes : (joined : Bool) (f : PeerState → Bool) → ((s : PeerState) → f s ≡ true → is_up s ≡ true) → (was : HostEnd) (x : ℕ) (at side : Side) (w v : World) (answer : Result Answer Refusal) → IsReached joined w → Steps w (happen.Take at) answer v
     → IsEither f was (site_of w side) x → IsEither f was (site_of v side) x
@@ -103,10 +94,7 @@ takes joined f only was x at side w v (Ok (answers.Taken event)) r step k =
     let h : HappensAt at (Calls (call.NextEvent event)) w v = subst (λ (e : Happening). HappensAt at e w v) step.1 step.2 in
     at-side (λ s. IsEither f was s x) at side (Calls (call.NextEvent event)) w v h
     (λ y. takes-maybe f only was x w.count event (site_of w (other at)) (site_of w at) (site_of v at) (few-at joined w r at) h.here y) k
-takes joined f only was x at side w v (Ok (answers.Sent number)) r step k = absurd step.1
-takes joined f only was x at side w v (Ok (answers.Received received)) r step k = absurd step.1
-takes joined f only was x at side w v (Ok (answers.Peer name)) r step k = absurd step.1
-takes joined f only was x at side w v (Ok answers.Done) r step k = absurd step.1
+takes joined f only was x at side w v (Ok answer) r step k = absurd step.1
 
 takes-here : (joined : Bool) (f : PeerState → Bool) → ((s : PeerState) → f s ≡ true → is_up s ≡ true) → (was : HostEnd) (x : ℕ) (side at : Side) (w v : World) (answer : Result Answer Refusal) → Steps w (happen.Take at) answer v
     → IsHere joined f was x side w → IsHere joined f was x side v
@@ -127,10 +115,7 @@ rests-none joined f g only goes up-too was x side w v (Ok (answers.Sent None)) r
     let h : HappensAt side (Calls (call.Service None step.1.0)) w v = subst (λ (e : Happening). HappensAt side e w v) step.1.1 step.2 in
     rests-site f g only goes up-too was x w.count step.1.0 (site_of w (other side)) (site_of w side) (site_of v side) (few-at joined w r side) h.here k
 rests-none joined f g only goes up-too was x side w v (Ok (answers.Sent (Some n))) r step none uncut k = absurd (let z : ◌≡◌ {A = Option ℕ} (Some n) None = none in cc)
-rests-none joined f g only goes up-too was x side w v (Ok (answers.Peer name)) r step none uncut k = absurd step.1
-rests-none joined f g only goes up-too was x side w v (Ok (answers.Received received)) r step none uncut k = absurd step.1
-rests-none joined f g only goes up-too was x side w v (Ok answers.Done) r step none uncut k = absurd step.1
-rests-none joined f g only goes up-too was x side w v (Ok (answers.Taken event)) r step none uncut k = absurd step.1
+rests-none joined f g only goes up-too was x side w v (Ok answer) r step none uncut k = absurd step.1
 
 puts-out : (joined : Bool) (f g : PeerState → Bool) → Rises f → ((s : PeerState) → f s ≡ true → g (gone_by s) ≡ true) → ((s : PeerState) → g s ≡ true → is_up s ≡ true) → (was : HostEnd) (x : ℕ) (side : Side) (sent refused stopped cut : ℕ) (w v : World)
     → PutsAllOut side sent refused stopped cut w v → cut ≡ 0 → IsHere joined f was x side w → IsHere joined g was x side v
@@ -153,10 +138,7 @@ takes-last joined f g unended was x side w v (Ok (answers.Taken None)) r step no
     let h : HappensAt side (Calls (call.NextEvent None)) w v = subst (λ (e : Happening). HappensAt side e w v) step.1 step.2 in
     takes-nothing f g unended was x (site_of w side) (site_of v side) (few-at joined w r side) h.here.0 (ap (λ (s : Site). s.ends) h.here.1) k
 takes-last joined f g unended was x side w v (Ok (answers.Taken (Some event))) r step none uncut k = absurd (let z : ◌≡◌ {A = Option Event} (Some event) None = none in cc)
-takes-last joined f g unended was x side w v (Ok (answers.Sent number)) r step none uncut k = absurd step.1
-takes-last joined f g unended was x side w v (Ok (answers.Peer name)) r step none uncut k = absurd step.1
-takes-last joined f g unended was x side w v (Ok (answers.Received received)) r step none uncut k = absurd step.1
-takes-last joined f g unended was x side w v (Ok answers.Done) r step none uncut k = absurd step.1
+takes-last joined f g unended was x side w v (Ok answer) r step none uncut k = absurd step.1
 
 takes-out : (joined : Bool) (f g : PeerState → Bool) → ((s : PeerState) → f s ≡ true → is_up s ≡ true) → ((s : PeerState) → f s ≡ true → s ≢ state.Ended → g s ≡ true) → (was : HostEnd) (x : ℕ) (side : Side) (taken cut : ℕ) (w v : World)
     → TakesAll side taken cut w v → cut ≡ 0 → IsHere joined f was x side w → IsHere joined g was x side v

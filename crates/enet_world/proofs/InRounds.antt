@@ -115,11 +115,8 @@ goes-on-at joined w v x side ms own far r h k = record { new = m.0; ends = m.1; 
 
 ticks-to : (joined : Bool) (w v : World) (x : ℕ) (side : Side) (ms : ℕ) (told : Result Answer Refusal) (own far : End) → IsReached joined w → Steps w (happen.Tick side ms) told v → Up joined w x side own far → TicksTo joined v x side (clock_after (clock_at w side) ms) own far
 ticks-to joined w v x side ms (Err why) own far r step k = absurd step.0
-ticks-to joined w v x side ms (Ok (answers.Peer name)) own far r step k = absurd step.1
-ticks-to joined w v x side ms (Ok (answers.Received received)) own far r step k = absurd step.1
-ticks-to joined w v x side ms (Ok (answers.Sent number)) own far r step k = absurd step.1
-ticks-to joined w v x side ms (Ok (answers.Taken event')) own far r step k = absurd step.1
 ticks-to joined w v x side ms (Ok answers.Done) own far r step k = goes-on-at joined w v x side ms own far r (subst (λ (e : Happening). HappensAt side e w v) step.1 step.2) k
+ticks-to joined w v x side ms (Ok answer) own far r step k = absurd step.1
 
 -- it is connected still
 abbrev pub Ticked : Bool → World → ℕ → Side → ℕ → End → End → Type 0
@@ -178,28 +175,19 @@ pub turn-still : (w v : World) (side : Side) (told : Result Answer Refusal) → 
 turn-still w v side (Err why) step = λ at. ap (λ (u : World). clock_at u at) step.1
 turn-still w v side (Ok (answers.Sent None)) step = called-still w v side (call.Service None step.1.0) step.0 step.1.1 step.2 (λ clock. refl)
 turn-still w v side (Ok (answers.Sent (Some n))) step = called-still w v side (call.Service (Some step.1.0) step.1.1) step.0 step.1.2 step.2 (λ clock. refl)
-turn-still w v side (Ok (answers.Peer name)) step = absurd step.1
-turn-still w v side (Ok (answers.Received received)) step = absurd step.1
-turn-still w v side (Ok answers.Done) step = absurd step.1
-turn-still w v side (Ok (answers.Taken event')) step = absurd step.1
+turn-still w v side (Ok answer) step = absurd step.1
 
 pub deliver-still : (w v : World) (side : Side) (k : ℕ) (told : Result Answer Refusal) → Steps w (happen.Deliver side k) told v → StandStill w v
 deliver-still w v side k (Err why) step = λ at. ap (λ (u : World). clock_at u at) step.1
 deliver-still w v side k (Ok (answers.Received received)) step =
     let h : HappensAt side (Delivers k received) w v = subst (λ (y : Happening). HappensAt side y w v) step.1 step.2 in
     still-at w v side (Delivers k received) h (brought-acts (site_of w (other side)) (site_of w side) (site_of v side) received (slice_get (site_of w (other side)).log k) h.here)
-deliver-still w v side k (Ok (answers.Sent number)) step = absurd step.1
-deliver-still w v side k (Ok (answers.Peer name)) step = absurd step.1
-deliver-still w v side k (Ok answers.Done) step = absurd step.1
-deliver-still w v side k (Ok (answers.Taken event')) step = absurd step.1
+deliver-still w v side k (Ok answer) step = absurd step.1
 
 pub take-still : (w v : World) (side : Side) (told : Result Answer Refusal) → Steps w (happen.Take side) told v → StandStill w v
 take-still w v side (Err why) step = λ at. ap (λ (u : World). clock_at u at) step.1
 take-still w v side (Ok (answers.Taken event')) step = called-still w v side (call.NextEvent event') step.0 step.1 step.2 (λ clock. refl)
-take-still w v side (Ok (answers.Received received)) step = absurd step.1
-take-still w v side (Ok (answers.Sent number)) step = absurd step.1
-take-still w v side (Ok (answers.Peer name)) step = absurd step.1
-take-still w v side (Ok answers.Done) step = absurd step.1
+take-still w v side (Ok answer) step = absurd step.1
 
 -- ---- an end puts out a datagram, or is passed by
 last-at : {X : Type 0} (xs : List X) (y : X) → slice_get (xs ++ y ∷ []) (length xs) ≡ Some y
@@ -286,10 +274,7 @@ puts-out joined w v x side own far k (Err why) r step is u = absurd (let z : ◌
 puts-out joined w v x side own far k (Ok (answers.Sent None)) r step is u = absurd (let z : ◌≡◌ {A = Option ℕ} None (Some k) = is in cc)
 puts-out joined w v x side own far k (Ok (answers.Sent (Some n))) r step is u =
     serves joined w v x side own far k step.1.0 step.1.1 r (subst (λ (e : Happening). HappensAt side e w v) step.1.2 step.2) (sym (same-some n k is) ∙ step.1.3) u
-puts-out joined w v x side own far k (Ok (answers.Peer name)) r step is u = absurd step.1
-puts-out joined w v x side own far k (Ok (answers.Received received)) r step is u = absurd step.1
-puts-out joined w v x side own far k (Ok answers.Done) r step is u = absurd step.1
-puts-out joined w v x side own far k (Ok (answers.Taken event')) r step is u = absurd step.1
+puts-out joined w v x side own far k (Ok answer) r step is u = absurd step.1
 
 -- ---- and it comes
 owned-at : (j : ℕ → Bool) (w : World) → Sound j w → (side : Side) → AreOwned (λ a. true) (site_of w side)
@@ -383,10 +368,7 @@ delivers : (joined : Bool) (b v : World) (x : ℕ) (side : Side) (now : ℕ) (ow
 delivers joined b v x side now own far p k (Err why) o r step refused stopped is plain lone q is_q on_q = absurd (let z : ◌≡◌ {A = ℕ} 1 0 = refused in omega arith)
 delivers joined b v x side now own far p k (Ok (answers.Received received)) o r step refused stopped is plain lone q is_q on_q =
     brought joined b v x side now own far p k received o r (subst (λ (e : Happening). HappensAt (other side) e b v) step.1 step.2) (none-stopped received.stop stopped) is plain lone q is_q on_q
-delivers joined b v x side now own far p k (Ok (answers.Sent number)) o r step refused stopped is plain lone q is_q on_q = absurd step.1
-delivers joined b v x side now own far p k (Ok (answers.Peer name)) o r step refused stopped is plain lone q is_q on_q = absurd step.1
-delivers joined b v x side now own far p k (Ok answers.Done) o r step refused stopped is plain lone q is_q on_q = absurd step.1
-delivers joined b v x side now own far p k (Ok (answers.Taken event')) o r step refused stopped is plain lone q is_q on_q = absurd step.1
+delivers joined b v x side now own far p k (Ok answer) o r step refused stopped is plain lone q is_q on_q = absurd step.1
 
 -- the peer of an end that is shown, at its host
 pub named-up : (joined : Bool) (w : World) (x : ℕ) (side : Side) (own far : End) (u : Up joined w x side own far) → named (site_of w side).host.slots u.ends.e.name ≡ Some u.p
@@ -551,10 +533,7 @@ puts-none : (joined : Bool) (w v : World) (x : ℕ) (side : Side) (own far : End
 puts-none joined w v x side own far (Err why) r step none cut u = absurd (let z : ◌≡◌ {A = ℕ} 1 0 = cut in omega arith)
 puts-none joined w v x side own far (Ok (answers.Sent None)) r step none cut u = rested joined w v x side own far step.1.0 r (subst (λ (e : Happening). HappensAt side e w v) step.1.1 step.2) u
 puts-none joined w v x side own far (Ok (answers.Sent (Some n))) r step none cut u = absurd (let z : ◌≡◌ {A = Option ℕ} (Some n) None = none in cc)
-puts-none joined w v x side own far (Ok (answers.Peer name)) r step none cut u = absurd step.1
-puts-none joined w v x side own far (Ok (answers.Received received)) r step none cut u = absurd step.1
-puts-none joined w v x side own far (Ok answers.Done) r step none cut u = absurd step.1
-puts-none joined w v x side own far (Ok (answers.Taken event')) r step none cut u = absurd step.1
+puts-none joined w v x side own far (Ok answer) r step none cut u = absurd step.1
 
 -- a side puts out all that it may
 abbrev pub PutsOutAll : Bool → World → ℕ → Side → (now there : ℕ) → End → End → Type 0
@@ -608,10 +587,7 @@ taken-one joined w v x side own far event' r h u = by m.2
 pub take-goes : (joined : Bool) (w v : World) (x : ℕ) (side : Side) (own far : End) (told : Result Answer Refusal) → IsReached joined w → Steps w (happen.Take side) told v → Up joined w x side own far → Taking joined v x side own far
 take-goes joined w v x side own far (Err why) r step u = (0, own, subst (λ (b : World). Up joined b x side own far) (sym step.1) u, refl)
 take-goes joined w v x side own far (Ok (answers.Taken event')) r step u = taken-one joined w v x side own far event' r (subst (λ (e : Happening). HappensAt side e w v) step.1 step.2) u
-take-goes joined w v x side own far (Ok (answers.Sent number)) r step u = absurd step.1
-take-goes joined w v x side own far (Ok (answers.Received received)) r step u = absurd step.1
-take-goes joined w v x side own far (Ok (answers.Peer name)) r step u = absurd step.1
-take-goes joined w v x side own far (Ok answers.Done) r step u = absurd step.1
+take-goes joined w v x side own far (Ok answer) r step u = absurd step.1
 
 pub takes-many : (joined : Bool) (w v : World) (x : ℕ) (side : Side) (own far : End) (n : ℕ) → IsReached joined w → Up joined w x side own far → TakesMany side n w v → Taking joined v x side own far
 takes-many joined w v x side own far zero r u t = (0, own, subst (λ (b : World). Up joined b x side own far) (sym t) u, refl)
@@ -653,10 +629,7 @@ nothing-told joined w v x side own far (Ok (answers.Taken None)) step none cut u
     let there : IsThere (site_of w side).host.slots u.ends.e.name u.p = named-there (site_of w side).host.slots u.ends.e.name u.p (named-up joined w x side own far u) in
     ap peer_tells (sym there.peer) ∙ acts.0 u.ends.e.name.slot there.slot there.there
 nothing-told joined w v x side own far (Ok (answers.Taken (Some event'))) step none cut u = absurd (let z : ◌≡◌ {A = Option Told} (Some event') None = none in cc)
-nothing-told joined w v x side own far (Ok (answers.Sent number)) step none cut u = absurd step.1
-nothing-told joined w v x side own far (Ok (answers.Peer name)) step none cut u = absurd step.1
-nothing-told joined w v x side own far (Ok (answers.Received received)) step none cut u = absurd step.1
-nothing-told joined w v x side own far (Ok answers.Done) step none cut u = absurd step.1
+nothing-told joined w v x side own far (Ok answer) step none cut u = absurd step.1
 
 abbrev pub TakesOut : Bool → World → ℕ → Side → End → End → Type 0
 TakesOut joined v x side own far = (m : ℕ) × (new : End) × Up joined v x side new far × Takes m own far new × IsEmpty new

@@ -179,10 +179,7 @@ turn-near joined Q w v x side n (Ok (answers.Sent (Some m))) emits r step is k =
     on : (end : End) → Went end → Holds (IsOnWith Q) end
     on end (inl g) = put end g.emits
     on end (inr p) = elim p.0.0 [ inl same ↦ same-on Q k.own end k.p k.is k.on k.holds same | inr e ↦ put end e ]
-turn-near joined Q w v x side n (Ok (answers.Peer name)) emits r step is k = absurd step.1
-turn-near joined Q w v x side n (Ok (answers.Received received)) emits r step is k = absurd step.1
-turn-near joined Q w v x side n (Ok answers.Done) emits r step is k = absurd step.1
-turn-near joined Q w v x side n (Ok (answers.Taken event')) emits r step is k = absurd step.1
+turn-near joined Q w v x side n (Ok answer) emits r step is k = absurd step.1
 
 -- it is asked in vain
 rest-near : (joined : Bool) (P Q R : Peering → Type 0) (w v : World) (x : ℕ) (side : Side) (told : Result Answer Refusal) → Goes (clock_at w side) P Q R → IsReached joined w → Steps w (happen.Turn side) told v → datagram_in told ≡ None → refusals_in told ≡ 0 → Lone Q w x side → Lone R v x side
@@ -208,10 +205,7 @@ rest-near joined P Q R w v x side (Ok (answers.Sent None)) g r step none uncut k
       (k.on, g.last k.p (named-fits joined w r side k.ends.e.name k.p (named-lone Q w x side k)) (none-filled now k.own k.far end k.p k.is e.0 e.1) k.holds),
     )
 rest-near joined P Q R w v x side (Ok (answers.Sent (Some n))) g r step none uncut k = absurd (let z : ◌≡◌ {A = Option ℕ} (Some n) None = none in cc)
-rest-near joined P Q R w v x side (Ok (answers.Peer name)) g r step none uncut k = absurd step.1
-rest-near joined P Q R w v x side (Ok (answers.Received received)) g r step none uncut k = absurd step.1
-rest-near joined P Q R w v x side (Ok answers.Done) g r step none uncut k = absurd step.1
-rest-near joined P Q R w v x side (Ok (answers.Taken event')) g r step none uncut k = absurd step.1
+rest-near joined P Q R w v x side (Ok answer) g r step none uncut k = absurd step.1
 
 -- a datagram of another connection comes
 deliver-near : (joined : Bool) (P : Peering → Type 0) (w v : World) (x : ℕ) (side : Side) (n : ℕ) (told : Result Answer Refusal) → IsReached joined w → Steps w (happen.Deliver side n) told v → ((d : Logged) → slice_get (site_of w (other side)).log n ≡ Some d → d.connection ≢ x)
@@ -235,10 +229,7 @@ deliver-near joined P w v x side n (Ok (answers.Received received)) r step apart
     shown : IsShownAs (site_of v side) k.ends.e (λ end. end ≡ k.own)
     shown = passes-over n received found.0 from (site_of w side) (site_of v side) found.2 found.1 (host-at (from_start joined) w s (other side)).named k.ends.e k.own k.far (is-end (from_start joined) w x side k.own k.far s k.ends)
         (far-end (from_start joined) w x side k.own k.far s k.ends) (λ e. apart found.0 found.1 (e ∙ k.ends.of_e))
-deliver-near joined P w v x side n (Ok (answers.Sent number)) r step apart k = absurd step.1
-deliver-near joined P w v x side n (Ok (answers.Peer name)) r step apart k = absurd step.1
-deliver-near joined P w v x side n (Ok answers.Done) r step apart k = absurd step.1
-deliver-near joined P w v x side n (Ok (answers.Taken event')) r step apart k = absurd step.1
+deliver-near joined P w v x side n (Ok answer) r step apart k = absurd step.1
 
 -- its user takes an event
 take-near : (joined : Bool) (n : ℕ) (P Q R : Peering → Type 0) (w v : World) (x : ℕ) (side : Side) (told : Result Answer Refusal) → Goes n P Q R → IsReached joined w → Steps w (happen.Take side) told v → Lone R w x side → Lone R v x side
@@ -265,10 +256,7 @@ take-near joined n P Q R w v x side (Ok (answers.Taken event')) g r step k = nea
     on end (inr t) =
         let was : t.0 ≡ k.p = same-some t.0 k.p (sym t.3 ∙ k.is) in
         (t.1, ap (λ (e : End). e.peer) t.5, taken t.1 t.2 (ap (λ (y : Peering). next_event y) (sym was) ∙ t.4))
-take-near joined n P Q R w v x side (Ok (answers.Received received)) g r step k = absurd step.1
-take-near joined n P Q R w v x side (Ok (answers.Sent number)) g r step k = absurd step.1
-take-near joined n P Q R w v x side (Ok (answers.Peer name)) g r step k = absurd step.1
-take-near joined n P Q R w v x side (Ok answers.Done) g r step k = absurd step.1
+take-near joined n P Q R w v x side (Ok answer) g r step k = absurd step.1
 
 -- time goes on there: it goes on, or is past
 tick-near : (joined : Bool) (P Q R : Peering → Type 0) (w v : World) (x ms : ℕ) (side : Side) (told : Result Answer Refusal) → Goes (clock_after (clock_at w side) ms) P Q R → IsReached joined w → Steps w (happen.Tick side ms) told v → Lone P w x side → Lone Q v x side ⊎ Past v x side
@@ -299,10 +287,7 @@ tick-near joined P Q R w v x ms side (Ok answers.Done) g r step k = by (connecte
         let q : Q (ticked k.p now) = g.ticks k.p k.on k.holds on in
         inl (near P Q w v x side (Calls (call.Tick ms)) k h (shown-so (Ticks now k.own k.far) (Holds (IsOnWith Q)) (site_of v side) k.ends.e (after (IsOnWith Q) (on, q) (λ limit. (on, g.limits (ticked k.p now) limit q))) shown))
     by (inr past) = inr (record { own = shown.end; far = k.far; ends = ends-here P w v x side (Calls (call.Tick ms)) (Ticks now k.own k.far) k h shown; past = after (IsIn is_past) past (λ limit. past) shown.end shown.holds })
-tick-near joined P Q R w v x ms side (Ok (answers.Peer name)) g r step k = absurd step.1
-tick-near joined P Q R w v x ms side (Ok (answers.Received received)) g r step k = absurd step.1
-tick-near joined P Q R w v x ms side (Ok (answers.Sent number)) g r step k = absurd step.1
-tick-near joined P Q R w v x ms side (Ok (answers.Taken event')) g r step k = absurd step.1
+tick-near joined P Q R w v x ms side (Ok answer) g r step k = absurd step.1
 
 -- ---- something happens at the other side: its peer stays gone
 spent-thing : (from old new : Site) (name : PeerRef) (what : Happening) (next : ℕ) → old.host.config.generations ≤ greatest → HappensBeside next from what old new → IsSpent old.host name → IsSpent new.host name
@@ -449,10 +434,7 @@ not-its joined P w v x side n (Ok (answers.Sent (Some m))) r step is k d there o
     never : is_same_name k.ends.f.name gave.0 ≡ false
     never = turned-by (λ e. is_same_name k.ends.f.name gave.0 ≡ false) gave buf old new k.ends.f k.far k.ends.f here.few h.here.0 k.ends.shows_far
         (λ n' shows. n') (λ n' y t is' passes. n') (λ served. absurd (gives served k.gone))
-not-its joined P w v x side n (Ok (answers.Peer name)) r step is k d there of = absurd step.1
-not-its joined P w v x side n (Ok (answers.Received received)) r step is k d there of = absurd step.1
-not-its joined P w v x side n (Ok answers.Done) r step is k d there of = absurd step.1
-not-its joined P w v x side n (Ok (answers.Taken event')) r step is k d there of = absurd step.1
+not-its joined P w v x side n (Ok answer) r step is k d there of = absurd step.1
 
 -- ---- one thing after another, at one moment
 pub record At (joined : Bool) (P : Peering → Type 0) (now x : ℕ) (side : Side) (w : World) : Type 0 where

@@ -70,10 +70,7 @@ tick-clock w v side ms (Ok answers.Done) step =
     let h : HappensAt side (Calls (call.Tick ms)) w v = subst (λ (e : Happening). HappensAt side e w v) step.1 step.2 in
     let acts = acts-of (beside w.count (site_of w (other side))) (site_of w (other side)) (site_of w side) (site_of v side) (call.Tick ms) h.here in
     ((of-the-host (call.Tick ms) (site_of w side).host (site_of v side).host acts).1, ap (λ (s : Site). s.host.clock) h.there)
-tick-clock w v side ms (Ok (answers.Peer name)) step = absurd step.1
-tick-clock w v side ms (Ok (answers.Received received)) step = absurd step.1
-tick-clock w v side ms (Ok (answers.Sent number)) step = absurd step.1
-tick-clock w v side ms (Ok (answers.Taken event')) step = absurd step.1
+tick-clock w v side ms (Ok answer) step = absurd step.1
 
 -- ---- one round
 -- what stands in no way
