@@ -235,12 +235,4 @@ enough-told joined w x ms waits of_a of_b told r one two over is_a is_b is =
 
 pub connected-is : (o : Option PeerState) → is_connected o ≡ true → o ≡ Some state.Connected
 connected-is (Some state.Connected) h = refl
-connected-is (Some state.Connecting) h = absurd (let z : false ≡ true = h in cc)
-connected-is (Some state.Answering) h = absurd (let z : false ≡ true = h in cc)
-connected-is (Some state.DisconnectLater) h = absurd (let z : false ≡ true = h in cc)
-connected-is (Some state.Disconnecting) h = absurd (let z : false ≡ true = h in cc)
-connected-is (Some state.AckDisconnect) h = absurd (let z : false ≡ true = h in cc)
-connected-is (Some state.Ended) h = absurd (let z : false ≡ true = h in cc)
-connected-is (Some state.Parting) h = absurd (let z : false ≡ true = h in cc)
-connected-is (Some state.Free) h = absurd (let z : false ≡ true = h in cc)
-connected-is None h = absurd (let z : false ≡ true = h in cc)
+connected-is o h = absurd (let z : false ≡ true = h in cc)

@@ -7,7 +7,7 @@ use Rattle.enet_codec.specs.declared.event.Received.{Received}
 use Rattle.enet_codec.specs.declared.header.Header.{Header}
 use Rattle.enet_codec.specs.declared.stop.Stop.{Stop}
 use Rattle.enet_codec.specs.declared.stop.Stop.TheVariants as stop
-use Rattle.enet_codec.specs.Message.{Message, Body, acknowledge, connect, verify_connect, disconnect, ping, send_reliable, send_unreliable, send_fragment, send_unsequenced, send_unreliable_fragment, bandwidth_limit, throttle_configure}
+use Rattle.enet_codec.specs.Message.{Message, Body, acknowledge, connect, verify_connect, disconnect, ping, bandwidth_limit, throttle_configure}
 use Rattle.enet_peer.specs.declared.parts.PeerState.TheVariants as state
 use Rattle.enet_peer.specs.Peering.{Peering}
 use Rattle.enet_peer.specs.Endings.{is_later}
@@ -70,11 +70,7 @@ unasked p now time channel number sent u body =
     by ping = refl
     by (bandwidth_limit incoming outgoing) = refl
     by (throttle_configure interval acceleration deceleration) = refl
-    by (send_reliable payload) = data-same (is_later p.state)
-    by (send_unreliable n payload) = data-same (is_later p.state)
-    by (send_fragment fragment payload) = data-same (is_later p.state)
-    by (send_unsequenced group payload) = data-same (is_later p.state)
-    by (send_unreliable_fragment fragment payload) = data-same (is_later p.state)
+    by b = data-same (is_later p.state)
 
 pub same-obeyed : (p : Peering) (now time : ℕ) (sent : Option ℕ) (m : Message) → (m.head.acknowledge ≡ true → sent ≡ Some time) → obeyed p now sent m ≡ obeyed p now (Some time) m
 same-obeyed p now time sent m asks = by m.head.acknowledge refl

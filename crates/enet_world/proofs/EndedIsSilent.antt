@@ -8,7 +8,7 @@ use Rattle.enet_codec.specs.declared.refusal.Refusal.{Refusal}
 use Rattle.enet_codec.specs.declared.refusal.Refusal.TheVariants.{NotConnected}
 use Rattle.enet_codec.specs.declared.stop.Stop.{Stop}
 use Rattle.enet_codec.specs.declared.stop.Stop.TheVariants as stop
-use Rattle.enet_codec.specs.Message.{Message, Body, acknowledge, connect, verify_connect, disconnect, ping, send_reliable, send_unreliable, send_fragment, send_unsequenced, send_unreliable_fragment, bandwidth_limit, throttle_configure}
+use Rattle.enet_codec.specs.Message.{Message, Body, acknowledge, connect, verify_connect, disconnect, ping, bandwidth_limit, throttle_configure}
 use Rattle.enet_rtt.specs.Clock.{elapsed_time}
 use Rattle.enet_rtt.specs.declared.expiry.Expiry.{Expiry}
 use Rattle.enet_rtt.specs.declared.expiry.Expiry.TheVariants.{No, Resend, End}
@@ -206,11 +206,7 @@ silent-heard p now sent m n = by (is_connect m.body) (is_allowed p.state m.body)
     body ping = silent-answered p m sent true h
     body (bandwidth_limit incoming outgoing) = silent-answered (on_bandwidth p incoming) m sent true (λ e. absurd (n e))
     body (throttle_configure interval acceleration deceleration) = silent-answered (on_throttle p interval acceleration deceleration) m sent true (λ e. absurd (n e))
-    body (send_reliable payload) = silent-data p m sent h
-    body (send_unreliable number payload) = silent-data p m sent h
-    body (send_fragment fragment payload) = silent-data p m sent h
-    body (send_unsequenced group payload) = silent-data p m sent h
-    body (send_unreliable_fragment fragment payload) = silent-data p m sent h
+    body b = silent-data p m sent h
 
     by : (a b : Bool) → IsSilent (cond a (stopped p stop.BadCommand) (cond b (unless_crowded_out p m (by_body p now sent m m.body)) (stopped p stop.NotConnected))).after
     by true b = h

@@ -187,11 +187,7 @@ fell-now h x (call.NextEvent (Some (tells.Connect name info))) ds k f = subst (A
 fell-now h x (call.NextEvent (Some (tells.Receive name packet))) ds k f = subst (AreNow h.clock) (sym f) (up-to-now h.clock h.event_turn name.slot x.number _ _ tt tt)
 fell-now h x (call.NextEvent (Some (tells.Disconnect name info))) ds k f = subst (AreNow h.clock) (sym f) (up-to-now h.clock h.event_turn name.slot x.number _ _ tt tt)
 fell-now h x (call.NextEvent (Some (tells.Refused seat number why))) ds k f = subst (AreNow h.clock) (sym f) tt
-fell-now h x (call.Tick ms) ds k f = absurd k
-fell-now h x (call.SetBandwidth incoming outgoing answer) ds k f = absurd k
-fell-now h x (call.ConfigureThrottle name interval acceleration deceleration answer) ds k f = absurd k
-fell-now h x (call.SetPingInterval name ms answer) ds k f = absurd k
-fell-now h x (call.SetTimeout name limit minimum maximum answer) ds k f = absurd k
+fell-now h x c ds k f = absurd k
 
 -- ---- a host
 pub record HostHabits (time : ℕ) (h : Host) : Type 0 where

@@ -164,12 +164,7 @@ pub connected-or-past : (s : PeerState) → is_begun s ≡ true → (s ≡ state
 connected-or-past state.Connected h = inl refl
 connected-or-past state.Connecting h = absurd (cc)
 connected-or-past state.Answering h = absurd (cc)
-connected-or-past state.DisconnectLater h = inr refl
-connected-or-past state.Disconnecting h = inr refl
-connected-or-past state.AckDisconnect h = inr refl
-connected-or-past state.Ended h = inr refl
-connected-or-past state.Parting h = inr refl
-connected-or-past state.Free h = inr refl
+connected-or-past s h = inr refl
 
 pub not-past : (s : PeerState) → s ≡ state.Connected → is_past s ≡ true → ⊥
 not-past s e h = (let z : false ≡ true = ap is_past (sym e) ∙ h in cc)

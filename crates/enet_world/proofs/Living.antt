@@ -56,16 +56,7 @@ given P k c h i s t p low (falling.answers from bytes commands header o is read 
 same-mtu : (c : Call) (k : Config) → (config_by c k).mtu ≡ k.mtu
 same-mtu (call.SetBandwidth incoming outgoing (Ok done)) k = refl
 same-mtu (call.SetBandwidth incoming outgoing (Err why)) k = refl
-same-mtu (call.Connect address channels info word answer) k = refl
-same-mtu (call.Submit name channel packet answer) k = refl
-same-mtu (call.Receive from bytes answer) k = refl
-same-mtu (call.Service answer buf) k = refl
-same-mtu (call.Tick ms) k = refl
-same-mtu (call.Disconnect mode name info answer) k = refl
-same-mtu (call.ConfigureThrottle name interval acceleration deceleration answer) k = refl
-same-mtu (call.SetPingInterval name ms answer) k = refl
-same-mtu (call.SetTimeout name limit minimum maximum answer) k = refl
-same-mtu (call.NextEvent answer) k = refl
+same-mtu c k = refl
 
 began : (P : Peering → Type 0) → Starts P → (name : PeerRef) (cs : List Call) (series : Series cs) (p : Peering) (ds : List Deed) → series.before.config.mtu ≤ 4096 → BeganBy name cs series p ds → P p
 began P k name [] series p ds low b = absurd b

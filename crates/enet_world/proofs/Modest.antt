@@ -3,7 +3,7 @@
 use Rattle.std.proofs.Common.{◌≡◌, ℕ, ◌&&◌, leb, Bool, true, false, cond, List, [], ◌∷◌, length, refl, sym, ap, subst, Option, Some, None, is_some, nat_lt}
 use Rattle.std.specs.List.{slice_get, list_all}
 use Rattle.enet_codec.specs.declared.packet.Packet as codec
-use Rattle.enet_codec.specs.Message.{Message, Body, acknowledge, connect, verify_connect, disconnect, ping, send_reliable, send_unreliable, send_fragment, send_unsequenced, send_unreliable_fragment, bandwidth_limit, throttle_configure}
+use Rattle.enet_codec.specs.Message.{Message, Body, acknowledge, connect, verify_connect, disconnect}
 use Rattle.enet_codec.specs.declared.command.Verify.{Verify}
 use Rattle.enet_codec.specs.declared.stop.Stop.TheVariants as stop
 use Rattle.enet_connect.specs.declared.terms.Terms.{Terms}
@@ -112,14 +112,7 @@ meets-answering p now sent m h = by m.body
     by (connect offer) = h
     by (verify_connect v) = effect-of (verify_connect v) (answered-modest old m sent true h)
     by (disconnect info) = effect-of (disconnect info) (answered-modest (freed old) m sent true tt)
-    by ping = h
-    by (send_reliable payload) = h
-    by (send_unreliable number payload) = h
-    by (send_fragment fragment payload) = h
-    by (send_unsequenced group payload) = h
-    by (send_unreliable_fragment fragment payload) = h
-    by (bandwidth_limit incoming outgoing) = h
-    by (throttle_configure interval acceleration deceleration) = h
+    by b = h
 
 meets-asking : (p : Peering) (now : ℕ) (sent : Option ℕ) (m : Message) → IsModest (obeyed (in_state state.Connecting p) now sent m).after
 meets-asking p now sent m = by m.body
@@ -139,14 +132,7 @@ meets-asking p now sent m = by m.body
     by (connect offer) = tt
     by (verify_connect v) = effect-of (verify_connect v) (answered-modest (welcomed old v (confirmed old.offer v)) m sent true (greets v (confirmed old.offer v)))
     by (disconnect info) = effect-of (disconnect info) (answered-modest (on_disconnect_in state.Connecting old (m.head.acknowledge && is_some sent) info) m sent true tt)
-    by ping = tt
-    by (send_reliable payload) = tt
-    by (send_unreliable number payload) = tt
-    by (send_fragment fragment payload) = tt
-    by (send_unsequenced group payload) = tt
-    by (send_unreliable_fragment fragment payload) = tt
-    by (bandwidth_limit incoming outgoing) = tt
-    by (throttle_configure interval acceleration deceleration) = tt
+    by b = tt
 
 pub modest-obeyed : (p : Peering) (now : ℕ) (sent : Option ℕ) (m : Message) → IsModest p → IsModest (obeyed p now sent m).after
 modest-obeyed p now sent m h = by p.state refl

@@ -180,12 +180,7 @@ more-said ms m old new x o h = elim (Has-push_cases ms m x h) [ inl k ↦ old x 
 
 control-said : (what : Control) (o : Offer) → is_offer what ≡ false → body_of what ≡ connect o → ⊥
 control-said (control.Connect offer) o plain e = cc
-control-said (control.VerifyConnect verify) o plain e = cc
-control-said (control.Disconnect info) o plain e = cc
-control-said (control.DisconnectNow info) o plain e = cc
-control-said control.Ping o plain e = cc
-control-said (control.BandwidthLimit incoming outgoing) o plain e = cc
-control-said (control.ThrottleConfigure interval acceleration deceleration) o plain e = cc
+control-said what o plain e = cc
 
 data-said : (r : Bool) (f : Option Fragment) (count : ℕ) (body : List ℕ) (o : Offer) → wire_body r f count body ≡ connect o → ⊥
 data-said true None count body o e = cc

@@ -31,12 +31,7 @@ count-on (happen.Tick side ms) a s p n one two three = more (min ms 60000) two t
   where
     more : (d : ℕ) → n ≡ min (p + d) 4294967295 → s ≡ a + d → n ≡ min s 4294967295
     more d two three = omega arith
-count-on (happen.Connect side channels info word) a s p n one two three = omega arith
-count-on (happen.Submit side peer channel flags body) a s p n one two three = omega arith
-count-on (happen.Deliver side k) a s p n one two three = omega arith
-count-on (happen.Turn side) a s p n one two three = omega arith
-count-on (happen.Take side) a s p n one two three = omega arith
-count-on (happen.Disconnect side peer how info) a s p n one two three = omega arith
+count-on e a s p n one two three = omega arith
 
 pub reached-on : (passed next : ℕ) (joined : Bool) (w v : World) (e : WorldEvent) (x : Result Answer Refusal) → IsReachedIn passed joined w → Steps w e x v → next ≡ passed_by e passed → IsReachedIn next joined v
 unfolding reached-step

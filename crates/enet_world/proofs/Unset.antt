@@ -4,7 +4,7 @@ use Rattle.enet_codec.specs.declared.packet.Packet as codec
 use Rattle.enet_codec.specs.declared.command.Verify.{Verify}
 use Rattle.enet_codec.specs.declared.stop.Stop.{Stop}
 use Rattle.enet_codec.specs.declared.stop.Stop.TheVariants as stop
-use Rattle.enet_codec.specs.Message.{Message, Body, acknowledge, connect, verify_connect, disconnect, ping, send_reliable, send_unreliable, send_fragment, send_unsequenced, send_unreliable_fragment, bandwidth_limit, throttle_configure}
+use Rattle.enet_codec.specs.Message.{Message, Body, acknowledge, connect, verify_connect, disconnect, ping, bandwidth_limit, throttle_configure}
 use Rattle.enet_rtt.specs.Expiry.{standard_patience}
 use Rattle.enet_rtt.specs.declared.expiry.Expiry.{Expiry}
 use Rattle.enet_rtt.specs.declared.expiry.Expiry.TheVariants.{No, Resend, End}
@@ -72,9 +72,6 @@ unset-last p false info h = h
 unset-disconnect : (p : Peering) (s : PeerState) (b : Bool) (info : ℕ) → IsUnset p → IsUnset (on_disconnect_in s p b info)
 unset-disconnect p state.Connected b info h = unset-last p b info h
 unset-disconnect p state.DisconnectLater b info h = unset-last p b info h
-unset-disconnect p state.Connecting b info h = h
-unset-disconnect p state.Disconnecting b info h = h
-unset-disconnect p state.Answering b info h = h
 unset-disconnect p s b info h = h
 
 unset-answered : (p : Peering) (m : Message) (sent : Option ℕ) (may : Bool) → IsUnset p → IsUnset (answered p m sent may).after
@@ -110,11 +107,7 @@ unset-obeyed p now sent m low h = by (is_connect m.body) (is_allowed p.state m.b
     body ping = unset-answered p m sent true h
     body (bandwidth_limit incoming outgoing) = unset-answered (on_bandwidth p incoming) m sent true h
     body (throttle_configure interval acceleration deceleration) = unset-answered (on_throttle p interval acceleration deceleration) m sent true h
-    body (send_reliable payload) = unset-data p m sent h
-    body (send_unreliable number payload) = unset-data p m sent h
-    body (send_fragment fragment payload) = unset-data p m sent h
-    body (send_unsequenced group payload) = unset-data p m sent h
-    body (send_unreliable_fragment fragment payload) = unset-data p m sent h
+    body b = unset-data p m sent h
 
     by : (a b : Bool) → IsUnset (cond a (stopped p stop.BadCommand) (cond b (unless_crowded_out p m (by_body p now sent m m.body)) (stopped p stop.NotConnected))).after
     by true b = h

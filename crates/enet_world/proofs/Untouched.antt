@@ -5,7 +5,7 @@ use Rattle.enet_codec.specs.declared.command.Head.{Head}
 use Rattle.enet_codec.specs.declared.packet.Packet.{Packet}
 use Rattle.enet_codec.specs.declared.stop.Stop.{Stop}
 use Rattle.enet_codec.specs.declared.stop.Stop.TheVariants as stop
-use Rattle.enet_codec.specs.Message.{Message, Body, acknowledge, connect, verify_connect, disconnect, ping, send_reliable, send_unreliable, send_fragment, send_unsequenced, bandwidth_limit, throttle_configure, send_unreliable_fragment}
+use Rattle.enet_codec.specs.Message.{Message, Body, acknowledge, connect, verify_connect, disconnect, ping, bandwidth_limit, throttle_configure}
 use Rattle.enet_rtt.specs.declared.expiry.Expiry.{Expiry}
 use Rattle.enet_rtt.specs.declared.expiry.Expiry.TheVariants.{No, Resend, End as Ends}
 use Rattle.enet_senders.specs.declared.control.Control.TheVariants as control
@@ -55,12 +55,7 @@ each-up P stands acks ends p up = by p.state refl up
     by state.Connected e u = so state.Connected e (stands p)
     by state.AckDisconnect e u = so state.AckDisconnect e (acks p)
     by state.Ended e u = so state.Ended e (ends p)
-    by state.Connecting e u = absurd (cc)
-    by state.Answering e u = absurd (cc)
-    by state.DisconnectLater e u = absurd (cc)
-    by state.Disconnecting e u = absurd (cc)
-    by state.Parting e u = absurd (cc)
-    by state.Free e u = absurd (cc)
+    by s e u = absurd (cc)
 
 -- ---- a command comes
 if-next : (s : PeerState) (b : Bool) (x y : Outcome) → Next s x.after.state → Next s y.after.state → Next s (cond b x y).after.state
@@ -122,11 +117,7 @@ connected-obeyed r now sent h body = by body
     by ping = plain ping p refl
     by (bandwidth_limit incoming outgoing) = plain (bandwidth_limit incoming outgoing) (on_bandwidth p incoming) refl
     by (throttle_configure interval acceleration deceleration) = plain (throttle_configure interval acceleration deceleration) (on_throttle p interval acceleration deceleration) refl
-    by (send_reliable payload) = data' (send_reliable payload)
-    by (send_unreliable n payload) = data' (send_unreliable n payload)
-    by (send_unsequenced group payload) = data' (send_unsequenced group payload)
-    by (send_fragment f payload) = data' (send_fragment f payload)
-    by (send_unreliable_fragment f payload) = data' (send_unreliable_fragment f payload)
+    by body = data' body
 
 acknowledging-obeyed : (r : Peering) (now : ℕ) (sent : Option ℕ) (h : Head) (body : Body) → Next state.AckDisconnect (obeyed (in_state state.AckDisconnect r) now sent (record { head = h; body = body })).after.state
 acknowledging-obeyed r now sent h body = by body
@@ -150,28 +141,11 @@ acknowledging-obeyed r now sent h body = by body
     by (acknowledge number time) = plain (acknowledge number time) (on_acknowledge p now h.channel number time) (taken-away number time (matched_by p.outbox h.channel number))
     by (verify_connect v) = plain (verify_connect v) p refl
     by (disconnect info) = plain (disconnect info) p refl
-    by ping = inl refl
-    by (bandwidth_limit incoming outgoing) = inl refl
-    by (throttle_configure interval acceleration deceleration) = inl refl
-    by (send_reliable payload) = inl refl
-    by (send_unreliable n payload) = inl refl
-    by (send_unsequenced group payload) = inl refl
-    by (send_fragment f payload) = inl refl
-    by (send_unreliable_fragment f payload) = inl refl
+    by body = inl refl
 
 ended-obeyed : (r : Peering) (now : ℕ) (sent : Option ℕ) (h : Head) (body : Body) → Next state.Ended (obeyed (in_state state.Ended r) now sent (record { head = h; body = body })).after.state
-ended-obeyed r now sent h (connect offer) = inl refl
-ended-obeyed r now sent h (acknowledge number time) = inl refl
-ended-obeyed r now sent h (verify_connect v) = inl refl
-ended-obeyed r now sent h (disconnect info) = inl refl
 ended-obeyed r now sent h ping = inl refl
-ended-obeyed r now sent h (bandwidth_limit incoming outgoing) = inl refl
-ended-obeyed r now sent h (throttle_configure interval acceleration deceleration) = inl refl
-ended-obeyed r now sent h (send_reliable payload) = inl refl
-ended-obeyed r now sent h (send_unreliable n payload) = inl refl
-ended-obeyed r now sent h (send_unsequenced group payload) = inl refl
-ended-obeyed r now sent h (send_fragment f payload) = inl refl
-ended-obeyed r now sent h (send_unreliable_fragment f payload) = inl refl
+ended-obeyed r now sent h body = inl refl
 
 obeyed-next : (p : Peering) (now : ℕ) (sent : Option ℕ) (m : Message) → is_up p.state ≡ true → Next p.state (obeyed p now sent m).after.state
 obeyed-next p now sent m up = each-up (λ s q. Next s (obeyed q now sent m).after.state) (λ r. connected-obeyed r now sent m.head m.body) (λ r. acknowledging-obeyed r now sent m.head m.body) (λ r. ended-obeyed r now sent m.head m.body) p up
@@ -216,14 +190,7 @@ next-rises f k s t (inr (inr (on, acks))) h = ap f acks ∙ k.acks (sym (ap f on
 
 gone-rises : (f : PeerState → Bool) → Rises f → (s : PeerState) → f s ≡ true → f (gone_by s) ≡ true
 gone-rises f k state.AckDisconnect h = k.ends state.AckDisconnect h
-gone-rises f k state.Connected h = h
-gone-rises f k state.Ended h = h
-gone-rises f k state.Connecting h = h
-gone-rises f k state.Answering h = h
-gone-rises f k state.DisconnectLater h = h
-gone-rises f k state.Disconnecting h = h
-gone-rises f k state.Parting h = h
-gone-rises f k state.Free h = h
+gone-rises f k s h = h
 
 -- a deed that is none of the user's
 abbrev pub IsQuiet : Deed → Type 0
@@ -247,10 +214,7 @@ deed-rises f k (deed.Come now sent m answer) p q quiet a h =
 deed-rises f k (deed.Tick now) p q quiet a h = subst (IsIn f) (sym a) (next-rises f k p.state (ticked p now).state (ticked-next p now (k.only p.state h)) h)
 deed-rises f k (deed.Set (setting.ThrottleLimit limit) (Ok done)) p q quiet a h = (let set = was-set (setting.ThrottleLimit limit) done p q a in subst (IsIn f) (sym set.1) h)
 deed-rises f k (deed.Set (setting.ThrottleLimit limit) (Err why)) p q quiet a h = subst (IsIn f) (sym (matches.refused (deed.Set (setting.ThrottleLimit limit) (Err why)) p q a refl)) h
-deed-rises f k (deed.Set s answer) p q quiet a h = absurd quiet
-deed-rises f k (deed.Submit x answer) p q quiet a h = absurd quiet
-deed-rises f k (deed.Take given) p q quiet a h = absurd quiet
-deed-rises f k (deed.Disconnect way info answer) p q quiet a h = absurd quiet
+deed-rises f k d p q quiet a h = absurd quiet
 
 pub deeds-rise : (f : PeerState → Bool) → Rises f → (ds : List Deed) (p q : Peering) → AreQuiet ds → AllAlone ds p q → f p.state ≡ true → f q.state ≡ true
 deeds-rise f k [] p q quiet a h = subst (IsIn f) a h

@@ -145,14 +145,7 @@ fell-quiet h x (call.Tick ms) ds k f = subst AreQuiet (sym f) (tt, if-quiet _ _ 
 fell-quiet h x (call.Service None buf) ds k f = subst AreQuiet (sym f) (tt, tt)
 fell-quiet h x (call.Service (Some gave) buf) ds k f = subst AreQuiet (sym f) (up-to-quiet h.turn gave.0.slot x.number _ _ tt tt)
 fell-quiet h x (call.Receive from bytes answer) ds k f = reaches-quiet x.number x.slot _ ds f
-fell-quiet h x (call.Connect address channels info word answer) ds k f = absurd k
-fell-quiet h x (call.Submit name channel q answer) ds k f = absurd k
-fell-quiet h x (call.Disconnect mode name info answer) ds k f = absurd k
-fell-quiet h x (call.SetBandwidth incoming outgoing answer) ds k f = absurd k
-fell-quiet h x (call.ConfigureThrottle name interval acceleration deceleration answer) ds k f = absurd k
-fell-quiet h x (call.SetPingInterval name ms answer) ds k f = absurd k
-fell-quiet h x (call.SetTimeout name limit minimum maximum answer) ds k f = absurd k
-fell-quiet h x (call.NextEvent answer) ds k f = absurd k
+fell-quiet h x c ds k f = absurd k
 
 -- ---- a peer that is up
 not-free : (s : PeerState) → is_up s ≡ true → s ≢ state.Free
