@@ -1,7 +1,7 @@
 -- What each peer of a world has kept since it began, since in a world nothing is set: ENet's patience and ping interval, room for 576 bytes in a
 -- datagram, at most a PING on channel 0xFF while it is connected, and that whatever was sent is due to go again, or its timeout isn't over; and how
 -- long it has waited, by how much the clocks have gone on since the world's beginning.
-use Rattle.std.proofs.Common.{◌≡◌, ℕ, ◌+◌, ◌%◌, ◌^◌, ◌<◌, ◌≤◌, ◌==◌, ◌&&◌, min, ◌⊎◌, inl, inr, Bool, true, false, cond, List, [], ◌∷◌, ◌++◌, append-nil, refl, sym, ap, subst, ◌∙◌, arith, Option, Some, None, Result, Ok, Err, nat_lt}
+use Rattle.std.proofs.Common.{◌≡◌, ℕ, ◌+◌, ◌%◌, ◌^◌, ◌<◌, ◌≤◌, ◌&&◌, min, ◌⊎◌, inl, inr, Bool, true, false, List, [], ◌∷◌, ◌++◌, append-nil, refl, sym, ap, subst, ◌∙◌, arith, Option, Some, None, Result, Ok, Err}
 use Rattle.std.proofs.lemmas.Bool.Decides.{nat_tests}
 use Rattle.std.specs.List.{slice_get}
 use Rattle.enet_codec.specs.declared.address.Addr.{Addr}
@@ -9,7 +9,6 @@ use Rattle.enet_codec.specs.declared.config.Config.{Config}
 use Rattle.enet_codec.specs.Config.{is_in_range}
 use Rattle.enet_codec.specs.declared.event.Event.TheVariants as tells
 use Rattle.enet_codec.specs.declared.event.PeerRef.{PeerRef}
-use Rattle.enet_codec.specs.declared.event.Received.{Received}
 use Rattle.enet_codec.specs.declared.refusal.Refusal.{Refusal}
 use Rattle.enet_peer.specs.Peering.{Peering}
 use Rattle.enet_peer.specs.CommandEffect.{obeyed, wants_memory}
@@ -27,7 +26,7 @@ use Rattle.law_network.specs.Calls as call
 use Rattle.law_network.specs.Common.{Common, common_of}
 use Rattle.law_network.specs.Deeds.{Deed, Alone, AllAlone, emitted}
 use Rattle.law_network.specs.Deeds as deed
-use Rattle.law_network.specs.Falling.{Fell, Falls, Reaches, Receipt, Occupied, fell_to, fell_in, occupied_in, deeds_if, up_to, share_of}
+use Rattle.law_network.specs.Falling.{Fell, Occupied, fell_to, fell_in, occupied_in, share_of}
 use Rattle.law_network.specs.Falling as falling
 use Rattle.law_network.specs.declared.event.Answer.{Answer}
 use Rattle.law_network.specs.declared.event.Answer.TheVariants as answers
@@ -59,6 +58,7 @@ use Rattle.enet_world.proofs.Modest.{IsModest, modest-obeyed, modest-ticked, mod
 use Rattle.enet_world.proofs.Pings.{Idle, Queued}
 use Rattle.enet_world.proofs.Punctual.{Rests, rests-ticked, rests-emitted}
 use Rattle.enet_world.proofs.Unset.{IsUnset, unset-obeyed, unset-takes, unset-went, unset-left, unset-ticked}
+use Rattle.enet_world.proofs.Fallen.{Each, kept-by-each, each-if, each-up-to, each-reaches}
 use Rattle.law_network.proofs.Submitting.{same-some}
 use Rattle.enet_rtt.specs.declared.transmission.Transmission.{Transmission}
 
@@ -82,10 +82,6 @@ IsNow n (deed.Take given) = Unit {0}
 IsNow n (deed.Disconnect way info answer) = Unit {0}
 IsNow n (deed.Set (setting.ThrottleLimit limit) answer) = Unit {0}
 IsNow n (deed.Set s answer) = ⊥
-
-abbrev pub AreNow : ℕ → List Deed → Type 0
-AreNow n [] = Unit {0}
-AreNow n (d ∷ ds) = IsNow n d × AreNow n ds
 
 pub clock-sum : (now d : ℕ) → (now % 2 ^ 32 + d) % 2 ^ 32 ≡ (now + d) % 2 ^ 32
 clock-sum now d = omega arith
@@ -138,10 +134,6 @@ deed-keeps now time (deed.Set (setting.ThrottleLimit limit) (Ok done)) p q at a 
 deed-keeps now time (deed.Set (setting.ThrottleLimit limit) (Err why)) p q at a h = subst (Habit now time) (sym (matches.refused (deed.Set (setting.ThrottleLimit limit) (Err why)) p q a refl)) h
 deed-keeps now time (deed.Set s answer) p q at a h = absurd at
 
-deeds-keep : (now time : ℕ) (ds : List Deed) (p q : Peering) → AreNow (now % 2 ^ 32) ds → AllAlone ds p q → Habit now time p → Habit now time q
-deeds-keep now time [] p q at a h = subst (Habit now time) a h
-deeds-keep now time (d ∷ ds) p q at a h = deeds-keep now time ds a.0 q at.1 a.2 (deed-keeps now time d p a.0 at.0 a.1 h)
-
 -- ---- what falls to a peer by a call
 -- a call that is none of time, and sets nothing
 abbrev pub IsStill : Call → Type 0
@@ -152,41 +144,18 @@ IsStill (call.SetPingInterval name ms answer) = ⊥
 IsStill (call.SetTimeout name limit minimum maximum answer) = ⊥
 IsStill c = Unit {0}
 
-pub if-now : (n : ℕ) (b : Bool) (d : Deed) → IsNow n d → AreNow n (deeds_if b d)
-if-now n true d at = (at, tt)
-if-now n false d at = tt
-
-up-to-now : (n : ℕ) (turn : ℕ → ℕ) (j i : ℕ) (gives passes : Deed) → IsNow n gives → IsNow n passes → AreNow n (up_to turn j i gives passes)
-up-to-now n turn j i gives passes g p = by (j == i)
-  where
-    by : (b : Bool) → AreNow n (cond b (gives ∷ []) (deeds_if (nat_lt (turn i) (turn j)) passes))
-    by true = (g, tt)
-    by false = if-now n (nat_lt (turn i) (turn j)) passes p
-
-falls-now : (a : _) (handled : ℕ) (bytes : List ℕ) (answer : Received) (ds : List Deed) → Falls a handled bytes answer ds → AreNow a.now ds
-falls-now a handled bytes answer ds (falling.nothing_left n) = tt
-falls-now a handled bytes answer ds (falling.no_command n text some none) = tt
-falls-now a handled bytes answer ds (falling.stops n text rest m why spelled) = (refl, tt)
-falls-now a handled bytes answer ds (falling.goes_on n text rest m told more spelled f) = (refl, falls-now a _ rest told more f)
-
-reaches-now : (i : ℕ) (s : SlotState) (r : Receipt) (ds : List Deed) → Reaches i s r ds → AreNow r.now ds
-reaches-now i s r ds (falling.unreadable why un) = tt
-reaches-now i s r ds (falling.elsewhere header commands read not-here) = tt
-reaches-now i s r ds (falling.turned_away header commands why read some is refused told) = tt
-reaches-now i s r ds (falling.here header commands ds' read some is taken f) = falls-now _ 0 commands r.answer ds' f
-
-pub fell-now : (h : Common) (x : Occupied) (c : Call) (ds : List Deed) → IsStill c → Fell h x c ds → AreNow h.clock ds
-fell-now h x (call.Connect address channels info word answer) ds k f = subst (AreNow h.clock) (sym f) tt
-fell-now h x (call.Submit name channel q answer) ds k f = subst (AreNow h.clock) (sym f) (if-now h.clock (falling.is_meant name x.number x.slot) _ tt)
-fell-now h x (call.Receive from bytes answer) ds k f = reaches-now x.number x.slot _ ds f
-fell-now h x (call.Service None buf) ds k f = subst (AreNow h.clock) (sym f) (refl, tt)
-fell-now h x (call.Service (Some gave) buf) ds k f = subst (AreNow h.clock) (sym f) (up-to-now h.clock h.turn gave.0.slot x.number _ _ refl refl)
-fell-now h x (call.Disconnect mode name info answer) ds k f = subst (AreNow h.clock) (sym f) (if-now h.clock (falling.is_meant name x.number x.slot) _ tt)
-fell-now h x (call.NextEvent None) ds k f = subst (AreNow h.clock) (sym f) (tt, tt)
-fell-now h x (call.NextEvent (Some (tells.Connect name info))) ds k f = subst (AreNow h.clock) (sym f) (up-to-now h.clock h.event_turn name.slot x.number _ _ tt tt)
-fell-now h x (call.NextEvent (Some (tells.Receive name packet))) ds k f = subst (AreNow h.clock) (sym f) (up-to-now h.clock h.event_turn name.slot x.number _ _ tt tt)
-fell-now h x (call.NextEvent (Some (tells.Disconnect name info))) ds k f = subst (AreNow h.clock) (sym f) (up-to-now h.clock h.event_turn name.slot x.number _ _ tt tt)
-fell-now h x (call.NextEvent (Some (tells.Refused seat number why))) ds k f = subst (AreNow h.clock) (sym f) tt
+fell-now : (h : Common) (x : Occupied) (c : Call) (ds : List Deed) → IsStill c → Fell h x c ds → Each (IsNow h.clock) ds
+fell-now h x (call.Connect address channels info word answer) ds k f = subst (Each (IsNow h.clock)) (sym f) tt
+fell-now h x (call.Submit name channel q answer) ds k f = subst (Each (IsNow h.clock)) (sym f) (each-if (IsNow h.clock) (falling.is_meant name x.number x.slot) _ tt)
+fell-now h x (call.Receive from bytes answer) ds k f = each-reaches (IsNow h.clock) x.number x.slot _ ds (λ sent m told. refl) f
+fell-now h x (call.Service None buf) ds k f = subst (Each (IsNow h.clock)) (sym f) (refl, tt)
+fell-now h x (call.Service (Some gave) buf) ds k f = subst (Each (IsNow h.clock)) (sym f) (each-up-to (IsNow h.clock) h.turn gave.0.slot x.number _ _ refl refl)
+fell-now h x (call.Disconnect mode name info answer) ds k f = subst (Each (IsNow h.clock)) (sym f) (each-if (IsNow h.clock) (falling.is_meant name x.number x.slot) _ tt)
+fell-now h x (call.NextEvent None) ds k f = subst (Each (IsNow h.clock)) (sym f) (tt, tt)
+fell-now h x (call.NextEvent (Some (tells.Connect name info))) ds k f = subst (Each (IsNow h.clock)) (sym f) (each-up-to (IsNow h.clock) h.event_turn name.slot x.number _ _ tt tt)
+fell-now h x (call.NextEvent (Some (tells.Receive name packet))) ds k f = subst (Each (IsNow h.clock)) (sym f) (each-up-to (IsNow h.clock) h.event_turn name.slot x.number _ _ tt tt)
+fell-now h x (call.NextEvent (Some (tells.Disconnect name info))) ds k f = subst (Each (IsNow h.clock)) (sym f) (each-up-to (IsNow h.clock) h.event_turn name.slot x.number _ _ tt tt)
+fell-now h x (call.NextEvent (Some (tells.Refused seat number why))) ds k f = subst (Each (IsNow h.clock)) (sym f) tt
 fell-now h x c ds k f = absurd k
 
 -- ---- a host
@@ -263,7 +232,7 @@ still-call time c h g still acts k = record {
   clock = own.1 ∙ still-clock c h.clock still ∙ k.clock;
   mtu = subst (λ n. 576 ≤ n) (sym (ap (λ (x : Config). x.mtu) own.0 ∙ still-mtu c h.config still)) k.mtu;
   peers = by-one (Habit k.now time) (Habit k.now time) c h g acts
-      (λ x q ds fell alone was. deeds-keep k.now time ds x.peer q (subst (λ n. AreNow n ds) k.clock (fell-now (common_of h) x c ds still fell)) alone was)
+      (λ x q ds fell alone was. kept-by-each (IsNow (k.now % 2 ^ 32)) (Habit k.now time) (deed-keeps k.now time) ds x.peer q (subst (λ n. Each (IsNow n) ds) k.clock (fell-now (common_of h) x c ds still fell)) alone was)
       (λ i s t p begins has. begun-habit k.now time c h i s t p k.mtu (low-now h.clock k.now k.clock) begins has) k.peers;
 }
   where
@@ -297,8 +266,8 @@ tick-call time ms h g acts k = record {
         share : List Deed
         share = share_of (common_of h) (clock_after h.clock ms) x.slot.emitted (ticked x.peer (clock_after h.clock ms))
 
-        shares : AreNow n share
-        shares = if-now n _ _ tt
+        shares : Each (IsNow n) share
+        shares = each-if (IsNow n) _ _ tt
 
         then' : Habit (k.now + d) (time + d) (ticked x.peer n)
         then' = record {
@@ -310,7 +279,7 @@ tick-call time ms h g acts k = record {
         }
 
         after : AllAlone (deed.Tick (clock_after h.clock ms) ∷ share) x.peer q → Habit (k.now + d) (time + d) q
-        after (r, tick, rest) = deeds-keep (k.now + d) (time + d) share r q shares rest (subst (Habit (k.now + d) (time + d)) (sym (tick ∙ ap (λ m. ticked x.peer m) moment)) then')
+        after (r, tick, rest) = kept-by-each (IsNow n) (Habit (k.now + d) (time + d)) (deed-keeps (k.now + d) (time + d)) share r q shares rest (subst (Habit (k.now + d) (time + d)) (sym (tick ∙ ap (λ m. ticked x.peer m) moment)) then')
 
 -- ---- a world
 abbrev pub WorldHabits : ℕ → World → Type 0

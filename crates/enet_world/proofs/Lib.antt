@@ -10,6 +10,7 @@ pub mod Pings
 pub mod Modest
 pub mod Unset
 pub mod Punctual
+pub mod Fallen
 pub mod Habits
 pub mod Living
 pub mod TwoEnds

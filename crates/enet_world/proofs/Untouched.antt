@@ -22,7 +22,7 @@ use Rattle.enet_peer.specs.CommandEffect.{Outcome, answered, answered_at, is_ans
 use Rattle.enet_peer.specs.Calls.{after_timeouts, after_timeouts_by, is_pinged, pinged, ticked, next_event, event_after, packet_event, last_event}
 use Rattle.law_connection.proofs.Events.{took}
 use Rattle.law_connection.specs.Steps as setting
-use Rattle.law_network.specs.Deeds.{Deed, Alone, AllAlone, emitted}
+use Rattle.law_network.specs.Deeds.{Deed, Alone, emitted}
 use Rattle.law_network.specs.Deeds as deed
 use Rattle.law_network.proofs.Matching.{was-set, matches}
 use Rattle.enet_world.proofs.Lasting.{obeys}
@@ -200,14 +200,10 @@ IsQuiet (deed.Tick now) = Unit {0}
 IsQuiet (deed.Set (setting.ThrottleLimit limit) answer) = Unit {0}
 IsQuiet d = ⊥
 
-abbrev pub AreQuiet : List Deed → Type 0
-AreQuiet [] = Unit {0}
-AreQuiet (d ∷ ds) = IsQuiet d × AreQuiet ds
-
 abbrev IsIn : (PeerState → Bool) → Peering → Type 0
 IsIn f p = f p.state ≡ true
 
-deed-rises : (f : PeerState → Bool) → Rises f → (d : Deed) (p q : Peering) → IsQuiet d → Alone d p q → f p.state ≡ true → f q.state ≡ true
+pub deed-rises : (f : PeerState → Bool) → Rises f → (d : Deed) (p q : Peering) → IsQuiet d → Alone d p q → f p.state ≡ true → f q.state ≡ true
 deed-rises f k (deed.Emit now given) p q quiet a h = subst (IsIn f) (sym a.1) (ap f (emitted-state p now (k.only p.state h)) ∙ gone-rises f k p.state h)
 deed-rises f k (deed.Come now sent m answer) p q quiet a h =
     obeys (IsIn f) answer (wants_memory p now sent m) (obeyed p now sent m) p q a h (next-rises f k p.state (obeyed p now sent m).after.state (obeyed-next p now sent m (k.only p.state h)) h)
@@ -215,10 +211,6 @@ deed-rises f k (deed.Tick now) p q quiet a h = subst (IsIn f) (sym a) (next-rise
 deed-rises f k (deed.Set (setting.ThrottleLimit limit) (Ok done)) p q quiet a h = (let set = was-set (setting.ThrottleLimit limit) done p q a in subst (IsIn f) (sym set.1) h)
 deed-rises f k (deed.Set (setting.ThrottleLimit limit) (Err why)) p q quiet a h = subst (IsIn f) (sym (matches.refused (deed.Set (setting.ThrottleLimit limit) (Err why)) p q a refl)) h
 deed-rises f k d p q quiet a h = absurd quiet
-
-pub deeds-rise : (f : PeerState → Bool) → Rises f → (ds : List Deed) (p q : Peering) → AreQuiet ds → AllAlone ds p q → f p.state ≡ true → f q.state ≡ true
-deeds-rise f k [] p q quiet a h = subst (IsIn f) a h
-deeds-rise f k (d ∷ ds) p q quiet a h = deeds-rise f k ds a.0 q quiet.1 a.2 (deed-rises f k d p a.0 quiet.0 a.1 h)
 
 -- ---- the user takes
 -- by its last event the peer is free, and by any other it stays

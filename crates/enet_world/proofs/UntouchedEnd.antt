@@ -21,8 +21,7 @@ use Rattle.law_network.specs.Calls as call
 use Rattle.law_network.specs.Common.{Common, common_of}
 use Rattle.law_network.specs.Deeds.{Deed, AllAlone}
 use Rattle.law_network.specs.Deeds as deed
-use Rattle.law_network.specs.Falling.{Fell, Falls, Reaches, Receipt, Occupied, deeds_if, up_to, taken_from}
-use Rattle.law_network.specs.Falling as falling
+use Rattle.law_network.specs.Falling.{Fell, Occupied, deeds_if, taken_from}
 use Rattle.law_network.specs.IsolationLaw.{held_if}
 use Rattle.law_network.specs.Log.{Logged}
 use Rattle.law_network.specs.Network.{HostEnd, Site, end_of, is_same_name, numbers_of, with_end}
@@ -35,7 +34,8 @@ use Rattle.law_network.proofs.OneThing.{event-ends, same-part}
 use Rattle.law_network.proofs.Peers as peers
 use Rattle.law_network.proofs.Peers.{Moved, shows-held}
 use Rattle.law_network.proofs.Submitting.{same-name, other-slot, not-there, same-some, same-slot}
-use Rattle.enet_world.proofs.Untouched.{is_up, gone_by, emitted-state, Rises, IsQuiet, AreQuiet, deeds-rise, taken-or-over, not-ended}
+use Rattle.enet_world.proofs.Untouched.{is_up, gone_by, emitted-state, Rises, IsQuiet, deed-rises, taken-or-over, not-ended}
+use Rattle.enet_world.proofs.Fallen.{Each, kept-by-each, each-if, each-up-to, each-reaches}
 
 -- ---- an end at a host
 -- the end of connection x, whose user took events since it was this one, and whose peer is in one of these states
@@ -111,40 +111,17 @@ remains-counted x old new numbers name is e there = (
 )
 
 -- ---- what falls to a peer by what isn't its user's
-if-quiet : (b : Bool) (d : Deed) → IsQuiet d → AreQuiet (deeds_if b d)
-if-quiet true d q = (q, tt)
-if-quiet false d q = tt
-
-up-to-quiet : (turn : ℕ → ℕ) (j i : ℕ) (gives passes : Deed) → IsQuiet gives → IsQuiet passes → AreQuiet (up_to turn j i gives passes)
-up-to-quiet turn j i gives passes g p = by (j == i)
-  where
-    by : (b : Bool) → AreQuiet (cond b (gives ∷ []) (deeds_if (nat_lt (turn i) (turn j)) passes))
-    by true = (g, tt)
-    by false = if-quiet (nat_lt (turn i) (turn j)) passes p
-
-falls-quiet : (a : _) (handled : ℕ) (bytes : List ℕ) (answer : Received) (ds : List Deed) → Falls a handled bytes answer ds → AreQuiet ds
-falls-quiet a handled bytes answer ds (falling.nothing_left n) = tt
-falls-quiet a handled bytes answer ds (falling.no_command n text some none) = tt
-falls-quiet a handled bytes answer ds (falling.stops n text rest m why spelled) = (tt, tt)
-falls-quiet a handled bytes answer ds (falling.goes_on n text rest m told more spelled f) = (tt, falls-quiet a _ rest told more f)
-
-reaches-quiet : (i : ℕ) (s : SlotState) (r : Receipt) (ds : List Deed) → Reaches i s r ds → AreQuiet ds
-reaches-quiet i s r ds (falling.unreadable why un) = tt
-reaches-quiet i s r ds (falling.elsewhere header commands read not-here) = tt
-reaches-quiet i s r ds (falling.turned_away header commands why read some is refused told) = tt
-reaches-quiet i s r ds (falling.here header commands ds' read some is taken f) = falls-quiet _ 0 commands r.answer ds' f
-
 abbrev pub IsQuietCall : Call → Type 0
 IsQuietCall (call.Tick ms) = Unit {0}
 IsQuietCall (call.Service answer buf) = Unit {0}
 IsQuietCall (call.Receive from bytes answer) = Unit {0}
 IsQuietCall c = ⊥
 
-fell-quiet : (h : Common) (x : Occupied) (c : Call) (ds : List Deed) → IsQuietCall c → Fell h x c ds → AreQuiet ds
-fell-quiet h x (call.Tick ms) ds k f = subst AreQuiet (sym f) (tt, if-quiet _ _ tt)
-fell-quiet h x (call.Service None buf) ds k f = subst AreQuiet (sym f) (tt, tt)
-fell-quiet h x (call.Service (Some gave) buf) ds k f = subst AreQuiet (sym f) (up-to-quiet h.turn gave.0.slot x.number _ _ tt tt)
-fell-quiet h x (call.Receive from bytes answer) ds k f = reaches-quiet x.number x.slot _ ds f
+fell-quiet : (h : Common) (x : Occupied) (c : Call) (ds : List Deed) → IsQuietCall c → Fell h x c ds → Each IsQuiet ds
+fell-quiet h x (call.Tick ms) ds k f = subst (Each IsQuiet) (sym f) (tt, each-if IsQuiet _ _ tt)
+fell-quiet h x (call.Service None buf) ds k f = subst (Each IsQuiet) (sym f) (tt, tt)
+fell-quiet h x (call.Service (Some gave) buf) ds k f = subst (Each IsQuiet) (sym f) (each-up-to IsQuiet h.turn gave.0.slot x.number _ _ tt tt)
+fell-quiet h x (call.Receive from bytes answer) ds k f = each-reaches IsQuiet x.number x.slot _ ds (λ sent m told. tt) f
 fell-quiet h x c ds k f = absurd k
 
 -- ---- a peer that is up
@@ -195,7 +172,7 @@ keeps-site f rises was x c old new few acts quiet remains (inl k) = inl (record 
     b = became c old.host new.host k.e.name k.p few acts k.is (rises.only k.p.state k.up)
 
     up : f b.q.state ≡ true
-    up = deeds-rise f rises b.ds k.p b.q (fell-quiet (common_of old.host) (record { number = b.number; slot = b.slot; peer = k.p }) c b.ds quiet b.fell) b.alone k.up
+    up = kept-by-each IsQuiet (λ (p : Peering). f p.state ≡ true) (deed-rises f rises) b.ds k.p b.q (fell-quiet (common_of old.host) (record { number = b.number; slot = b.slot; peer = k.p }) c b.ds quiet b.fell) b.alone k.up
 keeps-site f rises was x c old new few acts quiet remains (inr k) = inr (record {
   e = g.0;
   there = g.1;
