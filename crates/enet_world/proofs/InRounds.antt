@@ -60,7 +60,7 @@ use Rattle.enet_world.proofs.Habits.{Habit, Habits, HostHabits, habits-step}
 use Rattle.enet_world.proofs.Lasting.{IsIn, Holds, lasts-event, is_begun, begun-lasts}
 use Rattle.enet_world.proofs.Living.{named-fits, named-asks}
 use Rattle.enet_world.proofs.Modest.{modest-pings}
-use Rattle.enet_world.proofs.Moments.{waited}
+use Rattle.enet_world.proofs.Moments.{waited, ticks-joint}
 use Rattle.enet_world.proofs.Offers.{NoOffers, connected-plain}
 use Rattle.enet_world.proofs.Pings.{IsLone, is_ping}
 use Rattle.enet_world.proofs.Reaching.{reached-step}
@@ -96,7 +96,7 @@ pub record TicksTo (joined : Bool) (v : World) (x : ℕ) (side : Side) (now : �
 
 goes-on-at : (joined : Bool) (w v : World) (x : ℕ) (side : Side) (ms : ℕ) (own far : End) → IsReached joined w → HappensAt side (Calls (call.Tick ms)) w v → Up joined w x side own far → TicksTo joined v x side (clock_after (clock_at w side) ms) own far
 unfolding Moved
-goes-on-at joined w v x side ms own far r h k = record { new = m.0; ends = m.1; joint = ticks-joint m.2; begun = ticks-begun m.2; ticks = m.2 }
+goes-on-at joined w v x side ms own far r h k = record { new = m.0; ends = m.1; joint = ticks-joint (from_start joined x) (clock_after (clock_at w side) ms) own far m.0 m.2 k.joint; begun = ticks-begun m.2; ticks = m.2 }
   where
     now : ℕ
     now = clock_after (clock_at w side) ms
@@ -104,10 +104,6 @@ goes-on-at joined w v x side ms own far r h k = record { new = m.0; ends = m.1; 
     m : Moved v x side far (Ticks now own far)
     m = moved w v x side own far (Calls (call.Tick ms)) (Ticks now own far) k.ends h
         (times (beside w.count (site_of w (other side))) (site_of w (other side)) (site_of w side) (site_of v side) ms h.here k.ends.e own far (is-end (from_start joined) w x side own far (sound joined w r) k.ends) (live own k.p k.is_p k.on_p))
-
-    ticks-joint : {new : End} → Ticks now own far new → Joint (from_start joined x) new far
-    ticks-joint {new} (inl t) = joint-event (from_start joined x) own far new (event.Tick now) t k.joint
-    ticks-joint {new} (inr t) = joint-event (from_start joined x) t.1 far new (event.Set (event.ThrottleLimit t.0)) t.3 (joint-event (from_start joined x) own far t.1 (event.Tick now) t.2 k.joint)
 
     ticks-begun : {new : End} → Ticks now own far new → Holds (IsIn is_begun) new
     ticks-begun {new} (inl t) = lasts-event (IsIn is_begun) begun-lasts own far new (event.Tick now) t (begun-here own k.p k.is_p k.on_p)

@@ -11,6 +11,8 @@ use Rattle.enet_senders.specs.Controlling as controlling
 use Rattle.enet_senders.specs.declared.control.Control.TheVariants as control
 use Rattle.enet_senders.specs.declared.control.SentControl.{SentControl}
 use Rattle.law_connection.specs.LinkSteps.{Has}
+use Rattle.law_connection.specs.Connection.{End}
+use Rattle.law_connection.specs.Steps.{Tick, Set, ThrottleLimit}
 use Rattle.enet_sender.specs.declared.sent.Sent.{Sent}
 use Rattle.enet_sender.specs.Sender as sender
 use Rattle.enet_sender.specs.Due.{SendingEnd}
@@ -20,7 +22,9 @@ use Rattle.enet_peer.specs.Peering.{Peering}
 use Rattle.enet_peer.specs.Calls.{ticked, pinged, is_pinged, after_timeouts_by, growth_bound, with_throttle_limit}
 use Rattle.law_connection.proofs.Runs.{get-map}
 use Rattle.law_progress.specs.Exchanges.{HasSent}
+use Rattle.law_progress.specs.InTurn.{Ticks}
 use Rattle.law_progress.proofs.Waiting.{none-of, or-both, Has-at, Has-mapped}
+use Rattle.law_progress.proofs.Exchanges.{Joint, joint-event}
 
 -- ---- patience isn't over
 any-none : {X : Type 0} (f : X → Bool) (xs : List X) → ((x : X) → Has xs x → f x ≡ false) → list_any f xs ≡ false
@@ -102,3 +106,8 @@ waited p now lasts = subst (λ (x : Peering). Waited now p x) (sym is) (by (has_
 -- nor does it matter that its throttle is limited
 pub waited-limited : (p q : Peering) (now limit : ℕ) → Waited now p q → Waited now p (with_throttle_limit q limit)
 waited-limited p q now limit k = record { state = k.state; heard = k.heard; acknowledgements = k.acknowledgements; controls = k.controls; channels = k.channels }
+
+-- what holds of both ends together holds on
+pub ticks-joint : (joined : Bool) (now : ℕ) (own other new : End) → Ticks now own other new → Joint joined own other → Joint joined new other
+ticks-joint joined now own other new (inl h) j = joint-event joined own other new (Tick now) h j
+ticks-joint joined now own other new (inr h) j = joint-event joined h.1 other new (Set (ThrottleLimit h.0)) h.3 (joint-event joined own other h.1 (Tick now) h.2 j)

@@ -16,16 +16,15 @@ use Rattle.enet_peer.specs.Peering.{Peering}
 use Rattle.enet_peer.specs.Calls.{pace_of, ticked, with_throttle_limit}
 use Rattle.law_connection.specs.Connection.{End, Connection}
 use Rattle.law_connection.specs.Invariant.{Invariant}
-use Rattle.law_connection.specs.Steps.{Tick, Set, ThrottleLimit}
 use Rattle.law_progress.specs.Exchanges.{HasSent}
 use Rattle.law_progress.specs.InTurn.{Ticks, RoundInTurn}
 use Rattle.law_progress.proofs.BothRounds.{AnswersAt, OnItsWay, Sending, Exchanged, exchanged, answers-all, tick-peer}
-use Rattle.law_progress.proofs.Exchanges.{Joint, joint-swap, joint-event, same-peer, Came, took-all}
+use Rattle.law_progress.proofs.Exchanges.{Joint, joint-swap, same-peer, Came, took-all}
 use Rattle.law_progress.proofs.Found.{sender-rests, controls-rest}
 use Rattle.law_progress.proofs.Waiting.{Each, Sends}
 use Rattle.enet_world.specs.Stands.{AllYoung}
 use Rattle.enet_world.proofs.Modest.{Controlled, modest-ticked, modest-pings}
-use Rattle.enet_world.proofs.Moments.{outlasts, Waited, waited, waited-limited, has-place}
+use Rattle.enet_world.proofs.Moments.{outlasts, Waited, waited, waited-limited, has-place, ticks-joint}
 use Rattle.enet_world.proofs.Pinged.{Stood, stood-takes}
 use Rattle.enet_world.proofs.Pings.{IsLone, is_ping}
 use Rattle.enet_world.proofs.Punctual.{Rests}
@@ -98,10 +97,6 @@ timed now own other new p ticks is plain lasts = by ticks
       lone = lone;
       waited = waited-limited p (ticked p now) now h.0 w;
     }
-
-ticks-joint : (joined : Bool) (now : ℕ) (own other new : End) → Ticks now own other new → Joint joined own other → Joint joined new other
-ticks-joint joined now own other new (inl h) j = joint-event joined own other new (Tick now) h j
-ticks-joint joined now own other new (inr h) j = joint-event joined h.1 other new (Set (ThrottleLimit h.0)) h.3 (joint-event joined own other h.1 (Tick now) h.2 j)
 
 -- ---- a round
 -- by what came when a peer was last heard

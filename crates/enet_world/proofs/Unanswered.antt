@@ -234,49 +234,41 @@ old-marked since now time d bound pt heard t c = by (leb t.timeout (elapsed_time
     grows : Transmission
     grows = record t { timeout = transmission.grown_time bound t.timeout; due = true }
 
+    -- with another timeout, perhaps, and due to go again or not
+    later : (wait : ℕ) (due : Bool) → wait ≤ 327675 → (due ≡ true) ⊎ (now + d ≤ a.last + wait) → Aged (now + d) (time + d) (record t { timeout = wait; due = due })
+    later wait due brief waits = record {
+      first = a.first;
+      last = a.last;
+      first_is = a.first_is;
+      last_is = a.last_is;
+      after = a.after;
+      by = low;
+      since = (let y = a.since in omega arith);
+      brief = brief;
+      waits = waits;
+    }
+
+    rests : t.due ≡ false
+    rests = c.rests
+
     by : (late : Bool) → leb t.timeout (elapsed_time n t.last) ≡ late → Old since (now + d) (time + d) (transmission.marked bound n t)
     by false f = subst (λ b. Old since (now + d) (time + d) (cond b grows t)) (sym not_late) (record {
-      aged = record {
-        first = a.first;
-        last = a.last;
-        first_is = a.first_is;
-        last_is = a.last_is;
-        after = a.after;
-        by = low;
-        since = (let y = a.since in omega arith);
-        brief = a.brief;
-        waits = inr (let x = lt-of t.timeout (elapsed_time n t.last) f in let y = gone in let z = low in omega arith);
-      };
+      aged = later t.timeout t.due a.brief (inr (let x = lt-of t.timeout (elapsed_time n t.last) f in let y = gone in let z = low in omega arith));
       early = o.early;
       soon = o.soon;
       waits = inl c.rests;
     })
       where
-        rests : t.due ≡ false
-        rests = c.rests
-
         not_late : transmission.is_late n t ≡ false
         not_late = (λ i. not (rests i) && f i)
     by true f = subst (λ b. Old since (now + d) (time + d) (cond b grows t)) (sym is_late) (record {
-      aged = record {
-        first = a.first;
-        last = a.last;
-        first_is = a.first_is;
-        last_is = a.last_is;
-        after = a.after;
-        by = low;
-        since = (let y = a.since in omega arith);
-        brief = (let x = at-most-twice bound t.timeout in let y = le-of t.timeout (elapsed_time n t.last) f in let z = gone in let u = soon in let v = a.after in let w = low in omega arith);
-        waits = inl refl;
-      };
+      aged = later (transmission.grown_time bound t.timeout) true
+          (let x = at-most-twice bound t.timeout in let y = le-of t.timeout (elapsed_time n t.last) f in let z = gone in let u = soon in let v = a.after in let w = low in omega arith) (inl refl);
       early = o.early;
       soon = o.soon;
       waits = inr (let u = soon in let v = o.early in omega arith);
     })
       where
-        rests : t.due ≡ false
-        rests = c.rests
-
         is_late : transmission.is_late n t ≡ true
         is_late = (λ i. not (rests i) && f i)
 
