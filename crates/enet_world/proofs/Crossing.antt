@@ -119,7 +119,7 @@ all-come now time sent (x ∷ puts) from to new told none a on = by (λ stays. a
 
 -- ---- what a connected end puts out has no CONNECT
 pub puts-plain : (now : ℕ) (own far new : End) (p : Peering) (puts : List Put) → own.peer ≡ Some p → NoOffers p.outbox.control → Happens own far (Emit now) new → new.log ≡ own.log ++ puts → (x : Put) (o : Offer) → Has puts x → x.message.body ≡ connect o → ⊥
-puts-plain now own far new p puts is plain h logged x o has says = filled-plain (pace_of p now) p.outbox plain x.message o (was-filled now own far new p puts is h logged x has) says
+puts-plain now own far new p puts is plain h logged x o has says = filled-plain (pace_of p now) p.outbox plain x.message (was-filled now own far new p puts is h logged x has) o says
 
 -- ---- a datagram of a connection that isn't stopped is one of the slot in which its host has the end
 stopped-not : {X : Type 0} (why : Stop) (answer : Received) → slots.stopped why ≡ answer → answer.stop ≡ None → X

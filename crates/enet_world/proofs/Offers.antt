@@ -12,12 +12,15 @@ use Rattle.enet_senders.specs.Controlling.{Commands, Next, is_reliable, is_in_sp
 use Rattle.enet_senders.specs.Controlling as controlling
 use Rattle.enet_fragment.specs.DataCommand.{wire_body}
 use Rattle.enet_fragment.specs.DataCommand as fragment
+use Rattle.enet_fragment.specs.declared.data.DataCommand.{DataCommand}
 use Rattle.enet_sender.specs.CommandChoice.{Packet}
 use Rattle.enet_sender.specs.Due.{SendingEnd}
 use Rattle.enet_outbox.specs.declared.parts.Pace.{Pace}
 use Rattle.enet_outbox.specs.Outbox.{Outbox}
 use Rattle.enet_outbox.specs.Outbox as outbox
 use Rattle.enet_outbox.specs.Emission.{Filling, acknowledgement_of, unsequenced_of, filled}
+use Rattle.enet_outbox.specs.declared.parts.Acknowledgement.{Acknowledgement}
+use Rattle.enet_outbox.specs.declared.parts.Unsequenced.{Unsequenced}
 use Rattle.enet_outbox.proofs.Filled.{by-filling}
 use Rattle.enet_peer.specs.declared.parts.PeerState.TheVariants as state
 use Rattle.enet_peer.specs.Peering.{Peering}
@@ -170,14 +173,31 @@ answering-asks p n queued sent plain = inr (record {
   sent = λ s h. absurd (subst (λ (l : List SentControl). Has l s) sent h);
 })
 
--- ---- so no datagram of it has a CONNECT
-record SaysNone (f : Filling) : Type 0 where
-  control : NoOffers f.outbox.control
-  messages : (m : Message) (o : Offer) → Has f.messages m → m.body ≡ connect o → ⊥
+-- ---- what is in a datagram
+record AllSay (C : Commands → Type 0) (P : Message → Type 0) (f : Filling) : Type 0 where
+  control : C f.outbox.control
+  messages : (m : Message) → Has f.messages m → P m
 
-more-said : (ms : List Message) (m : Message) → ((x : Message) (o : Offer) → Has ms x → x.body ≡ connect o → ⊥) → ((o : Offer) → m.body ≡ connect o → ⊥) → (x : Message) (o : Offer) → Has (ms ++ m ∷ []) x → x.body ≡ connect o → ⊥
-more-said ms m old new x o h = elim (Has-push_cases ms m x h) [ inl k ↦ old x o k | inr e ↦ subst (λ (y : Message). y.body ≡ connect o → ⊥) e (new o) ]
+one-more : (P : Message → Type 0) (ms : List Message) (m : Message) → ((x : Message) → Has ms x → P x) → P m → (x : Message) → Has (ms ++ m ∷ []) x → P x
+one-more P ms m old new x h = elim (Has-push_cases ms m x h) [ inl k ↦ old x k | inr e ↦ subst P e new ]
 
+-- each message has what an acknowledgement and data have, and a command of channel 0xFF that goes next
+pub filled-all : (C : Commands → Type 0) (P : Message → Type 0) (pace : Pace) (b : Outbox) → ((c : Commands) (n : Next) → next pace.now pace.timeout c ≡ Some n → C c → C n.commands × P (message_of n.command)) → ((x : Acknowledgement) → P (acknowledgement_of x))
+    → ((u : Unsequenced) → P (unsequenced_of u)) → ((channel : ℕ) (d : DataCommand) → P (fragment.message_of channel d)) → C b.control → (m : Message) → Has (filled pace b).messages m → P m
+filled-all C P pace b goes acknowledges unsequenced data' begins = let a = all in a.messages
+  where
+    all : AllSay C P (filled pace b)
+    all = by-filling pace b (AllSay C P) (record {
+      closes = λ f a. record { control = a.control; messages = a.messages };
+      acknowledges = λ f x rest e a. record { control = a.control; messages = one-more P f.messages (acknowledgement_of x) a.messages (acknowledges x) };
+      controls = λ f n e a. (let s = goes f.outbox.control n e a.control in record { control = s.0; messages = one-more P f.messages (message_of n.command) a.messages s.1 });
+      puts_unsequenced = λ f u rest t e a. record { control = a.control; messages = one-more P f.messages (unsequenced_of u) a.messages (unsequenced u) };
+      drops_unsequenced = λ f u rest t e a. record { control = a.control; messages = a.messages };
+      puts_data = λ f k s n t there due a. record { control = a.control; messages = one-more P f.messages (fragment.message_of s.channel n.command) a.messages (data' s.channel n.command) };
+      drops_data = λ f k s n t there due kind a. record { control = a.control; messages = a.messages };
+    }) (record { control = begins; messages = λ m h. absurd h })
+
+-- so no datagram of it has a CONNECT
 control-said : (what : Control) (o : Offer) → is_offer what ≡ false → body_of what ≡ connect o → ⊥
 control-said (control.Connect offer) o plain e = cc
 control-said what o plain e = cc
@@ -188,20 +208,7 @@ data-said true (Some f) count body o e = cc
 data-said false None count body o e = cc
 data-said false (Some f) count body o e = cc
 
-pub filled-plain : (pace : Pace) (b : Outbox) → NoOffers b.control → (m : Message) (o : Offer) → Has (filled pace b).messages m → m.body ≡ connect o → ⊥
-filled-plain pace b plain = let a = all in a.messages
-  where
-    all : SaysNone (filled pace b)
-    all = by-filling pace b SaysNone (record {
-      closes = λ f a. record { control = a.control; messages = a.messages };
-      acknowledges = λ f x rest e a. record { control = a.control; messages = more-said f.messages (acknowledgement_of x) a.messages (λ o t. absurd (cc)) };
-      controls = λ f n e a. (let s = next-plain pace.now pace.timeout f.outbox.control n e a.control in
-          record { control = s.0; messages = more-said f.messages (message_of n.command) a.messages (λ o t. control-said n.command.control o s.1 t) });
-      puts_unsequenced = λ f u rest t e a. record { control = a.control; messages = more-said f.messages (unsequenced_of u) a.messages (λ o t. absurd (cc)) };
-      drops_unsequenced = λ f u rest t e a. record { control = a.control; messages = a.messages };
-      puts_data = λ f k s n t there due a. record {
-        control = a.control;
-        messages = more-said f.messages (fragment.message_of s.channel n.command) a.messages (λ o t. data-said n.command.reliable n.command.fragment n.command.unreliable n.command.body o t);
-      };
-      drops_data = λ f k s n t there due kind a. record { control = a.control; messages = a.messages };
-    }) (record { control = plain; messages = λ m o h. absurd h })
+pub filled-plain : (pace : Pace) (b : Outbox) → NoOffers b.control → (m : Message) → Has (filled pace b).messages m → (o : Offer) → m.body ≡ connect o → ⊥
+filled-plain pace b = filled-all NoOffers (λ m. (o : Offer) → m.body ≡ connect o → ⊥) pace b
+    (λ c n e a. (let s = next-plain pace.now pace.timeout c n e a in (s.0, λ o t. control-said n.command.control o s.1 t)))
+    (λ x o t. absurd (cc)) (λ u o t. absurd (cc)) (λ channel d o t. data-said d.reliable d.fragment d.unreliable d.body o t)

@@ -1,16 +1,14 @@
 -- While both ends are connected, no DISCONNECT goes: a connected peer has none to send, and by no other command it ceases to be connected.
-use Rattle.std.proofs.Common.{◌≡◌, ℕ, Bool, true, false, List, [], ◌∷◌, ◌++◌, append-nil, map, refl, sym, ap, subst, ◌∙◌, inl, inr, Option, Some, None}
+use Rattle.std.proofs.Common.{◌≡◌, ℕ, Bool, true, false, List, [], ◌∷◌, ◌++◌, append-nil, map, refl, sym, ap, subst, ◌∙◌, Option, Some, None}
 use Rattle.enet_codec.specs.declared.command.Fragment.{Fragment}
 use Rattle.enet_codec.specs.Message.{Message, disconnect}
 use Rattle.enet_senders.specs.declared.control.Control.{Control}
 use Rattle.enet_senders.specs.declared.control.Control.TheVariants as control
-use Rattle.enet_senders.specs.Controlling.{body_of, message_of}
+use Rattle.enet_senders.specs.Controlling.{body_of}
 use Rattle.enet_fragment.specs.DataCommand.{wire_body}
-use Rattle.enet_fragment.specs.DataCommand as fragment
 use Rattle.enet_outbox.specs.declared.parts.Pace.{Pace}
 use Rattle.enet_outbox.specs.Outbox.{Outbox}
-use Rattle.enet_outbox.specs.Emission.{Filling, acknowledgement_of, unsequenced_of, filled}
-use Rattle.enet_outbox.proofs.Filled.{by-filling}
+use Rattle.enet_outbox.specs.Emission.{filled}
 use Rattle.enet_peer.specs.declared.parts.PeerState.TheVariants as state
 use Rattle.enet_peer.specs.Peering.{Peering}
 use Rattle.enet_peer.specs.CommandEffect.{obeyed}
@@ -19,10 +17,10 @@ use Rattle.law_connection.specs.Connection.{Put, End, put_by}
 use Rattle.law_connection.specs.LinkSteps.{Has}
 use Rattle.law_connection.specs.Steps.{Emit, Happens, with_emission}
 use Rattle.law_connection.proofs.Emits.{Has-from_map}
-use Rattle.law_connection.proofs.Lists.{Has-push_cases}
 use Rattle.law_progress.proofs.Exchanges.{same-peer, goes-on, put_out}
 use Rattle.std.proofs.lemmas.List.{append_cancel_left}
 use Rattle.enet_world.proofs.Pings.{IsLone, is_ping, next-lone, meets}
+use Rattle.enet_world.proofs.Offers.{filled-all}
 
 -- by any other command that comes it stays connected
 pub hears-on : (p : Peering) (now : ℕ) (sent : Option ℕ) (m : Message) → p.state ≡ state.Connected → ((info : ℕ) → m.body ≡ disconnect info → ⊥) → (obeyed p now sent m).after.state ≡ state.Connected
@@ -37,13 +35,6 @@ hears-on p now sent m on none = meets (λ q. q.state ≡ state.Connected) p now 
 })
 
 -- it puts out none
-record SaysNone (f : Filling) : Type 0 where
-  control : IsLone is_ping f.outbox.control
-  messages : (m : Message) (info : ℕ) → Has f.messages m → m.body ≡ disconnect info → ⊥
-
-more-said : (ms : List Message) (m : Message) → ((x : Message) (info : ℕ) → Has ms x → x.body ≡ disconnect info → ⊥) → ((info : ℕ) → m.body ≡ disconnect info → ⊥) → (x : Message) (info : ℕ) → Has (ms ++ m ∷ []) x → x.body ≡ disconnect info → ⊥
-more-said ms m old new x info h = elim (Has-push_cases ms m x h) [ inl k ↦ old x info k | inr e ↦ subst (λ (y : Message). y.body ≡ disconnect info → ⊥) e (new info) ]
-
 control-said : (what : Control) (info : ℕ) → is_ping what ≡ true → body_of what ≡ disconnect info → ⊥
 control-said control.Ping info ok e = cc
 control-said what info ok e = absurd (let z : false ≡ true = ok in cc)
@@ -54,23 +45,10 @@ data-said true (Some f) count body info e = cc
 data-said false None count body info e = cc
 data-said false (Some f) count body info e = cc
 
-filled-said : (pace : Pace) (b : Outbox) → IsLone is_ping b.control → (m : Message) (info : ℕ) → Has (filled pace b).messages m → m.body ≡ disconnect info → ⊥
-filled-said pace b lone = let a = all in a.messages
-  where
-    all : SaysNone (filled pace b)
-    all = by-filling pace b SaysNone (record {
-      closes = λ f a. record { control = a.control; messages = a.messages };
-      acknowledges = λ f x rest e a. record { control = a.control; messages = more-said f.messages (acknowledgement_of x) a.messages (λ info t. absurd (cc)) };
-      controls = λ f n e a. (let s = next-lone is_ping pace.now pace.timeout f.outbox.control n e a.control in
-          record { control = s.0; messages = more-said f.messages (message_of n.command) a.messages (λ info t. control-said n.command.control info s.1 t) });
-      puts_unsequenced = λ f u rest t e a. record { control = a.control; messages = more-said f.messages (unsequenced_of u) a.messages (λ info t. absurd (cc)) };
-      drops_unsequenced = λ f u rest t e a. record { control = a.control; messages = a.messages };
-      puts_data = λ f k s n t there due a. record {
-        control = a.control;
-        messages = more-said f.messages (fragment.message_of s.channel n.command) a.messages (λ info t. data-said n.command.reliable n.command.fragment n.command.unreliable n.command.body info t);
-      };
-      drops_data = λ f k s n t there due kind a. record { control = a.control; messages = a.messages };
-    }) (record { control = lone; messages = λ m info h. absurd h })
+filled-said : (pace : Pace) (b : Outbox) → IsLone is_ping b.control → (m : Message) → Has (filled pace b).messages m → (info : ℕ) → m.body ≡ disconnect info → ⊥
+filled-said pace b = filled-all (IsLone is_ping) (λ m. (info : ℕ) → m.body ≡ disconnect info → ⊥) pace b
+    (λ c n e a. (let s = next-lone is_ping pace.now pace.timeout c n e a in (s.0, λ info t. control-said n.command.control info s.1 t)))
+    (λ x info t. absurd (cc)) (λ u info t. absurd (cc)) (λ channel d info t. data-said d.reliable d.fragment d.unreliable d.body info t)
 
 -- what an end puts out is what its peer has to send
 puts-are : (now : ℕ) (own far new : End) (p : Peering) (puts : List Put) → own.peer ≡ Some p → Happens own far (Emit now) new → new.log ≡ own.log ++ puts
@@ -104,7 +82,7 @@ none-filled now own far new p is h same =
 -- so none is among what its end puts out
 pub puts-none-ends : (now : ℕ) (own far new : End) (p : Peering) (puts : List Put) → own.peer ≡ Some p → IsLone is_ping p.outbox.control → Happens own far (Emit now) new → new.log ≡ own.log ++ puts
     → (x : Put) (info : ℕ) → Has puts x → x.message.body ≡ disconnect info → ⊥
-puts-none-ends now own far new p puts is lone h logged x info has says = filled-said (pace_of p now) p.outbox lone x.message info (was-filled now own far new p puts is h logged x has) says
+puts-none-ends now own far new p puts is lone h logged x info has says = filled-said (pace_of p now) p.outbox lone x.message (was-filled now own far new p puts is h logged x has) info says
 
 -- and it is connected then
 pub emits-on : (now : ℕ) (own far new : End) (p : Peering) → own.peer ≡ Some p → p.state ≡ state.Connected → Happens own far (Emit now) new → new.peer ≡ Some (put_out p now)
