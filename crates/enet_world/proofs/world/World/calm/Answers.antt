@@ -30,30 +30,18 @@ returns-clause-passed c =
     subst (λ n. c.rounds.self.passed ≡ passed_by_rounds n c.args.ms c.args.self.now.passed) all c.rounds.invariant.passed
 
 pub returns-clause-progress : goal.returns-clause-progress
-returns-clause-progress c =
-    let all : c.rounds.played ≡ c.args.rounds = omega (arith, c.rounds-test.false, c.rounds.invariant.end) in
-    gets-through c.args.self.now.joined c.args.ms c.args.rounds c.rounds.told c.args.self.now.world c.rounds.self.world c.is_reached.ensures.reached
-    (habits c.args.self.now.passed c.args.self.now.joined c.args.self.now.world c.is_reached.ensures)
-    (subst (λ n. Rounds c.args.ms n c.rounds.told c.args.self.now.world c.rounds.self.world) all c.rounds.invariant.rounds)
+returns-clause-progress c = gets-through c.args.self.now.joined c.args.ms c.args.rounds c.rounds.told c.args.self.now.world c.rounds.self.world c.is_reached.ensures.reached
+    (habits c.args.self.now.passed c.args.self.now.joined c.args.self.now.world c.is_reached.ensures) (returns-clause-rounds c)
 
 pub returns-clause-told : goal.returns-clause-told
-returns-clause-told c =
-    let all : c.rounds.played ≡ c.args.rounds = omega (arith, c.rounds-test.false, c.rounds.invariant.end) in
-    tells-ends c.args.self.now.joined c.args.ms c.args.rounds c.rounds.told c.args.self.now.world c.rounds.self.world c.is_reached.ensures.reached
-    (subst (λ n. Rounds c.args.ms n c.rounds.told c.args.self.now.world c.rounds.self.world) all c.rounds.invariant.rounds)
+returns-clause-told c = tells-ends c.args.self.now.joined c.args.ms c.args.rounds c.rounds.told c.args.self.now.world c.rounds.self.world c.is_reached.ensures.reached (returns-clause-rounds c)
 
 pub returns-clause-all : goal.returns-clause-all
-returns-clause-all c =
-    let all : c.rounds.played ≡ c.args.rounds = omega (arith, c.rounds-test.false, c.rounds.invariant.end) in
-    comes-or-ends c.args.self.now.joined c.args.ms c.args.rounds c.rounds.told c.args.self.now.world c.rounds.self.world c.is_reached.ensures.reached
-    (habits c.args.self.now.passed c.args.self.now.joined c.args.self.now.world c.is_reached.ensures)
-    (subst (λ n. Rounds c.args.ms n c.rounds.told c.args.self.now.world c.rounds.self.world) all c.rounds.invariant.rounds)
+returns-clause-all c = comes-or-ends c.args.self.now.joined c.args.ms c.args.rounds c.rounds.told c.args.self.now.world c.rounds.self.world c.is_reached.ensures.reached
+    (habits c.args.self.now.passed c.args.self.now.joined c.args.self.now.world c.is_reached.ensures) (returns-clause-rounds c)
 
 pub returns-clause-alone : goal.returns-clause-alone
-returns-clause-alone c =
-    let all : c.rounds.played ≡ c.args.rounds = omega (arith, c.rounds-test.false, c.rounds.invariant.end) in
-    tells-alone c.args.self.now.joined c.args.ms c.args.rounds c.args.self.now.passed c.rounds.told c.args.self.now.world c.rounds.self.world c.is_reached.ensures
-    (subst (λ n. Rounds c.args.ms n c.rounds.told c.args.self.now.world c.rounds.self.world) all c.rounds.invariant.rounds)
+returns-clause-alone c = tells-alone c.args.self.now.joined c.args.ms c.args.rounds c.args.self.now.passed c.rounds.told c.args.self.now.world c.rounds.self.world c.is_reached.ensures (returns-clause-rounds c)
 
 pub returns-clause-stands : goal.returns-clause-stands
 returns-clause-stands c = both-stand c.args.self.now.joined c.args.ms c.args.rounds c.args.self.now.world c.rounds.self.world c.is_reached.ensures.reached
