@@ -38,12 +38,12 @@ use Rattle.enet_world.specs.Worlds.{passed_by, passed_by_rounds}
 use Rattle.enet_world.specs.Private.Worlds.{IsReached, IsReachedIn}
 use Rattle.enet_world.proofs.EndsAreTold.{IsHere, Begins, begins, told-so, rounds-go, round-a, round-b, uncut-parts, share-is, is_connected, is_open, has_ended, is_none, up-rises, ended-rises, open-up, connected-up, at-a, at-b, at-end, is_open_or_over}
 use Rattle.enet_world.proofs.Habits.{Habit, HostHabits, habits-in, clock-sum}
-use Rattle.enet_world.proofs.InRounds.{clock_at, Keeps, no-more}
+use Rattle.enet_world.proofs.InRounds.{clock_at, Keeps, no-more, keeps-all}
 use Rattle.enet_world.proofs.Lasting.{is_past}
-use Rattle.enet_world.proofs.LeftAlone.{IsSilentAt, Lone, Past, IsPastIn, lone-so, named-lone, past-step, At, near-out, far-out, near-takes, far-takes, near-tick, far-tick}
+use Rattle.enet_world.proofs.LeftAlone.{IsSilentAt, Lone, Past, IsPastIn, lone-so, named-lone, past-step, At, near-out, far-out, near-takes, far-takes, tick-near, far-tick}
 use Rattle.enet_world.proofs.Reaching.{reached-step, reached-on}
 use Rattle.enet_world.proofs.StillSent.{HasControl, StillWaits, some-waits}
-use Rattle.enet_world.proofs.Through.{IsConnected, connected-at, end-has, shown-end-of, tick-clock, kept-round, reached-ticked, ticked-clocks, round-clocks}
+use Rattle.enet_world.proofs.Through.{IsConnected, connected-at, end-has, shown-end-of, tick-clock, kept-round, reached-ticked, ticked-clocks, round-clocks, round-by}
 use Rattle.enet_world.proofs.TwoEnds.{from_start, sound, host-at}
 use Rattle.enet_world.proofs.Unanswered.{AllRest, Goes, Quiet, Asks, Waits, Pings, Old, old-now, stays-quiet, is-asked, still-waits}
 use Rattle.enet_world.proofs.Untouched.{is_up}
@@ -74,25 +74,12 @@ passed-most (suc n) ms passed = one (min ms 60000) (passed_by_rounds n ms passed
     one d p s t e h = omega arith
 
 -- ---- a round
-past-keeps : (joined : Bool) (x : ℕ) (side : Side) → Keeps (IsPastIn joined x side)
-past-keeps joined x side = record {
-  turns_keep = λ u v at told step h. (reached-step joined u v (happen.Turn at) told h.0 step, past-step joined u v x side (happen.Turn at) told step h.0 h.1);
-  delivers_keep = λ u v at k told step h. (reached-step joined u v (happen.Deliver at k) told h.0 step, past-step joined u v x side (happen.Deliver at k) told step h.0 h.1);
-  takes_keep = λ at u v told step h. (reached-step joined u v (happen.Take at) told h.0 step, past-step joined u v x side (happen.Take at) told step h.0 h.1);
-}
-
-past-ticked : (joined : Bool) (x ms : ℕ) (side : Side) (told : Calm) (w v : World) (d : Round ms told w v) → IsReached joined d.ticked → Past d.ticked x side → Past v x side
-past-ticked joined x ms side told w v d r k = (let h = kept-round (IsPastIn joined x side) (past-keeps joined x side) ms told w v d (r, k) in h.1)
-
-past-round : (joined : Bool) (x ms : ℕ) (side : Side) (told : Calm) (w v : World) → Round ms told w v → IsReached joined w → Past w x side → Past v x side
-past-round joined x ms side told w v d r k =
-    let r_a : IsReached joined d.ticked_a = reached-step joined w d.ticked_a (happen.Tick A ms) d.ticks_a.0 r d.ticks_a.1 in
-    let one : Past d.ticked_a x side = past-step joined w d.ticked_a x side (happen.Tick A ms) d.ticks_a.0 d.ticks_a.1 r k in
-    past-ticked joined x ms side told w v d (reached-ticked joined ms told w v d r) (past-step joined d.ticked_a d.ticked x side (happen.Tick B ms) d.ticks_b.0 d.ticks_b.1 r_a one)
+past-ticked : (joined : Bool) (x ms : ℕ) (side : Side) (told : Calm) (w v : World) (d : Round ms told w v) → IsPastIn joined x side d.ticked → Past v x side
+past-ticked joined x ms side told w v d h = (let p = kept-round (IsPastIn joined x side) (keeps-all (IsPastIn joined x side) (past-step joined x side)) ms told w v d h in p.1)
 
 lone-round : (joined : Bool) (P Q R : Peering → Type 0) (x ms : ℕ) (side : Side) (told : Calm) (w v : World) → Goes (clock_after (clock_at w side) ms) P Q R → Round ms told w v → (share_of told side).cut_short ≡ 0 → IsReached joined w → Lone P w x side
     → Lone R v x side ⊎ Past v x side
-lone-round joined P Q R x ms A told w v g d uncut r k = by (near-tick joined P Q R x ms A w d.ticked_a d.ticks_a.0 g d.ticks_a.1 r k)
+lone-round joined P Q R x ms A told w v g d uncut r k = by (tick-near joined P Q R w d.ticked_a x ms A d.ticks_a.0 g r d.ticks_a.1 k)
   where
     now : ℕ
     now = clock_after (clock_at w A) ms
@@ -113,9 +100,9 @@ lone-round joined P Q R x ms A told w v g d uncut r k = by (near-tick joined P Q
         (near-out joined P Q R now x A g told.a.sent told.a.refused told.a.stopped d.cut_forth d.ticked d.sent_a d.forth cuts.0 h)))
 
     by : Lone Q d.ticked_a x A ⊎ Past d.ticked_a x A → Lone R v x A ⊎ Past v x A
-    by (inr past) = inr (past-ticked joined x ms A told w v d r_t (past-step joined d.ticked_a d.ticked x A (happen.Tick B ms) d.ticks_b.0 d.ticks_b.1 r_a past))
+    by (inr past) = inr (past-ticked joined x ms A told w v d (past-step joined x A d.ticked_a d.ticked (happen.Tick B ms) d.ticks_b.0 d.ticks_b.1 (r_a, past)))
     by (inl lone) = inl (let h = on (record { reached = r_t; lone = far-tick joined Q x ms A d.ticked_a d.ticked d.ticks_b.0 d.ticks_b.1 r_a lone; clock = ticked-clocks ms told w v d A }) in h.lone)
-lone-round joined P Q R x ms B told w v g d uncut r k = by (near-tick joined P Q R x ms B d.ticked_a d.ticked d.ticks_b.0 g_a d.ticks_b.1 r_a (far-tick joined P x ms B w d.ticked_a d.ticks_a.0 d.ticks_a.1 r k))
+lone-round joined P Q R x ms B told w v g d uncut r k = by (tick-near joined P Q R d.ticked_a d.ticked x ms B d.ticks_b.0 g_a r_a d.ticks_b.1 (far-tick joined P x ms B w d.ticked_a d.ticks_a.0 d.ticks_a.1 r k))
   where
     now : ℕ
     now = clock_after (clock_at w B) ms
@@ -139,7 +126,7 @@ lone-round joined P Q R x ms B told w v g d uncut r k = by (near-tick joined P Q
         (far-out joined Q now x B told.a.sent told.a.refused told.a.stopped d.cut_forth d.ticked d.sent_a d.forth h)))
 
     by : Lone Q d.ticked x B ⊎ Past d.ticked x B → Lone R v x B ⊎ Past v x B
-    by (inr past) = inr (past-ticked joined x ms B told w v d r_t past)
+    by (inr past) = inr (past-ticked joined x ms B told w v d (r_t, past))
     by (inl lone) = inl (let h = on (record { reached = r_t; lone = lone; clock = ticked-clocks ms told w v d B }) in h.lone)
 
 -- ---- how far it has come after n rounds of d milliseconds each, at most a minute, before which so much time had passed
@@ -351,7 +338,7 @@ after-rounds joined (suc n) ms passed x side told w v some early d uncut r k = o
           r_v,
           elim so_far.1 [
             | inl lone ↦ stage-round joined n ms passed x side d.1 d.2 v some early d.4 cuts.1 so_far.0 r_v lone
-            | inr past ↦ inr (past-round joined x ms side d.1 d.2 v d.4 so_far.0.reached past)
+            | inr past ↦ inr (let p = round-by (IsPastIn joined x side) (past-step joined x side) ms d.1 d.2 v d.4 (so_far.0.reached, past) in p.1)
           ],
         )
 

@@ -442,33 +442,32 @@ still-keeps w = record {
 pub reached-take : (joined : Bool) (side : Side) (w v : World) (told : Result Answer Refusal) → Steps w (happen.Take side) told v → IsReached joined w → IsReached joined v
 reached-take joined side w v told step h = reached-step joined w v (happen.Take side) told h step
 
-pub reached-keeps : (joined : Bool) → Keeps (IsReached joined)
-reached-keeps joined = record {
-  turns_keep = λ u v side told step h. reached-step joined u v (happen.Turn side) told h step;
-  delivers_keep = λ u v side k told step h. reached-step joined u v (happen.Deliver side k) told h step;
-  takes_keep = reached-take joined;
+-- what each event keeps
+abbrev pub StepsKeep : (World → Type 0) → Type 0
+StepsKeep P = (w v : World) (e : WorldEvent) (told : Result Answer Refusal) → Steps w e told v → P w → P v
+
+pub keeps-all : (P : World → Type 0) → StepsKeep P → Keeps P
+keeps-all P k = record {
+  turns_keep = λ w v side told step h. k w v (happen.Turn side) told step h;
+  delivers_keep = λ w v side n told step h. k w v (happen.Deliver side n) told step h;
+  takes_keep = λ side w v told step h. k w v (happen.Take side) told step h;
 }
 
+pub reached-steps : (joined : Bool) → StepsKeep (IsReached joined)
+reached-steps joined w v e told step h = reached-step joined w v e told h step
+
+pub reached-keeps : (joined : Bool) → Keeps (IsReached joined)
+reached-keeps joined = keeps-all (IsReached joined) (reached-steps joined)
+
 pub habits-keeps : Keeps Habits
-habits-keeps = record {
-  turns_keep = λ u v side told step h. habits-step u v (happen.Turn side) told step h;
-  delivers_keep = λ u v side k told step h. habits-step u v (happen.Deliver side k) told step h;
-  takes_keep = λ side u v told step h. habits-step u v (happen.Take side) told step h;
-}
+habits-keeps = keeps-all Habits habits-step
 
 -- a world that is reached in which an end is past
 abbrev pub IsLost : Bool → ℕ → World → Type 0
 IsLost joined x w = IsReached joined w × IsDown w x
 
-pub lost-step : (joined : Bool) (x : ℕ) (w v : World) (e : WorldEvent) (told : Result Answer Refusal) → Steps w e told v → IsLost joined x w → IsLost joined x v
+pub lost-step : (joined : Bool) (x : ℕ) → StepsKeep (IsLost joined x)
 lost-step joined x w v e told step h = (reached-step joined w v e told h.0 step, down-step joined w v x e told h.0 step h.1)
-
-pub lost-keeps : (joined : Bool) (x : ℕ) → Keeps (IsLost joined x)
-lost-keeps joined x = record {
-  turns_keep = λ u v side told step h. lost-step joined x u v (happen.Turn side) told step h;
-  delivers_keep = λ u v side k told step h. lost-step joined x u v (happen.Deliver side k) told step h;
-  takes_keep = λ side u v told step h. lost-step joined x u v (happen.Take side) told step h;
-}
 
 -- ---- so many datagrams
 pub no-more : (m n k : ℕ) → k ≡ 0 → k ≡ m + n → (m ≡ 0) × (n ≡ 0)

@@ -50,7 +50,7 @@ use Rattle.enet_world.specs.Private.Worlds.{IsReached}
 use Rattle.enet_world.proofs.EndedIsSilent.{ended-puts-none}
 use Rattle.enet_world.proofs.EndsAreTold as telling
 use Rattle.enet_world.proofs.EndsAreTold.{has_ended, ended-rises}
-use Rattle.enet_world.proofs.InRounds.{clock_at, found-in, turn-still, deliver-still, take-still, kept-carried, kept-taken}
+use Rattle.enet_world.proofs.InRounds.{clock_at, found-in, turn-still, deliver-still, take-still, kept-carried, kept-taken, StepsKeep}
 use Rattle.enet_world.proofs.Lasting.{IsIn, Holds, lasts-run, is_past, is_begun, past-lasts, begun-lasts, connected-or-past}
 use Rattle.enet_world.proofs.Living.{named-fits}
 use Rattle.enet_world.proofs.Reaching.{reached-step}
@@ -112,9 +112,12 @@ past-happens j w v x B A what s h d =
 abbrev pub IsPastIn : Bool → ℕ → Side → World → Type 0
 IsPastIn joined x side w = IsReached joined w × Past w x side
 
-pub past-step : (joined : Bool) (w v : World) (x : ℕ) (side : Side) (e : WorldEvent) (told : Result Answer Refusal) → Steps w e told v → IsReached joined w → Past w x side → Past v x side
-past-step joined w v x side e (Ok answer) step r d = past-happens (from_start joined) w v x side (side_of e) step.0 (sound joined w r) step.2 d
-past-step joined w v x side e (Err why) step r d = subst (λ (u : World). Past u x side) (sym step.1) d
+past-at : (joined : Bool) (w v : World) (x : ℕ) (side : Side) (e : WorldEvent) (told : Result Answer Refusal) → Steps w e told v → IsReached joined w → Past w x side → Past v x side
+past-at joined w v x side e (Ok answer) step r d = past-happens (from_start joined) w v x side (side_of e) step.0 (sound joined w r) step.2 d
+past-at joined w v x side e (Err why) step r d = subst (λ (u : World). Past u x side) (sym step.1) d
+
+pub past-step : (joined : Bool) (x : ℕ) (side : Side) → StepsKeep (IsPastIn joined x side)
+past-step joined x side w v e told step h = (reached-step joined w v e told h.0 step, past-at joined w v x side e told step h.0 h.1)
 
 -- ---- something happens at its own side
 shown-so : (R S : End → Type 0) (new : Site) (e : HostEnd) → ((end : End) → R end → S end) → IsShownAs new e R → IsShownAs new e S
@@ -259,7 +262,7 @@ take-near joined n P Q R w v x side (Ok (answers.Taken event')) g r step k = nea
 take-near joined n P Q R w v x side (Ok answer) g r step k = absurd step.1
 
 -- time goes on there: it goes on, or is past
-tick-near : (joined : Bool) (P Q R : Peering → Type 0) (w v : World) (x ms : ℕ) (side : Side) (told : Result Answer Refusal) → Goes (clock_after (clock_at w side) ms) P Q R → IsReached joined w → Steps w (happen.Tick side ms) told v → Lone P w x side → Lone Q v x side ⊎ Past v x side
+pub tick-near : (joined : Bool) (P Q R : Peering → Type 0) (w v : World) (x ms : ℕ) (side : Side) (told : Result Answer Refusal) → Goes (clock_after (clock_at w side) ms) P Q R → IsReached joined w → Steps w (happen.Tick side ms) told v → Lone P w x side → Lone Q v x side ⊎ Past v x side
 tick-near joined P Q R w v x ms side (Err why) g r step k = absurd step.0
 tick-near joined P Q R w v x ms side (Ok answers.Done) g r step k = by (connected-or-past (ticked k.p now).state (begun-lasts.ticks k.p now (ap is_begun k.on)))
   where
@@ -519,9 +522,6 @@ near-takes joined P Q R now x side g = kept-taken (At joined R now x side) side 
 pub far-takes : (joined : Bool) (P : Peering → Type 0) (now x : ℕ) (side : Side) (taken cut : ℕ) (w v : World) → TakesAll (other side) taken cut w v → At joined P now x side w → At joined P now x side v
 far-takes joined P now x side = kept-taken (At joined P now x side) (other side) (far-take joined P now x side)
 
--- ---- time goes on at both
-pub near-tick : (joined : Bool) (P Q R : Peering → Type 0) (x ms : ℕ) (side : Side) (w v : World) (told : Result Answer Refusal) → Goes (clock_after (clock_at w side) ms) P Q R → Steps w (happen.Tick side ms) told v → IsReached joined w → Lone P w x side → Lone Q v x side ⊎ Past v x side
-near-tick joined P Q R x ms side w v told g step r k = tick-near joined P Q R w v x ms side told g r step k
-
+-- ---- time goes on at the other side
 pub far-tick : (joined : Bool) (P : Peering → Type 0) (x ms : ℕ) (side : Side) (w v : World) (told : Result Answer Refusal) → Steps w (happen.Tick (other side) ms) told v → IsReached joined w → Lone P w x side → Lone P v x side
 far-tick joined P x ms side w v told step r k = far-step joined P w v x side (happen.Tick (other side) ms) told refl r step (λ was y. telling.ticks joined has_ended ended-rises was x ms (other side) (other side) w v told r step y) k

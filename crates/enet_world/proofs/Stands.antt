@@ -30,7 +30,7 @@ use Rattle.enet_world.proofs.Habits.{Habits, rests-at}
 use Rattle.enet_world.proofs.InRounds.{clock_at, named-up, habit-up, lone-up}
 use Rattle.enet_world.proofs.Punctual.{Rests}
 use Rattle.enet_world.proofs.Steady.{IsPlain, Ready, one-lasts, two-lasts, ready-first, ReadyAgain, steady-round}
-use Rattle.enet_world.proofs.Through.{Smooth, smooth-so, smooth-parts, AtMoment, at-moment-on, Rounded, round-goes-on, round-clocks, habits-rounds, reached-rounds, IsConnected, connected-at, Begun, begun, shown-end-of, kept-round, reached-round}
+use Rattle.enet_world.proofs.Through.{Smooth, smooth-so, smooth-parts, AtMoment, at-moment-on, Rounded, round-goes-on, round-clocks, habits-rounds, reached-rounds, IsConnected, connected-at, Begun, begun, shown-end-of, kept-round, reached-round, kept-rounds}
 use Rattle.enet_world.proofs.TwoEnds.{from_start, sound, host-at, Up, up-swapped}
 
 -- ---- rounds
@@ -104,12 +104,8 @@ up-state joined w x side own far r u =
     ∙ ap (λ (o : Option Peering). option_map (λ (p : Peering). p.state) o) (named-up joined w x side own far u) ∙ ap (λ (s : PeerState). Some s) u.on_p
 
 -- an end is there still, with its name, or its peer is gone
-here-round : (joined : Bool) (ms : ℕ) (told : Calm) (was : HostEnd) (x : ℕ) (side : Side) (w v : World) → Round ms told w v → IsHere joined is_up was x side w → IsHere joined is_up was x side v
-here-round joined ms told was x side w v d k = kept-round (IsHere joined is_up was x side) (keeps joined is_up up-rises was x side) ms told w v d (ticked joined is_up up-rises was x side ms told w v d k)
-
-here-rounds : (joined : Bool) (ms n : ℕ) (told : Calm) (was : HostEnd) (x : ℕ) (side : Side) (w v : World) → Rounds ms n told w v → IsHere joined is_up was x side w → IsHere joined is_up was x side v
-here-rounds joined ms zero told was x side w v d k = subst (IsHere joined is_up was x side) (sym d.1) k
-here-rounds joined ms (suc n) told was x side w v d k = here-round joined ms d.1 was x side d.2 v d.4 (here-rounds joined ms n d.0 was x side w d.2 d.3 k)
+here-round : (joined : Bool) (ms : ℕ) (was : HostEnd) (x : ℕ) (side : Side) (told : Calm) (w v : World) → Round ms told w v → IsHere joined is_up was x side w → IsHere joined is_up was x side v
+here-round joined ms was x side told w v d k = kept-round (IsHere joined is_up was x side) (keeps joined is_up up-rises was x side) ms told w v d (ticked joined is_up up-rises was x side ms told w v d k)
 
 still-connected : (joined : Bool) (old new : World) (x : ℕ) (side : Side) (a : Begins (site_of old side) x state.Connected) → IsHere joined is_up a.was x side new → state_at (site_of new side) x ≡ Some state.Connected → IsStill state.Connected old new x side
 still-connected joined old new x side a (r, inl k) on = (on, same-named old new x side a.was k.e a.there k.there k.called)
@@ -207,7 +203,7 @@ both-stand joined ms rounds old new r habits x before brief young all side = sti
     begins-at B = begins-in old.b x state.Connected before.1
 
     here-at : (at : Side) (a : Begins (site_of old at) x state.Connected) → IsHere joined is_up a.was x at new
-    here-at at a = here-round joined ms all.counts a.was x at all.between new all.last (here-rounds joined ms all.earlier all.before a.was x at old all.between all.rounds_before
+    here-at at a = here-round joined ms a.was x at all.counts all.between new all.last (kept-rounds (IsHere joined is_up a.was x at) ms (here-round joined ms a.was x at) all.earlier all.before old all.between all.rounds_before
         (r, inl (record { e = a.was; there = a.there; more = []; called = refl; took = sym (append-nil a.was.events); p = a.p; is = a.is; up = ap is_up a.in_it })))
 
     still : (at : Side) → IsStill state.Connected old new x at

@@ -57,7 +57,7 @@ use Rattle.enet_world.specs.Progress.{clock_by_rounds, AllCame, WasTaken, GetsTh
 use Rattle.enet_world.specs.Private.Worlds.{IsReached}
 use Rattle.enet_world.proofs.Delivering.{standing}
 use Rattle.enet_world.proofs.Habits.{Habits, habits-step}
-use Rattle.enet_world.proofs.InRounds.{clock_at, StandStill, Keeps, kept-out, kept-taken, still-keeps, reached-keeps, habits-keeps, lost-keeps, IsLost, lost-step, Ticked, ticked, ticked-on, PutsOutAll, puts-all-out, TakesOut, takes-all, IsEmpty, named-up, no-more}
+use Rattle.enet_world.proofs.InRounds.{clock_at, StandStill, Keeps, kept-out, kept-taken, still-keeps, reached-keeps, habits-keeps, IsLost, lost-step, Ticked, ticked, ticked-on, PutsOutAll, puts-all-out, TakesOut, takes-all, IsEmpty, named-up, no-more, StepsKeep, keeps-all, reached-steps}
 use Rattle.enet_world.proofs.Lasting.{is_past, not-past}
 use Rattle.enet_world.proofs.Living.{named-fits}
 use Rattle.enet_world.proofs.Reaching.{reached-step}
@@ -110,18 +110,25 @@ along P k ms told w v d h = record { ticked = h; sent_a = sent_a; sent = sent; t
 pub kept-round : (P : World → Type 0) → Keeps P → (ms : ℕ) (told : Calm) (w v : World) (d : Round ms told w v) → P d.ticked → P v
 kept-round P k ms told w v d h = (let all = along P k ms told w v d h in all.last)
 
+-- what each event keeps, so do the clocks, a round and rounds
+pub ticked-by : (P : World → Type 0) → StepsKeep P → (ms : ℕ) (told : Calm) (w v : World) (d : Round ms told w v) → P w → P d.ticked
+ticked-by P k ms told w v d h = k d.ticked_a d.ticked (happen.Tick B ms) d.ticks_b.0 d.ticks_b.1 (k w d.ticked_a (happen.Tick A ms) d.ticks_a.0 d.ticks_a.1 h)
+
+pub round-by : (P : World → Type 0) → StepsKeep P → (ms : ℕ) (told : Calm) (w v : World) → Round ms told w v → P w → P v
+round-by P k ms told w v d h = kept-round P (keeps-all P k) ms told w v d (ticked-by P k ms told w v d h)
+
+pub kept-rounds : (P : World → Type 0) (ms : ℕ) → ((told : Calm) (w v : World) → Round ms told w v → P w → P v) → (n : ℕ) (told : Calm) (w v : World) → Rounds ms n told w v → P w → P v
+kept-rounds P ms one zero told w v d h = subst P (sym d.1) h
+kept-rounds P ms one (suc n) told w v d h = one d.1 d.2 v d.4 (kept-rounds P ms one n d.0 w d.2 d.3 h)
+
 pub reached-ticked : (joined : Bool) (ms : ℕ) (told : Calm) (w v : World) (d : Round ms told w v) → IsReached joined w → IsReached joined d.ticked
-reached-ticked joined ms told w v d r =
-    reached-step joined d.ticked_a d.ticked (happen.Tick B ms) d.ticks_b.0 (reached-step joined w d.ticked_a (happen.Tick A ms) d.ticks_a.0 r d.ticks_a.1) d.ticks_b.1
+reached-ticked joined = ticked-by (IsReached joined) (reached-steps joined)
 
 pub habits-ticked : (ms : ℕ) (told : Calm) (w v : World) (d : Round ms told w v) → Habits w → Habits d.ticked
-habits-ticked ms told w v d h = habits-step d.ticked_a d.ticked (happen.Tick B ms) d.ticks_b.0 d.ticks_b.1 (habits-step w d.ticked_a (happen.Tick A ms) d.ticks_a.0 d.ticks_a.1 h)
-
-pub habits-round : (ms : ℕ) (told : Calm) (w v : World) → Round ms told w v → Habits w → Habits v
-habits-round ms told w v d h = kept-round Habits habits-keeps ms told w v d (habits-ticked ms told w v d h)
+habits-ticked = ticked-by Habits habits-step
 
 pub reached-round : (joined : Bool) (ms : ℕ) (told : Calm) (w v : World) → Round ms told w v → IsReached joined w → IsReached joined v
-reached-round joined ms told w v d r = kept-round (IsReached joined) (reached-keeps joined) ms told w v d (reached-ticked joined ms told w v d r)
+reached-round joined = round-by (IsReached joined) (reached-steps joined)
 
 pub ticked-clocks : (ms : ℕ) (told : Calm) (w v : World) (d : Round ms told w v) → (side : Side) → clock_at d.ticked side ≡ clock_after (clock_at w side) ms
 ticked-clocks ms told w v d A =
@@ -135,11 +142,6 @@ ticked-clocks ms told w v d B =
 
 pub round-clocks : (ms : ℕ) (told : Calm) (w v : World) → Round ms told w v → (side : Side) → clock_at v side ≡ clock_after (clock_at w side) ms
 round-clocks ms told w v d side = kept-round (StandStill d.ticked) (still-keeps d.ticked) ms told w v d (λ at. refl) side ∙ ticked-clocks ms told w v d side
-
-lost-round : (joined : Bool) (x ms : ℕ) (told : Calm) (w v : World) → Round ms told w v → IsLost joined x w → IsLost joined x v
-lost-round joined x ms told w v d h =
-    kept-round (IsLost joined x) (lost-keeps joined x) ms told w v d
-    (lost-step joined x d.ticked_a d.ticked (happen.Tick B ms) d.ticks_b.0 d.ticks_b.1 (lost-step joined x w d.ticked_a (happen.Tick A ms) d.ticks_a.0 d.ticks_a.1 h))
 
 patient : (joined : Bool) (w : World) (x : ℕ) (side : Side) (own far : End) (u : Up joined w x side own far) → (p : Peering) → own.peer ≡ Some p → p.state ≡ state.Connected
 patient joined w x side own far u p is = ap (λ (y : Peering). y.state) (same-some p u.p (sym is ∙ u.is_p)) ∙ u.on_p
@@ -272,7 +274,7 @@ round-goes : (joined : Bool) (ms : ℕ) (told : Calm) (w v : World) (x : ℕ) (o
     → Rounded joined v x (clock_after (clock_at w A) ms) (clock_after (clock_at w B) ms) own far ⊎ IsDown v x
 round-goes joined ms told w v x own far r habits u d a b = elim (at-moment joined ms told w v x own far r u d) [
   | inl m ↦ inl (round-goes-on joined ms told w v x own far r habits d a b m)
-  | inr down ↦ (let l = kept-round (IsLost joined x) (lost-keeps joined x) ms told w v d (reached-ticked joined ms told w v d r, down) in inr l.1)
+  | inr down ↦ (let l = kept-round (IsLost joined x) (keeps-all (IsLost joined x) (lost-step joined x)) ms told w v d (reached-ticked joined ms told w v d r, down) in inr l.1)
 ]
 
 -- ---- rounds
@@ -316,12 +318,10 @@ rounds-clocks ms zero told w v d side = ap (λ (u : World). clock_at u side) d.1
 rounds-clocks ms (suc n) told w v d side = round-clocks ms d.1 d.2 v d.4 side ∙ ap (λ (c : ℕ). clock_after c ms) (rounds-clocks ms n d.0 w d.2 d.3 side)
 
 pub reached-rounds : (joined : Bool) (ms n : ℕ) (told : Calm) (w v : World) → Rounds ms n told w v → IsReached joined w → IsReached joined v
-reached-rounds joined ms zero told w v d r = subst (IsReached joined) (sym d.1) r
-reached-rounds joined ms (suc n) told w v d r = reached-round joined ms d.1 d.2 v d.4 (reached-rounds joined ms n d.0 w d.2 d.3 r)
+reached-rounds joined ms = kept-rounds (IsReached joined) ms (reached-round joined ms)
 
 pub habits-rounds : (ms n : ℕ) (told : Calm) (w v : World) → Rounds ms n told w v → Habits w → Habits v
-habits-rounds ms zero told w v d h = subst Habits (sym d.1) h
-habits-rounds ms (suc n) told w v d h = habits-round ms d.1 d.2 v d.4 (habits-rounds ms n d.0 w d.2 d.3 h)
+habits-rounds ms = kept-rounds Habits ms (round-by Habits habits-step ms)
 
 rounds-go : (joined : Bool) (ms n : ℕ) (told : Calm) (w v : World) (x : ℕ) (own far : End) → IsReached joined w → Habits w → Up joined w x A own far → Rounds ms n told w v → Smooth told.a → Smooth told.b
     → AllRounded joined n ms w v x own far ⊎ IsDown v x
@@ -345,7 +345,7 @@ rounds-go joined ms (suc n) told w v x own far r habits u d a b = by (rounds-go 
     there = ap (λ (c : ℕ). clock_after c ms) (rounds-clocks ms n d.0 w d.2 d.3 B)
 
     by : AllRounded joined n ms w d.2 x own far ⊎ IsDown d.2 x → AllRounded joined (suc n) ms w v x own far ⊎ IsDown v x
-    by (inr down) = inr (let l = lost-round joined x ms d.1 d.2 v d.4 (between, down) in l.1)
+    by (inr down) = inr (let l = round-by (IsLost joined x) (lost-step joined x) ms d.1 d.2 v d.4 (between, down) in l.1)
     by (inl k) = elim (round-goes joined ms d.1 d.2 v x k.one k.two between (habits-rounds ms n d.0 w d.2 d.3 habits) k.up d.4 parts_a.1 parts_b.1) [
       | inr down ↦ inr down
       | inl l ↦
