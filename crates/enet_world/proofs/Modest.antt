@@ -25,13 +25,13 @@ use Rattle.enet_peer.specs.declared.parts.PeerState.{PeerState}
 use Rattle.enet_peer.specs.declared.parts.PeerState.TheVariants as state
 use Rattle.enet_peer.specs.Peering.{Peering}
 use Rattle.enet_peer.specs.Endings.{settled, disconnecting, freed, cut_off_in, is_later}
-use Rattle.enet_peer.specs.CommandEffect.{obeyed, unless_crowded_out, stopped, is_allowed, is_connect, by_body, answered, answered_at, is_answered_in, on_acknowledge, on_match, acknowledged, welcomed, on_last_disconnect, on_disconnect_in}
+use Rattle.enet_peer.specs.CommandEffect.{obeyed, unless_crowded_out, stopped, is_allowed, is_connect, by_body, answered, on_acknowledge, on_match, acknowledged, welcomed, on_last_disconnect, on_disconnect_in}
 use Rattle.enet_peer.specs.Calls.{Leave, AtOnce, TellsOnce, Asks, AsksLater, Refused, left, is_connected, pace_of, pinged, is_pinged, after_timeouts_by, growth_bound, ticked, submitted, gone_on, gone_on_in, next_event, event_after, packet_event, last_event}
 use Rattle.enet_peer.proofs.Obeying.{unless-holds}
 use Rattle.law_progress.specs.Attempts.{after_take}
 use Rattle.law_progress.specs.Waits.{after_leave}
 use Rattle.enet_world.proofs.Lasting.{is_past, past-lasts}
-use Rattle.enet_world.proofs.Pings.{IsLone, Idle, is_ping, is_any, idle-lists, queued-lone, marked-lone, acknowledged-lone, answered-lone, filled-lone, connected, meets-connected}
+use Rattle.enet_world.proofs.Pings.{IsLone, Idle, is_ping, is_any, idle-lists, queued-lone, marked-lone, acknowledged-lone, answered-lone, filled-lone, connected, meets-connected, answered-holds}
 use Rattle.law_network.proofs.Runs.{both}
 
 abbrev pub Controlled : PeerState → Commands → Type 0
@@ -57,12 +57,7 @@ controlled-by state.Answering c d g h = g is_any h
 controlled-by s c d g h = tt
 
 answered-modest : (q : Peering) (m : Message) (sent : Option ℕ) (may : Bool) → IsModest q → IsModest (answered q m sent may).after
-answered-modest q m sent may h = go (m.head.acknowledge && may && is_answered_in q.state m.body) sent
-  where
-    go : (b : Bool) (o : Option ℕ) → IsModest (cond b (answered_at q m.head o) (record { stop = None; after = q })).after
-    go false o = h
-    go true None = h
-    go true (Some time) = h
+answered-modest q m sent may h = answered-holds IsModest q m sent may (λ a. h) h
 
 -- ---- a command comes
 meets-stands : (p : Peering) (now : ℕ) (sent : Option ℕ) (m : Message) → IsLone is_ping p.outbox.control → IsModest (obeyed (connected p) now sent m).after

@@ -4,7 +4,7 @@ use Rattle.std.proofs.Common.{◌≡◌, ℕ, zero, suc, ◌&&◌, ◌==◌, Boo
 use Rattle.std.proofs.lemmas.Bool.Decides.{nat_tests}
 use Rattle.std.proofs.lemmas.List.{nil_from_length}
 use Rattle.std.specs.List.{slice_get, slice_set, remove}
-use Rattle.enet_codec.specs.Message.{Message, Body, acknowledge, connect, verify_connect, disconnect, ping, send_reliable, send_unreliable, send_fragment, send_unsequenced, send_unreliable_fragment, bandwidth_limit, throttle_configure}
+use Rattle.enet_codec.specs.Message.{Message, Body, acknowledge, connect, verify_connect, disconnect, ping, bandwidth_limit, throttle_configure}
 use Rattle.enet_codec.specs.declared.stop.Stop.{Stop}
 use Rattle.enet_codec.specs.declared.stop.Stop.TheVariants as stop
 use Rattle.enet_senders.specs.declared.control.Control.{Control}
@@ -171,6 +171,15 @@ filled-lone f pace o h = by-filling pace o (λ x. IsLone f x.outbox.control) (re
   drops_data = λ x j s n t there due kind k. k;
 }) h
 
+-- ---- a command that came is acknowledged, perhaps
+pub answered-holds : (P : Peering → Type 0) (q : Peering) (m : Message) (sent : Option ℕ) (may : Bool) → ((a : Acknowledgement) → P (record q { outbox = with_acknowledgement q.outbox a })) → P q → P (answered q m sent may).after
+answered-holds P q m sent may answers h = go (m.head.acknowledge && may && is_answered_in q.state m.body) sent
+  where
+    go : (b : Bool) (o : Option ℕ) → P (cond b (answered_at q m.head o) (record { stop = None; after = q })).after
+    go false o = h
+    go true None = h
+    go true (Some time) = answers _
+
 -- ---- a command comes to a peer that is connected
 pub record Meets (P : Peering → Type 0) (now : ℕ) (m : Message) (p : Peering) : Type 0 where
   pub same : P p
@@ -194,12 +203,7 @@ meets-connected P p now sent m k = by m.body refl
     old = connected p
 
     told : (q : Peering) (may : Bool) → P q → P (answered q m sent may).after
-    told q may h = go (m.head.acknowledge && may && is_answered_in q.state m.body) sent
-      where
-        go : (b : Bool) (o : Option ℕ) → P (cond b (answered_at q m.head o) (record { stop = None; after = q })).after
-        go false o = h
-        go true None = h
-        go true (Some time) = k.answers q _ h
+    told q may h = answered-holds P q m sent may (λ a. k.answers q a h) h
 
     comes : (a : DataEffect) → P (by_arrival old m sent a).after
     comes a = go a.answer
@@ -225,13 +229,9 @@ meets-connected P p now sent m k = by m.body refl
     by (verify_connect v) e = effect-of (verify_connect v) (told old true k.same)
     by (disconnect info) e = effect-of (disconnect info) (told (on_disconnect_in state.Connected old (m.head.acknowledge && is_some sent) info) true (k.ends (m.head.acknowledge && is_some sent) info e))
     by ping e = effect-of ping (told old true k.same)
-    by (send_reliable payload) e = effect-of (send_reliable payload) (comes (arrival p.inbox m))
-    by (send_unreliable number payload) e = effect-of (send_unreliable number payload) (comes (arrival p.inbox m))
-    by (send_fragment fragment payload) e = effect-of (send_fragment fragment payload) (comes (arrival p.inbox m))
-    by (send_unsequenced group payload) e = effect-of (send_unsequenced group payload) (comes (arrival p.inbox m))
-    by (send_unreliable_fragment fragment payload) e = effect-of (send_unreliable_fragment fragment payload) (comes (arrival p.inbox m))
     by (bandwidth_limit incoming outgoing) e = effect-of (bandwidth_limit incoming outgoing) (told (on_bandwidth old incoming) true (k.hears incoming))
     by (throttle_configure interval acceleration deceleration) e = effect-of (throttle_configure interval acceleration deceleration) (told (on_throttle old interval acceleration deceleration) true (k.paces interval acceleration deceleration))
+    by b e = effect-of b (comes (arrival p.inbox m))
 
 pub meets : (P : Peering → Type 0) (p : Peering) (now : ℕ) (sent : Option ℕ) (m : Message) → p.state ≡ state.Connected → Meets P now m p → P (obeyed p now sent m).after
 meets P p now sent m on k = subst (λ (x : Peering). P (obeyed x now sent m).after) (was-connected p on) (meets-connected P p now sent m (subst (Meets P now m) (sym (was-connected p on)) k))

@@ -22,10 +22,11 @@ use Rattle.enet_peer.specs.declared.parts.PeerState.TheVariants as state
 use Rattle.enet_peer.specs.Peering.{Peering}
 use Rattle.enet_peer.specs.Endings.{settled, disconnecting, is_later, freed, cut_off_in}
 use Rattle.enet_peer.proofs.Obeying.{unless-holds}
-use Rattle.enet_peer.specs.CommandEffect.{obeyed, unless_crowded_out, stopped, is_allowed, is_connect, by_body, by_answer, by_arrival, on_data, answered, answered_at, is_answered_in, is_connecting, on_acknowledge, on_match, sampled, with_answer, on_verify_in, welcomed, on_disconnect_in, on_last_disconnect, on_bandwidth, on_throttle}
+use Rattle.enet_peer.specs.CommandEffect.{obeyed, unless_crowded_out, stopped, is_allowed, is_connect, by_body, by_answer, by_arrival, on_data, answered, is_connecting, on_acknowledge, on_match, sampled, with_answer, on_verify_in, welcomed, on_disconnect_in, on_last_disconnect, on_bandwidth, on_throttle}
 use Rattle.enet_peer.specs.Calls.{Leave, AtOnce, TellsOnce, Asks, AsksLater, Refused, left, gone_on_in, ticked, pinged, is_pinged, after_timeouts_by, growth_bound, next_event, event_after, packet_event, last_event}
 use Rattle.law_progress.specs.Attempts.{after_take}
 use Rattle.law_progress.specs.Waits.{after_leave}
+use Rattle.enet_world.proofs.Pings.{answered-holds}
 
 abbrev pub IsUnset : Peering → Type 0
 IsUnset p = (p.patience ≡ standard_patience) × (p.ping_interval ≡ 500) × (p.heard < 2 ^ 32)
@@ -75,12 +76,7 @@ unset-disconnect p state.DisconnectLater b info h = unset-last p b info h
 unset-disconnect p s b info h = h
 
 unset-answered : (p : Peering) (m : Message) (sent : Option ℕ) (may : Bool) → IsUnset p → IsUnset (answered p m sent may).after
-unset-answered p m sent may h = by (m.head.acknowledge && may && is_answered_in p.state m.body) sent
-  where
-    by : (b : Bool) (o : Option ℕ) → IsUnset (cond b (answered_at p m.head o) (record { stop = None; after = p })).after
-    by false o = h
-    by true None = h
-    by true (Some time) = h
+unset-answered p m sent may h = answered-holds IsUnset p m sent may (λ a. h) h
 
 unset-result : (p : Peering) (m : Message) (sent : Option ℕ) (r : Result Bool Stop) → IsUnset p → IsUnset (by_answer p m sent r).after
 unset-result p m sent (Err why) h = h

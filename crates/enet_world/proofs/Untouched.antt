@@ -1,15 +1,13 @@
 -- What becomes of a peer whose user only takes: it is connected, acknowledges a DISCONNECT or has ended, and goes on in that order.
-use Rattle.std.proofs.Common.{◌≡◌, ◌≢◌, ◌&&◌, ◌⊎◌, inl, inr, ℕ, Bool, true, false, cond, List, [], ◌∷◌, refl, sym, ap, subst, ◌∙◌, Option, Some, None, Result, Ok, Err}
+use Rattle.std.proofs.Common.{◌≡◌, ◌≢◌, ◌⊎◌, inl, inr, ℕ, Bool, true, false, cond, List, [], ◌∷◌, refl, sym, ap, subst, ◌∙◌, Option, Some, None, Ok, Err}
 use Rattle.std.specs.Prelude.{is_some}
 use Rattle.enet_codec.specs.declared.command.Head.{Head}
 use Rattle.enet_codec.specs.declared.packet.Packet.{Packet}
-use Rattle.enet_codec.specs.declared.stop.Stop.{Stop}
 use Rattle.enet_codec.specs.declared.stop.Stop.TheVariants as stop
-use Rattle.enet_codec.specs.Message.{Message, Body, acknowledge, connect, verify_connect, disconnect, ping, bandwidth_limit, throttle_configure}
+use Rattle.enet_codec.specs.Message.{Message, Body, acknowledge, connect, verify_connect, disconnect, ping}
 use Rattle.enet_rtt.specs.declared.expiry.Expiry.{Expiry}
 use Rattle.enet_rtt.specs.declared.expiry.Expiry.TheVariants.{No, Resend, End as Ends}
 use Rattle.enet_senders.specs.declared.control.Control.TheVariants as control
-use Rattle.enet_inbox.specs.DataEffect.{DataEffect, arrival}
 use Rattle.enet_outbox.specs.declared.parts.Matched.{Matched}
 use Rattle.enet_outbox.specs.declared.parts.Matched.TheVariants as matched
 use Rattle.enet_outbox.specs.Outbox.{with_control, matched_by, lateness}
@@ -18,7 +16,7 @@ use Rattle.enet_peer.specs.declared.parts.PeerEvent.TheVariants as told
 use Rattle.enet_peer.specs.declared.parts.PeerState.{PeerState}
 use Rattle.enet_peer.specs.declared.parts.PeerState.TheVariants as state
 use Rattle.enet_peer.specs.Peering.{Peering}
-use Rattle.enet_peer.specs.CommandEffect.{Outcome, answered, answered_at, is_answered_in, by_answer, by_arrival, on_acknowledge, on_match, on_last_disconnect, on_bandwidth, on_throttle, acknowledged, is_crowded_out, unless_crowded_out, stopped, obeyed, wants_memory}
+use Rattle.enet_peer.specs.CommandEffect.{Outcome, answered, on_acknowledge, on_match, on_last_disconnect, acknowledged, is_crowded_out, unless_crowded_out, stopped, obeyed, wants_memory}
 use Rattle.enet_peer.specs.Calls.{after_timeouts, after_timeouts_by, is_pinged, pinged, ticked, next_event, event_after, packet_event, last_event}
 use Rattle.law_connection.proofs.Events.{took}
 use Rattle.law_connection.specs.Steps as setting
@@ -27,6 +25,7 @@ use Rattle.law_network.specs.Deeds as deed
 use Rattle.law_network.proofs.Matching.{was-set, matches}
 use Rattle.enet_world.proofs.Lasting.{obeys}
 use Rattle.enet_world.proofs.Modest.{was-in}
+use Rattle.enet_world.proofs.Pings.{answered-holds, meets-connected}
 
 -- ---- states
 abbrev pub is_up : PeerState → Bool
@@ -65,59 +64,23 @@ if-next s false x y h k = k
 unless-next : (s : PeerState) (p : Peering) (m : Message) (o : Outcome) → Next s p.state → Next s o.after.state → Next s (unless_crowded_out p m o).after.state
 unless-next s p m o h k = if-next s (is_crowded_out p m) (stopped p stop.Waiting) o h k
 
-answered-state : (q : Peering) (m : Message) (sent : Option ℕ) (may : Bool) → (answered q m sent may).after.state ≡ q.state
-answered-state q m sent may = by (m.head.acknowledge && may && is_answered_in q.state m.body) sent
-  where
-    by : (b : Bool) (o : Option ℕ) → (cond b (answered_at q m.head o) (record { stop = None; after = q })).after.state ≡ q.state
-    by true None = refl
-    by true (Some time) = refl
-    by false o = refl
-
 answered-next : (s : PeerState) (q : Peering) (m : Message) (sent : Option ℕ) → Next s q.state → Next s (answered q m sent true).after.state
-answered-next s q m sent h = subst (Next s) (sym (answered-state q m sent true)) h
-
-arrived-next : (s : PeerState) (p : Peering) (m : Message) (sent : Option ℕ) (a : DataEffect) → Next s p.state → Next s (by_arrival p m sent a).after.state
-arrived-next s p m sent a h = by a.answer
-  where
-    by : (r : Result Bool Stop) → Next s (by_answer (record p { inbox = a.after }) m sent r).after.state
-    by (Err why) = h
-    by (Ok may) = subst (Next s) (sym (answered-state (record p { inbox = a.after }) m sent may)) h
+answered-next s q m sent h = answered-holds (λ p. Next s p.state) q m sent true (λ a. h) h
 
 last-next : (p : Peering) (b : Bool) (info : ℕ) → Next state.Connected (on_last_disconnect p b info).state
 last-next p true info = inr (inr (refl, refl))
 last-next p false info = inr (inl refl)
 
 connected-obeyed : (r : Peering) (now : ℕ) (sent : Option ℕ) (h : Head) (body : Body) → Next state.Connected (obeyed (in_state state.Connected r) now sent (record { head = h; body = body })).after.state
-connected-obeyed r now sent h body = by body
-  where
-    p : Peering
-    p = record r { state = state.Connected }
-
-    came : Body → Message
-    came body = record { head = h; body = body }
-
-    plain : (body : Body) (q : Peering) → q.state ≡ state.Connected → Next state.Connected (unless_crowded_out p (came body) (answered q (came body) sent true)).after.state
-    plain body q e = unless-next state.Connected p (came body) (answered q (came body) sent true) (inl refl) (answered-next state.Connected q (came body) sent (inl e))
-
-    data' : (body : Body) → Next state.Connected (unless_crowded_out p (came body) (by_arrival p (came body) sent (arrival p.inbox (came body)))).after.state
-    data' body = unless-next state.Connected p (came body) (by_arrival p (came body) sent (arrival p.inbox (came body))) (inl refl) (arrived-next state.Connected p (came body) sent (arrival p.inbox (came body)) (inl refl))
-
-    taken-away : (number time : ℕ) (x : Matched) → (on_match x p (acknowledged p now h.channel number time)).state ≡ state.Connected
-    taken-away number time matched.Nothing = refl
-    taken-away number time matched.Data = refl
-    taken-away number time (matched.Control what) = refl
-
-    by : (body : Body) → Next state.Connected (obeyed p now sent (came body)).after.state
-    by (connect offer) = inl refl
-    by (acknowledge number time) = plain (acknowledge number time) (on_acknowledge p now h.channel number time) (taken-away number time (matched_by p.outbox h.channel number))
-    by (verify_connect v) = plain (verify_connect v) p refl
-    by (disconnect info) =
-        let q : Peering = on_last_disconnect p (h.acknowledge && is_some sent) info in
-        unless-next state.Connected p (came (disconnect info)) (answered q (came (disconnect info)) sent true) (inl refl) (answered-next state.Connected q (came (disconnect info)) sent (last-next p (h.acknowledge && is_some sent) info))
-    by ping = plain ping p refl
-    by (bandwidth_limit incoming outgoing) = plain (bandwidth_limit incoming outgoing) (on_bandwidth p incoming) refl
-    by (throttle_configure interval acceleration deceleration) = plain (throttle_configure interval acceleration deceleration) (on_throttle p interval acceleration deceleration) refl
-    by body = data' body
+connected-obeyed r now sent h body = meets-connected (λ q. Next state.Connected q.state) r now sent (record { head = h; body = body }) (record {
+  same = inl refl;
+  holds = λ b. inl refl;
+  acknowledges = λ channel number time. inl refl;
+  hears = λ n. inl refl;
+  paces = λ interval acceleration deceleration. inl refl;
+  ends = λ b info e. last-next (in_state state.Connected r) b info;
+  answers = λ q a k. k;
+})
 
 acknowledging-obeyed : (r : Peering) (now : ℕ) (sent : Option ℕ) (h : Head) (body : Body) → Next state.AckDisconnect (obeyed (in_state state.AckDisconnect r) now sent (record { head = h; body = body })).after.state
 acknowledging-obeyed r now sent h body = by body
