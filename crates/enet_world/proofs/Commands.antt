@@ -1,5 +1,5 @@
 -- No more commands are outstanding at a connected peer than its user's packets are cut into; and so rounds are enough.
-use Rattle.std.proofs.Common.{◌≡◌, ℕ, zero, suc, ◌+◌, ◌-◌, ◌*◌, ◌/◌, ◌<◌, ◌^◌, ◌≤◌, ◌==◌, ◌&&◌, ◌⊎◌, inl, inr, min, nat_lt, not, Bool, true, false, cond, List, [], ◌∷◌, ◌++◌, length, refl, sym, ap, subst, ◌∙◌, arith, Option, Some, None, IfSome}
+use Rattle.std.proofs.Common.{◌≡◌, ℕ, zero, suc, ◌+◌, ◌-◌, ◌*◌, ◌/◌, ◌<◌, ◌^◌, ◌≤◌, ◌==◌, ◌&&◌, ◌⊎◌, inl, inr, min, nat_lt, not, Bool, true, false, cond, List, [], ◌∷◌, ◌++◌, length, refl, sym, ap, subst, ◌∙◌, arith, Option, Some, None, IfSome, add-one}
 use Rattle.std.proofs.lemmas.Bool.Decides.{nat_tests}
 use Rattle.std.proofs.lemmas.Option.{slice_get_within}
 use Rattle.std.specs.List.{slice_get}
@@ -60,11 +60,8 @@ sum-held a p d n m s one two three four = omega arith
 pub pieces-next : (w : World) (x : ℕ) (side : Side) (channel so_far more all : ℕ) → so_far ≡ min (pieces_below w x side channel) 18446744073709551615
     → more ≡ min (pieces_of (submitted_at channel (end_at w x side))) 18446744073709551615 → all ≡ min (so_far + more) 18446744073709551615 → all ≡ min (pieces_below w x side (channel + 1)) 18446744073709551615
 unfolding pieces_below
-pieces-next w x side channel so_far more all a b sum = subst (λ n. all ≡ min (pieces_below w x side n) 18446744073709551615) (one-more channel) (both (pieces_below w x side channel) (pieces_of (submitted_at channel (end_at w x side))) a b)
+pieces-next w x side channel so_far more all a b sum = subst (λ n. all ≡ min (pieces_below w x side n) 18446744073709551615) (sym (add-one channel)) (both (pieces_below w x side channel) (pieces_of (submitted_at channel (end_at w x side))) a b)
   where
-    one-more : (n : ℕ) → suc n ≡ n + 1
-    one-more n = omega arith
-
     both : (m n : ℕ) → so_far ≡ min m 18446744073709551615 → more ≡ min n 18446744073709551615 → all ≡ min (m + n) 18446744073709551615
     both m n a b = omega arith
 

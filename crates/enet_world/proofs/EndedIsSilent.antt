@@ -230,14 +230,7 @@ silent-obeyed p now sent m h = by p.state refl
 
     by : (s : PeerState) → p.state ≡ s → IsSilent (obeyed p now sent m).after
     by state.Ended is = subst IsSilent (sym (deaf p now sent m is)) h
-    by state.Connecting is = other-state state.Connecting is (λ e. absurd (cc))
-    by state.Answering is = other-state state.Answering is (λ e. absurd (cc))
-    by state.Connected is = other-state state.Connected is (λ e. absurd (cc))
-    by state.DisconnectLater is = other-state state.DisconnectLater is (λ e. absurd (cc))
-    by state.Disconnecting is = other-state state.Disconnecting is (λ e. absurd (cc))
-    by state.AckDisconnect is = other-state state.AckDisconnect is (λ e. absurd (cc))
-    by state.Parting is = other-state state.Parting is (λ e. absurd (cc))
-    by state.Free is = other-state state.Free is (λ e. absurd (cc))
+    by s is = other-state s is (λ e. absurd (cc))
 
 -- what else happens at it
 silent-takes : (p : Peering) → IsSilent p → IsSilent (after_take p (next_event p))

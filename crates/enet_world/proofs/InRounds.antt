@@ -66,6 +66,7 @@ use Rattle.enet_world.proofs.Pings.{IsLone, is_ping}
 use Rattle.enet_world.proofs.Reaching.{reached-step}
 use Rattle.enet_world.proofs.Staying.{puts-none-ends, emits-on, none-filled}
 use Rattle.enet_world.proofs.TwoEnds.{from_start, sound, host-at, twice, Ends, swapped, is-end, far-end, faces, Moved, moved, IsDown, down-step, Up, up-back, begun-here, IsOn, up-or-down, live}
+use Rattle.law_headline.proofs.Net.{get-last}
 
 -- ---- the hosts' clocks
 abbrev pub clock_at : World → Side → ℕ
@@ -186,10 +187,6 @@ take-still w v side (Ok (answers.Taken event')) step = called-still w v side (ca
 take-still w v side (Ok answer) step = absurd step.1
 
 -- ---- an end puts out a datagram, or is passed by
-last-at : {X : Type 0} (xs : List X) (y : X) → slice_get (xs ++ y ∷ []) (length xs) ≡ Some y
-last-at [] y = refl
-last-at (x ∷ xs) y = last-at xs y
-
 -- a datagram is an end's own, and has what it put out
 pub record IsOwn (now x : ℕ) (own far new : End) (d : Logged) : Type 0 where
   pub of : d.connection ≡ x
@@ -252,7 +249,7 @@ serves joined w v x side own far k gave buf r h number u = by m.2
       on = emitted-on now own far m.0 u.p u.is_p u.on_p g.emits;
       goes = inl (
         g.datagram,
-        ap (λ (l : List Logged). slice_get l k) g.logged ∙ ap (λ (i : ℕ). slice_get (old.log ++ g.datagram ∷ []) i) number ∙ last-at old.log g.datagram,
+        ap (λ (l : List Logged). slice_get l k) g.logged ∙ ap (λ (i : ℕ). slice_get (old.log ++ g.datagram ∷ []) i) number ∙ get-last old.log g.datagram,
         record { of = g.of ∙ u.ends.of_e; is = g.has.is; goes = g.emits; all = g.has.all; sent = g.has.sent },
       );
     }

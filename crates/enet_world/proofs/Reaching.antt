@@ -1,5 +1,5 @@
 -- The worlds that are reached.
-use Rattle.std.proofs.Common.{◌≡◌, ℕ, ◌+◌, min, Bool, true, false, List, [], ◌∷◌, ◌++◌, suc, refl, ap, subst, ◌∙◌, arith, Result}
+use Rattle.std.proofs.Common.{◌≡◌, ℕ, ◌+◌, min, Bool, true, false, List, [], ◌∷◌, ◌++◌, refl, ap, subst, ◌∙◌, arith, Result, add-one, sym}
 use Rattle.enet_codec.specs.declared.refusal.Refusal.{Refusal}
 use Rattle.law_network.specs.declared.event.Answer.{Answer}
 use Rattle.law_network.specs.declared.event.WorldEvent.{WorldEvent}
@@ -49,10 +49,7 @@ passed-push (d ∷ es) e n = passed-push es e (passed_by d n)
 
 -- and one more round
 pub passed-more : (n ms first before after : ℕ) → before ≡ passed_by_rounds n ms first → after ≡ passed_by_rounds 1 ms before → after ≡ passed_by_rounds (n + 1) ms first
-passed-more n ms first before after so_far one = subst (λ m. after ≡ passed_by_rounds m ms first) (more n) (one ∙ ap (λ (p : ℕ). passed_by_rounds 1 ms p) so_far)
-  where
-    more : (m : ℕ) → suc m ≡ m + 1
-    more m = omega arith
+passed-more n ms first before after so_far one = subst (λ m. after ≡ passed_by_rounds m ms first) (sym (add-one n)) (one ∙ ap (λ (p : ℕ). passed_by_rounds 1 ms p) so_far)
 
 pub headline : (joined : Bool) (w : World) → OfEachList (HasHeadline false) → OfEachJoinedList (HasHeadline true) → IsReached joined w → HasHeadline joined w
 headline true w opened joined r = joined r.a r.b r.in_range r.events r.answers w r.runs

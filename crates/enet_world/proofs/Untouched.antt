@@ -3,7 +3,6 @@ use Rattle.std.proofs.Common.{◌≡◌, ◌≢◌, ◌⊎◌, inl, inr, ℕ, Bo
 use Rattle.std.specs.Prelude.{is_some}
 use Rattle.enet_codec.specs.declared.command.Head.{Head}
 use Rattle.enet_codec.specs.declared.packet.Packet.{Packet}
-use Rattle.enet_codec.specs.declared.stop.Stop.TheVariants as stop
 use Rattle.enet_codec.specs.Message.{Message, Body, acknowledge, connect, verify_connect, disconnect, ping}
 use Rattle.enet_rtt.specs.declared.expiry.Expiry.{Expiry}
 use Rattle.enet_rtt.specs.declared.expiry.Expiry.TheVariants.{No, Resend, End as Ends}
@@ -16,8 +15,9 @@ use Rattle.enet_peer.specs.declared.parts.PeerEvent.TheVariants as told
 use Rattle.enet_peer.specs.declared.parts.PeerState.{PeerState}
 use Rattle.enet_peer.specs.declared.parts.PeerState.TheVariants as state
 use Rattle.enet_peer.specs.Peering.{Peering}
-use Rattle.enet_peer.specs.CommandEffect.{Outcome, answered, on_acknowledge, on_match, on_last_disconnect, acknowledged, is_crowded_out, unless_crowded_out, stopped, obeyed, wants_memory}
+use Rattle.enet_peer.specs.CommandEffect.{answered, on_acknowledge, on_match, on_last_disconnect, acknowledged, unless_crowded_out, obeyed, wants_memory}
 use Rattle.enet_peer.specs.Calls.{after_timeouts, after_timeouts_by, is_pinged, pinged, ticked, next_event, event_after, packet_event, last_event}
+use Rattle.enet_peer.proofs.Obeying.{unless-holds}
 use Rattle.law_connection.proofs.Events.{took}
 use Rattle.law_connection.specs.Steps as setting
 use Rattle.law_network.specs.Deeds.{Deed, Alone, emitted}
@@ -57,13 +57,6 @@ each-up P stands acks ends p up = by p.state refl up
     by s e u = absurd (cc)
 
 -- ---- a command comes
-if-next : (s : PeerState) (b : Bool) (x y : Outcome) → Next s x.after.state → Next s y.after.state → Next s (cond b x y).after.state
-if-next s true x y h k = h
-if-next s false x y h k = k
-
-unless-next : (s : PeerState) (p : Peering) (m : Message) (o : Outcome) → Next s p.state → Next s o.after.state → Next s (unless_crowded_out p m o).after.state
-unless-next s p m o h k = if-next s (is_crowded_out p m) (stopped p stop.Waiting) o h k
-
 answered-next : (s : PeerState) (q : Peering) (m : Message) (sent : Option ℕ) → Next s q.state → Next s (answered q m sent true).after.state
 answered-next s q m sent h = answered-holds (λ p. Next s p.state) q m sent true (λ a. h) h
 
@@ -92,7 +85,7 @@ acknowledging-obeyed r now sent h body = by body
     came body = record { head = h; body = body }
 
     plain : (body : Body) (q : Peering) → q.state ≡ state.AckDisconnect → Next state.AckDisconnect (unless_crowded_out p (came body) (answered q (came body) sent true)).after.state
-    plain body q e = unless-next state.AckDisconnect p (came body) (answered q (came body) sent true) (inl refl) (answered-next state.AckDisconnect q (came body) sent (inl e))
+    plain body q e = unless-holds (λ q. Next state.AckDisconnect q.state) p (came body) (answered q (came body) sent true) (inl refl) (answered-next state.AckDisconnect q (came body) sent (inl e))
 
     taken-away : (number time : ℕ) (x : Matched) → (on_match x p (acknowledged p now h.channel number time)).state ≡ state.AckDisconnect
     taken-away number time matched.Nothing = refl
