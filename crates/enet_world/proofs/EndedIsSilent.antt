@@ -3,7 +3,6 @@ use Rattle.std.proofs.Common.{◌≡◌, ◌≢◌, ℕ, zero, suc, ◌&&◌, Bo
 use Rattle.std.specs.List.{position, slice_get}
 use Rattle.enet_codec.specs.declared.command.Verify.{Verify}
 use Rattle.enet_codec.specs.declared.event.PeerRef.{PeerRef}
-use Rattle.enet_codec.specs.declared.packet.Packet as codec
 use Rattle.enet_codec.specs.declared.refusal.Refusal.{Refusal}
 use Rattle.enet_codec.specs.declared.refusal.Refusal.TheVariants.{NotConnected}
 use Rattle.enet_codec.specs.declared.stop.Stop.{Stop}
@@ -37,14 +36,14 @@ use Rattle.enet_peer.specs.Peering.{Peering}
 use Rattle.enet_peer.specs.Endings.{settled, disconnecting, ended, is_later, freed, cut_off_in}
 use Rattle.enet_peer.proofs.Obeying.{unless-holds}
 use Rattle.enet_peer.specs.CommandEffect.{obeyed, unless_crowded_out, stopped, is_allowed, is_connect, by_body, by_answer, by_arrival, on_data, answered, answered_at, is_answered_in, is_connecting, on_acknowledge, on_match, sampled, with_answer, on_verify_in, welcomed, on_disconnect_in, on_last_disconnect, on_bandwidth, on_throttle}
-use Rattle.enet_peer.specs.Calls.{Leave, AtOnce, TellsOnce, Asks, AsksLater, Refused, is_connected, left, pace_of, gone_on_in, submission_refusal, submitted, ticked, pinged, is_pinged, after_timeouts_by, growth_bound, next_event, event_after, packet_event, last_event}
+use Rattle.enet_peer.specs.Calls.{Leave, AtOnce, TellsOnce, Asks, AsksLater, Refused, is_connected, left, pace_of, gone_on_in, submission_refusal, submitted, ticked, pinged, is_pinged, after_timeouts_by, growth_bound}
 use Rattle.enet_host.specs.Host.{named}
 use Rattle.law_connection.specs.Steps.{leave_by}
 use Rattle.law_connection.specs.Steps as event
 use Rattle.law_connection.proofs.Runs.{and-left}
+use Rattle.law_connection.proofs.Events.{took}
 use Rattle.law_network.specs.declared.event.Side.{Side}
 use Rattle.law_network.specs.World.{World, site_of}
-use Rattle.law_progress.specs.Attempts.{after_take}
 use Rattle.law_progress.specs.Waits.{after_leave}
 use Rattle.law_progress.proofs.Attempts.{AreEmpty}
 use Rattle.law_progress.proofs.SomethingGoes.{none-due}
@@ -233,21 +232,6 @@ silent-obeyed p now sent m h = by p.state refl
     by s is = other-state s is (λ e. absurd (cc))
 
 -- what else happens at it
-silent-takes : (p : Peering) → IsSilent p → IsSilent (after_take p (next_event p))
-silent-takes p h = by p.greeting
-  where
-    last : (s : PeerState) → IsSilent (after_take p (last_event s p))
-    last state.Ended = λ e. absurd (cc)
-    last s = h
-
-    packets : (untaken : List codec.Packet) → IsSilent (after_take p (packet_event p untaken))
-    packets [] = last p.state
-    packets (q ∷ rest) = h
-
-    by : (greeting : Option ℕ) → IsSilent (after_take p (event_after p greeting))
-    by (Some info) = h
-    by None = packets p.inbox.untaken
-
 silent-went : (p : Peering) (s : PeerState) → IsSilent p → IsSilent (gone_on_in s p)
 silent-went p state.AckDisconnect h = silent-ended p p.info
 silent-went p state.Parting h = by (nat_lt 0 (length p.outbox.control.queued))
@@ -315,7 +299,7 @@ silent-lasts = record {
   emits = λ p now h. silent-went (record p { outbox = (filled (pace_of p now) p.outbox).outbox }) p.state (λ e. (let k = fills-none (pace_of p now) p.outbox (h e) in k.left));
   comes = λ p now sent m h. silent-obeyed p now sent m h;
   ticks = λ p now h. silent-ticked p now h;
-  takes = λ p q e next h. subst (λ t. IsSilent (after_take p t)) next (silent-takes p h);
+  takes = λ p q e next h. took (λ y t. IsSilent y) p q e next (λ info g. h) (λ x rest g u. h) (λ g u at s. absurd (cc));
   leaves = λ p q way info e h. subst (λ (o : Option Peering). IsSilent (after_leave p o)) e (silent-left p (leave_by way p.state) info h);
   sets = λ p s may h. silent-set p s may h;
 }

@@ -20,6 +20,7 @@ use Rattle.enet_host.specs.Opening as opening
 use Rattle.enet_host.specs.Ticking.{clock_after}
 use Rattle.law_connection.specs.Steps.{leave_by}
 use Rattle.law_connection.specs.Steps as setting
+use Rattle.law_connection.proofs.Events.{took}
 use Rattle.law_network.specs.Beginnings.{BeganBy, Lived, WasThere}
 use Rattle.law_network.specs.Calls.{Call, Acts, Steps, Series}
 use Rattle.law_network.specs.Calls as call
@@ -54,10 +55,10 @@ use Rattle.law_progress.proofs.Wide.{IsWide, at-least, wide-obeyed, wide-takes, 
 use Rattle.enet_world.specs.Worlds.{first}
 use Rattle.enet_world.specs.Private.Worlds.{IsReachedIn, passes, all_pass}
 use Rattle.enet_world.proofs.Lasting.{obeys}
-use Rattle.enet_world.proofs.Modest.{IsModest, modest-obeyed, modest-ticked, modest-emitted, modest-submitted, modest-takes, modest-left}
+use Rattle.enet_world.proofs.Modest.{IsModest, modest-obeyed, modest-ticked, modest-emitted, modest-submitted, modest-left}
 use Rattle.enet_world.proofs.Pings.{Idle, Queued}
 use Rattle.enet_world.proofs.Punctual.{Rests, rests-ticked, rests-emitted}
-use Rattle.enet_world.proofs.Unset.{IsUnset, unset-obeyed, unset-takes, unset-went, unset-left, unset-ticked}
+use Rattle.enet_world.proofs.Unset.{IsUnset, unset-obeyed, unset-went, unset-left, unset-ticked}
 use Rattle.enet_world.proofs.Fallen.{Each, kept-by-each, each-if, each-up-to, each-reaches}
 use Rattle.law_network.proofs.Submitting.{same-some}
 use Rattle.enet_rtt.specs.declared.transmission.Transmission.{Transmission}
@@ -114,13 +115,13 @@ deed-keeps now time (deed.Come n sent m answer) p q at a h = obeys (Habit now ti
 })
 deed-keeps now time (deed.Tick n) p q at a h = absurd at
 deed-keeps now time (deed.Take None) p q at a h = subst (Habit now time) (sym a.1) h
-deed-keeps now time (deed.Take (Some e)) p q at a h = subst (λ t. Habit now time (after_take p t)) a (record {
-  aged = λ near. fair-takes (Aged now time) most p (h.aged near);
-  rests = fair-takes (Rests (now % 2 ^ 32)) most p h.rests;
-  wide = wide-takes p h.wide;
-  unset = unset-takes p h.unset;
-  modest = modest-takes p h.modest;
-})
+deed-keeps now time (deed.Take (Some e)) p q at a h = record {
+  aged = λ near. subst (λ t. Ages now time (after_take p t)) a (fair-takes (Aged now time) most p (h.aged near));
+  rests = subst (λ t. Fair (Rests (now % 2 ^ 32)) most (after_take p t)) a (fair-takes (Rests (now % 2 ^ 32)) most p h.rests);
+  wide = subst (λ t. IsWide (after_take p t)) a (wide-takes p h.wide);
+  unset = took (λ y t. IsUnset y) p q e a (λ info g. h.unset) (λ x rest g u. h.unset) (λ g u s. h.unset);
+  modest = took (λ y t. IsModest y) p q e a (λ info g. h.modest) (λ x rest g u. h.modest) (λ g u s. tt);
+}
 deed-keeps now time (deed.Disconnect way info (Ok done)) p q at a h = subst (λ (o : Option Peering). Habit now time (after_leave p o)) a (record {
   aged = λ near. fair-left (Aged now time) most p (leave_by way p.state) info (h.aged near);
   rests = fair-left (Rests (now % 2 ^ 32)) most p (leave_by way p.state) info h.rests;

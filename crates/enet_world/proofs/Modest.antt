@@ -1,8 +1,7 @@
 -- What a peer of which nothing is set has to send on channel 0xFF, whatever happens: while the connection stands at most one PING, and while a
 -- server awaits the client at most one command.
-use Rattle.std.proofs.Common.{◌≡◌, ℕ, ◌&&◌, leb, Bool, true, false, cond, List, [], ◌∷◌, length, refl, sym, ap, subst, Option, Some, None, is_some, nat_lt}
+use Rattle.std.proofs.Common.{◌≡◌, ℕ, ◌&&◌, leb, Bool, true, false, cond, length, refl, sym, ap, subst, Option, Some, None, is_some, nat_lt}
 use Rattle.std.specs.List.{slice_get, list_all}
-use Rattle.enet_codec.specs.declared.packet.Packet as codec
 use Rattle.enet_codec.specs.Message.{Message, Body, acknowledge, connect, verify_connect, disconnect}
 use Rattle.enet_codec.specs.declared.command.Verify.{Verify}
 use Rattle.enet_codec.specs.declared.stop.Stop.TheVariants as stop
@@ -26,9 +25,8 @@ use Rattle.enet_peer.specs.declared.parts.PeerState.TheVariants as state
 use Rattle.enet_peer.specs.Peering.{Peering}
 use Rattle.enet_peer.specs.Endings.{settled, disconnecting, freed, cut_off_in, is_later}
 use Rattle.enet_peer.specs.CommandEffect.{obeyed, unless_crowded_out, stopped, is_allowed, is_connect, by_body, answered, on_acknowledge, on_match, acknowledged, welcomed, on_last_disconnect, on_disconnect_in}
-use Rattle.enet_peer.specs.Calls.{Leave, AtOnce, TellsOnce, Asks, AsksLater, Refused, left, is_connected, pace_of, pinged, is_pinged, after_timeouts_by, growth_bound, ticked, submitted, gone_on, gone_on_in, next_event, event_after, packet_event, last_event}
+use Rattle.enet_peer.specs.Calls.{Leave, AtOnce, TellsOnce, Asks, AsksLater, Refused, left, is_connected, pace_of, pinged, is_pinged, after_timeouts_by, growth_bound, ticked, submitted, gone_on, gone_on_in}
 use Rattle.enet_peer.proofs.Obeying.{unless-holds}
-use Rattle.law_progress.specs.Attempts.{after_take}
 use Rattle.law_progress.specs.Waits.{after_leave}
 use Rattle.enet_world.proofs.Lasting.{is_past, past-lasts}
 use Rattle.enet_world.proofs.Pings.{IsLone, Idle, is_ping, is_any, idle-lists, queued-lone, marked-lone, acknowledged-lone, answered-lone, filled-lone, connected, meets-connected, answered-holds}
@@ -198,21 +196,6 @@ modest-submitted p channel q h = by (outbox.is_unsequenced p.terms.mtu q)
     by : (b : Bool) → IsModest (record p { outbox = cond b (outbox.with_unsequenced p.outbox channel q) (outbox.with_sequenced p.outbox p.terms.mtu channel q (slice_get p.outbox.senders channel)) })
     by true = h
     by false = on (slice_get p.outbox.senders channel)
-
-pub modest-takes : (p : Peering) → IsModest p → IsModest (after_take p (next_event p))
-modest-takes p h = by p.greeting
-  where
-    last : (s : PeerState) → IsModest (after_take p (last_event s p))
-    last state.Ended = tt
-    last s = h
-
-    packets : (untaken : List codec.Packet) → IsModest (after_take p (packet_event p untaken))
-    packets [] = last p.state
-    packets (q ∷ rest) = h
-
-    by : (greeting : Option ℕ) → IsModest (after_take p (event_after p greeting))
-    by (Some info) = h
-    by None = packets p.inbox.untaken
 
 pub modest-left : (p : Peering) (leave : Leave) (info : ℕ) → IsModest p → IsModest (after_leave p (left leave p info))
 modest-left p AtOnce info h = tt

@@ -1,6 +1,5 @@
 -- A peer of which nothing is set has ENet's patience and pings when it wasn't heard for 500 ms, by a clock of 32 bits, whatever happens.
-use Rattle.std.proofs.Common.{◌≡◌, ◌<◌, ◌^◌, ℕ, ◌&&◌, Bool, true, false, cond, List, [], ◌∷◌, length, Option, Some, None, Result, Ok, Err, is_some, nat_lt}
-use Rattle.enet_codec.specs.declared.packet.Packet as codec
+use Rattle.std.proofs.Common.{◌≡◌, ◌<◌, ◌^◌, ℕ, ◌&&◌, Bool, true, false, cond, length, Option, Some, None, Result, Ok, Err, is_some, nat_lt}
 use Rattle.enet_codec.specs.declared.command.Verify.{Verify}
 use Rattle.enet_codec.specs.declared.stop.Stop.{Stop}
 use Rattle.enet_codec.specs.declared.stop.Stop.TheVariants as stop
@@ -23,8 +22,7 @@ use Rattle.enet_peer.specs.Peering.{Peering}
 use Rattle.enet_peer.specs.Endings.{settled, disconnecting, is_later, freed, cut_off_in}
 use Rattle.enet_peer.proofs.Obeying.{unless-holds}
 use Rattle.enet_peer.specs.CommandEffect.{obeyed, unless_crowded_out, stopped, is_allowed, is_connect, by_body, by_answer, by_arrival, on_data, answered, is_connecting, on_acknowledge, on_match, sampled, with_answer, on_verify_in, welcomed, on_disconnect_in, on_last_disconnect, on_bandwidth, on_throttle}
-use Rattle.enet_peer.specs.Calls.{Leave, AtOnce, TellsOnce, Asks, AsksLater, Refused, left, gone_on_in, ticked, pinged, is_pinged, after_timeouts_by, growth_bound, next_event, event_after, packet_event, last_event}
-use Rattle.law_progress.specs.Attempts.{after_take}
+use Rattle.enet_peer.specs.Calls.{Leave, AtOnce, TellsOnce, Asks, AsksLater, Refused, left, gone_on_in, ticked, pinged, is_pinged, after_timeouts_by, growth_bound}
 use Rattle.law_progress.specs.Waits.{after_leave}
 use Rattle.enet_world.proofs.Pings.{answered-holds}
 
@@ -109,21 +107,6 @@ unset-obeyed p now sent m low h = by (is_connect m.body) (is_allowed p.state m.b
     by true b = h
     by false true = unless-holds IsUnset p m (by_body p now sent m m.body) h (body m.body)
     by false false = h
-
-pub unset-takes : (p : Peering) → IsUnset p → IsUnset (after_take p (next_event p))
-unset-takes p h = by p.greeting
-  where
-    last : (s : PeerState) → IsUnset (after_take p (last_event s p))
-    last state.Ended = h
-    last s = h
-
-    packets : (untaken : List codec.Packet) → IsUnset (after_take p (packet_event p untaken))
-    packets [] = last p.state
-    packets (q ∷ rest) = h
-
-    by : (greeting : Option ℕ) → IsUnset (after_take p (event_after p greeting))
-    by (Some info) = h
-    by None = packets p.inbox.untaken
 
 pub unset-went : (p : Peering) (s : PeerState) → IsUnset p → IsUnset (gone_on_in s p)
 unset-went p state.AckDisconnect h = h
