@@ -1,13 +1,12 @@
 -- A peer that has ended has nothing to put out, whatever happens.
-use Rattle.std.proofs.Common.{◌≡◌, ◌≢◌, ℕ, zero, suc, ◌&&◌, Bool, true, false, cond, List, [], ◌∷◌, length, map, refl, sym, ap, subst, ◌∙◌, Option, Some, None, Result, Ok, Err, is_some, nat_lt, leb, not}
+use Rattle.std.proofs.Common.{◌≡◌, ◌≢◌, ℕ, zero, suc, ◌&&◌, Bool, true, false, cond, List, [], ◌∷◌, length, map, refl, sym, ap, subst, ◌∙◌, Option, Some, None, is_some, nat_lt, leb, not}
 use Rattle.std.specs.List.{position, slice_get}
 use Rattle.enet_codec.specs.declared.command.Verify.{Verify}
 use Rattle.enet_codec.specs.declared.event.PeerRef.{PeerRef}
 use Rattle.enet_codec.specs.declared.refusal.Refusal.{Refusal}
 use Rattle.enet_codec.specs.declared.refusal.Refusal.TheVariants.{NotConnected}
-use Rattle.enet_codec.specs.declared.stop.Stop.{Stop}
 use Rattle.enet_codec.specs.declared.stop.Stop.TheVariants as stop
-use Rattle.enet_codec.specs.Message.{Message, Body, acknowledge, connect, verify_connect, disconnect, ping, bandwidth_limit, throttle_configure}
+use Rattle.enet_codec.specs.Message.{Message}
 use Rattle.enet_rtt.specs.Clock.{elapsed_time}
 use Rattle.enet_rtt.specs.declared.expiry.Expiry.{Expiry}
 use Rattle.enet_rtt.specs.declared.expiry.Expiry.TheVariants.{No, Resend, End}
@@ -22,7 +21,6 @@ use Rattle.enet_sender.specs.CommandChoice.{Packet}
 use Rattle.enet_sender.specs.Due.{SendingEnd}
 use Rattle.enet_sender.specs.Sender as sender
 use Rattle.enet_sender.specs.Sender.{next}
-use Rattle.enet_inbox.specs.DataEffect.{DataEffect, arrival, passed_over}
 use Rattle.enet_outbox.specs.declared.parts.Matched.{Matched}
 use Rattle.enet_outbox.specs.declared.parts.Matched.TheVariants as matched
 use Rattle.enet_outbox.specs.declared.parts.Pace.{Pace}
@@ -34,8 +32,7 @@ use Rattle.enet_peer.specs.declared.parts.PeerState.{PeerState}
 use Rattle.enet_peer.specs.declared.parts.PeerState.TheVariants as state
 use Rattle.enet_peer.specs.Peering.{Peering}
 use Rattle.enet_peer.specs.Endings.{settled, disconnecting, ended, is_later, freed, cut_off_in}
-use Rattle.enet_peer.proofs.Obeying.{unless-holds}
-use Rattle.enet_peer.specs.CommandEffect.{obeyed, unless_crowded_out, stopped, is_allowed, is_connect, by_body, by_answer, by_arrival, on_data, answered, answered_at, is_answered_in, is_connecting, on_acknowledge, on_match, sampled, with_answer, on_verify_in, welcomed, on_disconnect_in, on_last_disconnect, on_bandwidth, on_throttle}
+use Rattle.enet_peer.specs.CommandEffect.{obeyed, unless_crowded_out, stopped, is_allowed, is_connect, by_body, answered, answered_at, is_answered_in, is_connecting, on_acknowledge, on_match, sampled, with_answer, on_verify_in, welcomed, on_disconnect_in, on_last_disconnect}
 use Rattle.enet_peer.specs.Calls.{Leave, AtOnce, TellsOnce, Asks, AsksLater, Refused, is_connected, left, pace_of, gone_on_in, submission_refusal, submitted, ticked, pinged, is_pinged, after_timeouts_by, growth_bound}
 use Rattle.enet_host.specs.Host.{named}
 use Rattle.law_connection.specs.Steps.{leave_by}
@@ -50,6 +47,7 @@ use Rattle.law_progress.proofs.SomethingGoes.{none-due}
 use Rattle.enet_world.specs.Private.Worlds.{IsReached}
 use Rattle.enet_world.proofs.Lasting.{Lasts}
 use Rattle.enet_world.proofs.Living.{named-has}
+use Rattle.enet_world.proofs.Pings.{obeys-each}
 
 -- ---- nothing is to go, and nothing waits
 pub record IsEmpty (o : Outbox) : Type 0 where
@@ -177,40 +175,20 @@ silent-answered p m sent may h = by (m.head.acknowledge && may) (is_answered_in 
     by true false t o = h
     by false b t o = h
 
-silent-result : (p : Peering) (m : Message) (sent : Option ℕ) (r : Result Bool Stop) → IsSilent p → IsSilent (by_answer p m sent r).after
-silent-result p m sent (Err why) h = h
-silent-result p m sent (Ok may) h = silent-answered p m sent may h
-
-silent-data : (p : Peering) (m : Message) (sent : Option ℕ) → IsSilent p → IsSilent (on_data p m sent).after
-silent-data p m sent h = by (is_later p.state)
-  where
-    a : DataEffect
-    a = arrival p.inbox m
-
-    by : (b : Bool) → IsSilent (cond b (by_answer p m sent (passed_over p.inbox m)) (by_arrival p m sent a)).after
-    by true = silent-result p m sent (passed_over p.inbox m) h
-    by false = silent-result (record p { inbox = a.after }) m sent a.answer h
-
 silent-heard : (p : Peering) (now : ℕ) (sent : Option ℕ) (m : Message) → p.state ≢ state.Ended → IsSilent (obeyed p now sent m).after
-silent-heard p now sent m n = by (is_connect m.body) (is_allowed p.state m.body)
+silent-heard p now sent m n = obeys-each IsSilent p now sent m (record {
+  same = h;
+  holds = λ b. h;
+  acknowledges = λ number time. silent-acknowledge p now m.head.channel number time n;
+  verifies = λ v. silent-verify p v p.state h;
+  ends = λ info e. silent-disconnect p p.state (m.head.acknowledge && is_some sent) info h;
+  hears = λ incoming e. absurd (n e);
+  paces = λ interval acceleration deceleration e. absurd (n e);
+  answers = λ q may k. silent-answered q m sent may k;
+})
   where
     h : IsSilent p
     h e = absurd (n e)
-
-    body : (b : Body) → IsSilent (by_body p now sent m b).after
-    body (acknowledge number time) = silent-answered (on_acknowledge p now m.head.channel number time) m sent true (silent-acknowledge p now m.head.channel number time n)
-    body (connect offer) = h
-    body (verify_connect v) = silent-answered (on_verify_in p.state p v) m sent true (silent-verify p v p.state h)
-    body (disconnect info) = silent-answered (on_disconnect_in p.state p (m.head.acknowledge && is_some sent) info) m sent true (silent-disconnect p p.state (m.head.acknowledge && is_some sent) info h)
-    body ping = silent-answered p m sent true h
-    body (bandwidth_limit incoming outgoing) = silent-answered (on_bandwidth p incoming) m sent true (λ e. absurd (n e))
-    body (throttle_configure interval acceleration deceleration) = silent-answered (on_throttle p interval acceleration deceleration) m sent true (λ e. absurd (n e))
-    body b = silent-data p m sent h
-
-    by : (a b : Bool) → IsSilent (cond a (stopped p stop.BadCommand) (cond b (unless_crowded_out p m (by_body p now sent m m.body)) (stopped p stop.NotConnected))).after
-    by true b = h
-    by false true = unless-holds IsSilent p m (by_body p now sent m m.body) h (body m.body)
-    by false false = h
 
 -- none has an effect at one that has
 deaf : (p : Peering) (now : ℕ) (sent : Option ℕ) (m : Message) → p.state ≡ state.Ended → (obeyed p now sent m).after ≡ p

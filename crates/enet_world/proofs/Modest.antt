@@ -1,10 +1,9 @@
 -- What a peer of which nothing is set has to send on channel 0xFF, whatever happens: while the connection stands at most one PING, and while a
 -- server awaits the client at most one command.
-use Rattle.std.proofs.Common.{◌≡◌, ℕ, ◌&&◌, leb, Bool, true, false, cond, length, refl, sym, ap, subst, Option, Some, None, is_some, nat_lt}
+use Rattle.std.proofs.Common.{◌≡◌, ℕ, ◌&&◌, leb, Bool, true, false, cond, length, refl, sym, ap, subst, Option, Some, None, nat_lt}
 use Rattle.std.specs.List.{slice_get, list_all}
-use Rattle.enet_codec.specs.Message.{Message, Body, acknowledge, connect, verify_connect, disconnect}
+use Rattle.enet_codec.specs.Message.{Message}
 use Rattle.enet_codec.specs.declared.command.Verify.{Verify}
-use Rattle.enet_codec.specs.declared.stop.Stop.TheVariants as stop
 use Rattle.enet_connect.specs.declared.terms.Terms.{Terms}
 use Rattle.enet_connect.specs.Verification.{confirmed}
 use Rattle.enet_rtt.specs.Clock.{elapsed_time}
@@ -24,12 +23,11 @@ use Rattle.enet_peer.specs.declared.parts.PeerState.{PeerState}
 use Rattle.enet_peer.specs.declared.parts.PeerState.TheVariants as state
 use Rattle.enet_peer.specs.Peering.{Peering}
 use Rattle.enet_peer.specs.Endings.{settled, disconnecting, freed, cut_off_in, is_later}
-use Rattle.enet_peer.specs.CommandEffect.{obeyed, unless_crowded_out, stopped, is_allowed, is_connect, by_body, answered, on_acknowledge, on_match, acknowledged, welcomed, on_last_disconnect, on_disconnect_in}
+use Rattle.enet_peer.specs.CommandEffect.{obeyed, answered, on_acknowledge, on_match, acknowledged, welcomed, on_last_disconnect}
 use Rattle.enet_peer.specs.Calls.{Leave, AtOnce, TellsOnce, Asks, AsksLater, Refused, left, is_connected, pace_of, pinged, is_pinged, after_timeouts_by, growth_bound, ticked, submitted, gone_on, gone_on_in}
-use Rattle.enet_peer.proofs.Obeying.{unless-holds}
 use Rattle.law_progress.specs.Waits.{after_leave}
 use Rattle.enet_world.proofs.Lasting.{is_past, past-lasts}
-use Rattle.enet_world.proofs.Pings.{IsLone, Idle, is_ping, is_any, idle-lists, queued-lone, marked-lone, acknowledged-lone, answered-lone, filled-lone, connected, meets-connected, answered-holds}
+use Rattle.enet_world.proofs.Pings.{IsLone, Idle, is_ping, is_any, idle-lists, queued-lone, marked-lone, acknowledged-lone, answered-lone, filled-lone, connected, meets-connected, answered-holds, obeys-each}
 use Rattle.law_network.proofs.Runs.{both}
 
 abbrev pub Controlled : PeerState → Commands → Type 0
@@ -80,7 +78,16 @@ pub was-in : (p : Peering) (s : PeerState) → p.state ≡ s → in_state s p �
 was-in p s e = ap (λ (t : PeerState). record p { state = t }) (sym e)
 
 meets-answering : (p : Peering) (now : ℕ) (sent : Option ℕ) (m : Message) → IsLone is_any p.outbox.control → IsModest (obeyed (in_state state.Answering p) now sent m).after
-meets-answering p now sent m h = by m.body
+meets-answering p now sent m h = obeys-each IsModest old now sent m (record {
+  same = h;
+  holds = λ b. h;
+  acknowledges = λ number time. gone m.head.channel number time;
+  verifies = λ v. h;
+  ends = λ info e. tt;
+  hears = λ n. h;
+  paces = λ interval acceleration deceleration. h;
+  answers = λ q may k. answered-modest q m sent may k;
+})
   where
     old : Peering
     old = record p { state = state.Answering }
@@ -97,18 +104,17 @@ meets-answering p now sent m h = by m.body
         go (matched.Control (control.VerifyConnect verify)) e = answered-lone is_any is_ping p.outbox channel number (control.VerifyConnect verify) e h
         go (matched.Control what) e = less
 
-    effect-of : (b : Body) → IsModest (by_body old now sent m b).after → IsModest (unless_crowded_out old m (by_body old now sent m b)).after
-    effect-of b k = unless-holds IsModest old m (by_body old now sent m b) h k
-
-    by : (b : Body) → IsModest (cond (is_connect b) (stopped old stop.BadCommand) (cond (is_allowed state.Answering b) (unless_crowded_out old m (by_body old now sent m b)) (stopped old stop.NotConnected))).after
-    by (acknowledge number time) = effect-of (acknowledge number time) (answered-modest (on_acknowledge old now m.head.channel number time) m sent true (gone m.head.channel number time))
-    by (connect offer) = h
-    by (verify_connect v) = effect-of (verify_connect v) (answered-modest old m sent true h)
-    by (disconnect info) = effect-of (disconnect info) (answered-modest (freed old) m sent true tt)
-    by b = h
-
 meets-asking : (p : Peering) (now : ℕ) (sent : Option ℕ) (m : Message) → IsModest (obeyed (in_state state.Connecting p) now sent m).after
-meets-asking p now sent m = by m.body
+meets-asking p now sent m = obeys-each IsModest old now sent m (record {
+  same = tt;
+  holds = λ b. tt;
+  acknowledges = λ number time. tt;
+  verifies = λ v. greets v (confirmed old.offer v);
+  ends = λ info e. tt;
+  hears = λ n. tt;
+  paces = λ interval acceleration deceleration. tt;
+  answers = λ q may k. answered-modest q m sent may k;
+})
   where
     old : Peering
     old = record p { state = state.Connecting }
@@ -116,16 +122,6 @@ meets-asking p now sent m = by m.body
     greets : (v : Verify) (o : Option Terms) → IsModest (welcomed old v o)
     greets v None = tt
     greets v (Some terms) = Idle refl refl
-
-    effect-of : (b : Body) → IsModest (by_body old now sent m b).after → IsModest (unless_crowded_out old m (by_body old now sent m b)).after
-    effect-of b k = unless-holds IsModest old m (by_body old now sent m b) tt k
-
-    by : (b : Body) → IsModest (cond (is_connect b) (stopped old stop.BadCommand) (cond (is_allowed state.Connecting b) (unless_crowded_out old m (by_body old now sent m b)) (stopped old stop.NotConnected))).after
-    by (acknowledge number time) = effect-of (acknowledge number time) (answered-modest old m sent true tt)
-    by (connect offer) = tt
-    by (verify_connect v) = effect-of (verify_connect v) (answered-modest (welcomed old v (confirmed old.offer v)) m sent true (greets v (confirmed old.offer v)))
-    by (disconnect info) = effect-of (disconnect info) (answered-modest (on_disconnect_in state.Connecting old (m.head.acknowledge && is_some sent) info) m sent true tt)
-    by b = tt
 
 pub modest-obeyed : (p : Peering) (now : ℕ) (sent : Option ℕ) (m : Message) → IsModest p → IsModest (obeyed p now sent m).after
 modest-obeyed p now sent m h = by p.state refl

@@ -7,6 +7,7 @@ use Rattle.std.specs.List.{slice_get, slice_set, remove}
 use Rattle.enet_codec.specs.Message.{Message, Body, acknowledge, connect, verify_connect, disconnect, ping, bandwidth_limit, throttle_configure}
 use Rattle.enet_codec.specs.declared.stop.Stop.{Stop}
 use Rattle.enet_codec.specs.declared.stop.Stop.TheVariants as stop
+use Rattle.enet_codec.specs.declared.command.Verify.{Verify}
 use Rattle.enet_senders.specs.declared.control.Control.{Control}
 use Rattle.enet_senders.specs.declared.control.Control.TheVariants as control
 use Rattle.enet_senders.specs.declared.control.Numbered.{Numbered}
@@ -15,7 +16,7 @@ use Rattle.enet_senders.specs.Controlling.{Commands}
 use Rattle.enet_senders.specs.Controlling as controlling
 use Rattle.enet_sender.specs.Due.{SendingEnd}
 use Rattle.enet_inbox.specs.Inbox.{Inbox}
-use Rattle.enet_inbox.specs.DataEffect.{DataEffect, arrival}
+use Rattle.enet_inbox.specs.DataEffect.{arrival, passed_over}
 use Rattle.enet_outbox.specs.declared.parts.Acknowledgement.{Acknowledgement}
 use Rattle.enet_outbox.specs.declared.parts.Matched.{Matched}
 use Rattle.enet_outbox.specs.declared.parts.Matched.TheVariants as matched
@@ -27,7 +28,8 @@ use Rattle.enet_outbox.proofs.Filled.{by-filling}
 use Rattle.enet_peer.specs.declared.parts.PeerState.{PeerState}
 use Rattle.enet_peer.specs.declared.parts.PeerState.TheVariants as state
 use Rattle.enet_peer.specs.Peering.{Peering}
-use Rattle.enet_peer.specs.CommandEffect.{obeyed, unless_crowded_out, stopped, is_allowed, is_connect, by_body, by_answer, by_arrival, answered, answered_at, is_answered_in, on_acknowledge, on_match, acknowledged, on_last_disconnect, on_disconnect_in, on_bandwidth, on_throttle}
+use Rattle.enet_peer.specs.CommandEffect.{obeyed, unless_crowded_out, stopped, is_allowed, is_connect, by_body, by_answer, by_arrival, answered, answered_at, is_answered_in, on_acknowledge, on_match, acknowledged, on_last_disconnect, on_disconnect_in, on_bandwidth, on_throttle, on_verify_in}
+use Rattle.enet_peer.specs.Endings.{is_later}
 use Rattle.enet_peer.proofs.Obeying.{unless-holds}
 use Rattle.law_progress.proofs.Controls.{GoesControl, Heads, Repeats, goes-control}
 use Rattle.law_network.proofs.Submitting.{same-some}
@@ -180,7 +182,45 @@ answered-holds P q m sent may answers h = go (m.head.acknowledge && may && is_an
     go true None = h
     go true (Some time) = answers _
 
--- ---- a command comes to a peer that is connected
+-- ---- a command comes to a peer
+-- what holds of the peer that a command makes of it, by its kind
+pub record Obeys (P : Peering → Type 0) (now : ℕ) (sent : Option ℕ) (m : Message) (p : Peering) : Type 0 where
+  pub same : P p
+  pub holds : (b : Inbox) → P (record p { inbox = b })
+  pub acknowledges : (number time : ℕ) → P (on_acknowledge p now m.head.channel number time)
+  pub verifies : (v : Verify) → P (on_verify_in p.state p v)
+  pub ends : (info : ℕ) → m.body ≡ disconnect info → P (on_disconnect_in p.state p (m.head.acknowledge && is_some sent) info)
+  pub hears : (n : ℕ) → P (on_bandwidth p n)
+  pub paces : (interval acceleration deceleration : ℕ) → P (on_throttle p interval acceleration deceleration)
+  pub answers : (q : Peering) (may : Bool) → P q → P (answered q m sent may).after
+
+pub obeys-each : (P : Peering → Type 0) (p : Peering) (now : ℕ) (sent : Option ℕ) (m : Message) → Obeys P now sent m p → P (obeyed p now sent m).after
+obeys-each P p now sent m k = by (is_connect m.body) (is_allowed p.state m.body)
+  where
+    by-result : (q : Peering) (r : Result Bool Stop) → P q → P (by_answer q m sent r).after
+    by-result q (Err why) h = h
+    by-result q (Ok may) h = k.answers q may h
+
+    data' : (b : Bool) → P (cond b (by_answer p m sent (passed_over p.inbox m)) (by_arrival p m sent (arrival p.inbox m))).after
+    data' true = by-result p (passed_over p.inbox m) k.same
+    data' false = by-result (record p { inbox = (arrival p.inbox m).after }) (arrival p.inbox m).answer (k.holds (arrival p.inbox m).after)
+
+    body : (b : Body) → m.body ≡ b → P (by_body p now sent m b).after
+    body (acknowledge number time) e = k.answers (on_acknowledge p now m.head.channel number time) true (k.acknowledges number time)
+    body (connect offer) e = k.same
+    body (verify_connect v) e = k.answers (on_verify_in p.state p v) true (k.verifies v)
+    body (disconnect info) e = k.answers (on_disconnect_in p.state p (m.head.acknowledge && is_some sent) info) true (k.ends info e)
+    body ping e = k.answers p true k.same
+    body (bandwidth_limit incoming outgoing) e = k.answers (on_bandwidth p incoming) true (k.hears incoming)
+    body (throttle_configure interval acceleration deceleration) e = k.answers (on_throttle p interval acceleration deceleration) true (k.paces interval acceleration deceleration)
+    body b e = data' (is_later p.state)
+
+    by : (a b : Bool) → P (cond a (stopped p stop.BadCommand) (cond b (unless_crowded_out p m (by_body p now sent m m.body)) (stopped p stop.NotConnected))).after
+    by true b = k.same
+    by false true = unless-holds P p m (by_body p now sent m m.body) k.same (body m.body refl)
+    by false false = k.same
+
+-- ---- one that is connected
 pub record Meets (P : Peering → Type 0) (now : ℕ) (m : Message) (p : Peering) : Type 0 where
   pub same : P p
   pub holds : (b : Inbox) → P (record p { inbox = b })
@@ -197,41 +237,21 @@ pub was-connected : (p : Peering) → p.state ≡ state.Connected → connected 
 was-connected p e = ap (λ (s : PeerState). record p { state = s }) (sym e)
 
 pub meets-connected : (P : Peering → Type 0) (p : Peering) (now : ℕ) (sent : Option ℕ) (m : Message) → Meets P now m (connected p) → P (obeyed (connected p) now sent m).after
-meets-connected P p now sent m k = by m.body refl
+meets-connected P p now sent m k = obeys-each P (connected p) now sent m (record {
+  same = k.same;
+  holds = k.holds;
+  acknowledges = λ number time. gone m.head.channel number time (matched_by p.outbox m.head.channel number);
+  verifies = λ v. k.same;
+  ends = λ info e. k.ends (m.head.acknowledge && is_some sent) info e;
+  hears = k.hears;
+  paces = k.paces;
+  answers = λ q may h. answered-holds P q m sent may (λ a. k.answers q a h) h;
+})
   where
-    old : Peering
-    old = connected p
-
-    told : (q : Peering) (may : Bool) → P q → P (answered q m sent may).after
-    told q may h = answered-holds P q m sent may (λ a. k.answers q a h) h
-
-    comes : (a : DataEffect) → P (by_arrival old m sent a).after
-    comes a = go a.answer
-      where
-        go : (r : Result Bool Stop) → P (by_answer (record old { inbox = a.after }) m sent r).after
-        go (Err why) = k.holds a.after
-        go (Ok may) = told (record old { inbox = a.after }) may (k.holds a.after)
-
-    gone : (channel number time : ℕ) → P (on_acknowledge old now channel number time)
-    gone channel number time = go (matched_by p.outbox channel number)
-      where
-        go : (x : Matched) → P (on_match x old (acknowledged old now channel number time))
-        go matched.Nothing = k.same
-        go matched.Data = k.acknowledges channel number time
-        go (matched.Control what) = k.acknowledges channel number time
-
-    effect-of : (b : Body) → P (by_body old now sent m b).after → P (unless_crowded_out old m (by_body old now sent m b)).after
-    effect-of b h = unless-holds P old m (by_body old now sent m b) k.same h
-
-    by : (b : Body) → m.body ≡ b → P (cond (is_connect b) (stopped old stop.BadCommand) (cond (is_allowed state.Connected b) (unless_crowded_out old m (by_body old now sent m b)) (stopped old stop.NotConnected))).after
-    by (acknowledge number time) e = effect-of (acknowledge number time) (told (on_acknowledge old now m.head.channel number time) true (gone m.head.channel number time))
-    by (connect offer) e = k.same
-    by (verify_connect v) e = effect-of (verify_connect v) (told old true k.same)
-    by (disconnect info) e = effect-of (disconnect info) (told (on_disconnect_in state.Connected old (m.head.acknowledge && is_some sent) info) true (k.ends (m.head.acknowledge && is_some sent) info e))
-    by ping e = effect-of ping (told old true k.same)
-    by (bandwidth_limit incoming outgoing) e = effect-of (bandwidth_limit incoming outgoing) (told (on_bandwidth old incoming) true (k.hears incoming))
-    by (throttle_configure interval acceleration deceleration) e = effect-of (throttle_configure interval acceleration deceleration) (told (on_throttle old interval acceleration deceleration) true (k.paces interval acceleration deceleration))
-    by b e = effect-of b (comes (arrival p.inbox m))
+    gone : (channel number time : ℕ) (x : Matched) → P (on_match x (connected p) (acknowledged (connected p) now channel number time))
+    gone channel number time matched.Nothing = k.same
+    gone channel number time matched.Data = k.acknowledges channel number time
+    gone channel number time (matched.Control what) = k.acknowledges channel number time
 
 pub meets : (P : Peering → Type 0) (p : Peering) (now : ℕ) (sent : Option ℕ) (m : Message) → p.state ≡ state.Connected → Meets P now m p → P (obeyed p now sent m).after
 meets P p now sent m on k = subst (λ (x : Peering). P (obeyed x now sent m).after) (was-connected p on) (meets-connected P p now sent m (subst (Meets P now m) (sym (was-connected p on)) k))

@@ -1,9 +1,7 @@
 -- A peer of which nothing is set has ENet's patience and pings when it wasn't heard for 500 ms, by a clock of 32 bits, whatever happens.
-use Rattle.std.proofs.Common.{◌≡◌, ◌<◌, ◌^◌, ℕ, ◌&&◌, Bool, true, false, cond, length, Option, Some, None, Result, Ok, Err, is_some, nat_lt}
+use Rattle.std.proofs.Common.{◌≡◌, ◌<◌, ◌^◌, ℕ, ◌&&◌, Bool, true, false, cond, length, Option, Some, None, is_some, nat_lt}
 use Rattle.enet_codec.specs.declared.command.Verify.{Verify}
-use Rattle.enet_codec.specs.declared.stop.Stop.{Stop}
-use Rattle.enet_codec.specs.declared.stop.Stop.TheVariants as stop
-use Rattle.enet_codec.specs.Message.{Message, Body, acknowledge, connect, verify_connect, disconnect, ping, bandwidth_limit, throttle_configure}
+use Rattle.enet_codec.specs.Message.{Message}
 use Rattle.enet_rtt.specs.Expiry.{standard_patience}
 use Rattle.enet_rtt.specs.declared.expiry.Expiry.{Expiry}
 use Rattle.enet_rtt.specs.declared.expiry.Expiry.TheVariants.{No, Resend, End}
@@ -11,7 +9,6 @@ use Rattle.enet_connect.specs.declared.terms.Terms.{Terms}
 use Rattle.enet_connect.specs.Verification.{confirmed}
 use Rattle.enet_senders.specs.declared.control.Control.{Control}
 use Rattle.enet_senders.specs.declared.control.Control.TheVariants as control
-use Rattle.enet_inbox.specs.DataEffect.{DataEffect, arrival, passed_over}
 use Rattle.enet_outbox.specs.declared.parts.Matched.{Matched}
 use Rattle.enet_outbox.specs.declared.parts.Matched.TheVariants as matched
 use Rattle.enet_outbox.specs.Outbox.{matched_by, after_acknowledgement, lateness}
@@ -20,11 +17,10 @@ use Rattle.enet_peer.specs.declared.parts.PeerState.{PeerState}
 use Rattle.enet_peer.specs.declared.parts.PeerState.TheVariants as state
 use Rattle.enet_peer.specs.Peering.{Peering}
 use Rattle.enet_peer.specs.Endings.{settled, disconnecting, is_later, freed, cut_off_in}
-use Rattle.enet_peer.proofs.Obeying.{unless-holds}
-use Rattle.enet_peer.specs.CommandEffect.{obeyed, unless_crowded_out, stopped, is_allowed, is_connect, by_body, by_answer, by_arrival, on_data, answered, is_connecting, on_acknowledge, on_match, sampled, with_answer, on_verify_in, welcomed, on_disconnect_in, on_last_disconnect, on_bandwidth, on_throttle}
+use Rattle.enet_peer.specs.CommandEffect.{obeyed, is_connecting, on_acknowledge, on_match, sampled, with_answer, on_verify_in, welcomed, on_disconnect_in, on_last_disconnect}
 use Rattle.enet_peer.specs.Calls.{Leave, AtOnce, TellsOnce, Asks, AsksLater, Refused, left, gone_on_in, ticked, pinged, is_pinged, after_timeouts_by, growth_bound}
 use Rattle.law_progress.specs.Waits.{after_leave}
-use Rattle.enet_world.proofs.Pings.{answered-holds}
+use Rattle.enet_world.proofs.Pings.{answered-holds, obeys-each}
 
 abbrev pub IsUnset : Peering → Type 0
 IsUnset p = (p.patience ≡ standard_patience) × (p.ping_interval ≡ 500) × (p.heard < 2 ^ 32)
@@ -73,40 +69,17 @@ unset-disconnect p state.Connected b info h = unset-last p b info h
 unset-disconnect p state.DisconnectLater b info h = unset-last p b info h
 unset-disconnect p s b info h = h
 
-unset-answered : (p : Peering) (m : Message) (sent : Option ℕ) (may : Bool) → IsUnset p → IsUnset (answered p m sent may).after
-unset-answered p m sent may h = answered-holds IsUnset p m sent may (λ a. h) h
-
-unset-result : (p : Peering) (m : Message) (sent : Option ℕ) (r : Result Bool Stop) → IsUnset p → IsUnset (by_answer p m sent r).after
-unset-result p m sent (Err why) h = h
-unset-result p m sent (Ok may) h = unset-answered p m sent may h
-
-unset-data : (p : Peering) (m : Message) (sent : Option ℕ) → IsUnset p → IsUnset (on_data p m sent).after
-unset-data p m sent h = by (is_later p.state)
-  where
-    a : DataEffect
-    a = arrival p.inbox m
-
-    by : (b : Bool) → IsUnset (cond b (by_answer p m sent (passed_over p.inbox m)) (by_arrival p m sent a)).after
-    by true = unset-result p m sent (passed_over p.inbox m) h
-    by false = unset-result (record p { inbox = a.after }) m sent a.answer h
-
 pub unset-obeyed : (p : Peering) (now : ℕ) (sent : Option ℕ) (m : Message) → now < 2 ^ 32 → IsUnset p → IsUnset (obeyed p now sent m).after
-unset-obeyed p now sent m low h = by (is_connect m.body) (is_allowed p.state m.body)
-  where
-    body : (b : Body) → IsUnset (by_body p now sent m b).after
-    body (acknowledge number time) = unset-answered (on_acknowledge p now m.head.channel number time) m sent true (unset-acknowledge p now m.head.channel number time low h)
-    body (connect offer) = h
-    body (verify_connect v) = unset-answered (on_verify_in p.state p v) m sent true (unset-verify p v p.state h)
-    body (disconnect info) = unset-answered (on_disconnect_in p.state p (m.head.acknowledge && is_some sent) info) m sent true (unset-disconnect p p.state (m.head.acknowledge && is_some sent) info h)
-    body ping = unset-answered p m sent true h
-    body (bandwidth_limit incoming outgoing) = unset-answered (on_bandwidth p incoming) m sent true h
-    body (throttle_configure interval acceleration deceleration) = unset-answered (on_throttle p interval acceleration deceleration) m sent true h
-    body b = unset-data p m sent h
-
-    by : (a b : Bool) → IsUnset (cond a (stopped p stop.BadCommand) (cond b (unless_crowded_out p m (by_body p now sent m m.body)) (stopped p stop.NotConnected))).after
-    by true b = h
-    by false true = unless-holds IsUnset p m (by_body p now sent m m.body) h (body m.body)
-    by false false = h
+unset-obeyed p now sent m low h = obeys-each IsUnset p now sent m (record {
+  same = h;
+  holds = λ b. h;
+  acknowledges = λ number time. unset-acknowledge p now m.head.channel number time low h;
+  verifies = λ v. unset-verify p v p.state h;
+  ends = λ info e. unset-disconnect p p.state (m.head.acknowledge && is_some sent) info h;
+  hears = λ n. h;
+  paces = λ interval acceleration deceleration. h;
+  answers = λ q may k. answered-holds IsUnset q m sent may (λ a. k) k;
+})
 
 pub unset-went : (p : Peering) (s : PeerState) → IsUnset p → IsUnset (gone_on_in s p)
 unset-went p state.AckDisconnect h = h

@@ -3,7 +3,7 @@ use Rattle.std.proofs.Common.{◌≡◌, ◌≢◌, ◌⊎◌, inl, inr, ℕ, Bo
 use Rattle.std.specs.Prelude.{is_some}
 use Rattle.enet_codec.specs.declared.command.Head.{Head}
 use Rattle.enet_codec.specs.declared.packet.Packet.{Packet}
-use Rattle.enet_codec.specs.Message.{Message, Body, acknowledge, connect, verify_connect, disconnect, ping}
+use Rattle.enet_codec.specs.Message.{Message, Body, ping}
 use Rattle.enet_rtt.specs.declared.expiry.Expiry.{Expiry}
 use Rattle.enet_rtt.specs.declared.expiry.Expiry.TheVariants.{No, Resend, End as Ends}
 use Rattle.enet_senders.specs.declared.control.Control.TheVariants as control
@@ -15,9 +15,8 @@ use Rattle.enet_peer.specs.declared.parts.PeerEvent.TheVariants as told
 use Rattle.enet_peer.specs.declared.parts.PeerState.{PeerState}
 use Rattle.enet_peer.specs.declared.parts.PeerState.TheVariants as state
 use Rattle.enet_peer.specs.Peering.{Peering}
-use Rattle.enet_peer.specs.CommandEffect.{answered, on_acknowledge, on_match, on_last_disconnect, acknowledged, unless_crowded_out, obeyed, wants_memory}
+use Rattle.enet_peer.specs.CommandEffect.{on_match, on_last_disconnect, acknowledged, obeyed, wants_memory}
 use Rattle.enet_peer.specs.Calls.{after_timeouts, after_timeouts_by, is_pinged, pinged, ticked, next_event, event_after, packet_event, last_event}
-use Rattle.enet_peer.proofs.Obeying.{unless-holds}
 use Rattle.law_connection.proofs.Events.{took}
 use Rattle.law_connection.specs.Steps as setting
 use Rattle.law_network.specs.Deeds.{Deed, Alone, emitted}
@@ -25,7 +24,7 @@ use Rattle.law_network.specs.Deeds as deed
 use Rattle.law_network.proofs.Matching.{was-set, matches}
 use Rattle.enet_world.proofs.Lasting.{obeys}
 use Rattle.enet_world.proofs.Modest.{was-in}
-use Rattle.enet_world.proofs.Pings.{answered-holds, meets-connected}
+use Rattle.enet_world.proofs.Pings.{answered-holds, meets-connected, obeys-each}
 
 -- ---- states
 abbrev pub is_up : PeerState → Bool
@@ -57,9 +56,6 @@ each-up P stands acks ends p up = by p.state refl up
     by s e u = absurd (cc)
 
 -- ---- a command comes
-answered-next : (s : PeerState) (q : Peering) (m : Message) (sent : Option ℕ) → Next s q.state → Next s (answered q m sent true).after.state
-answered-next s q m sent h = answered-holds (λ p. Next s p.state) q m sent true (λ a. h) h
-
 last-next : (p : Peering) (b : Bool) (info : ℕ) → Next state.Connected (on_last_disconnect p b info).state
 last-next p true info = inr (inr (refl, refl))
 last-next p false info = inr (inl refl)
@@ -76,28 +72,24 @@ connected-obeyed r now sent h body = meets-connected (λ q. Next state.Connected
 })
 
 acknowledging-obeyed : (r : Peering) (now : ℕ) (sent : Option ℕ) (h : Head) (body : Body) → Next state.AckDisconnect (obeyed (in_state state.AckDisconnect r) now sent (record { head = h; body = body })).after.state
-acknowledging-obeyed r now sent h body = by body
+acknowledging-obeyed r now sent h body = obeys-each (λ q. Next state.AckDisconnect q.state) p now sent (record { head = h; body = body }) (record {
+  same = inl refl;
+  holds = λ b. inl refl;
+  acknowledges = λ number time. inl (taken-away number time (matched_by p.outbox h.channel number));
+  verifies = λ v. inl refl;
+  ends = λ info e. inl refl;
+  hears = λ n. inl refl;
+  paces = λ interval acceleration deceleration. inl refl;
+  answers = λ q may k. answered-holds (λ q. Next state.AckDisconnect q.state) q (record { head = h; body = body }) sent may (λ a. k) k;
+})
   where
     p : Peering
     p = record r { state = state.AckDisconnect }
-
-    came : Body → Message
-    came body = record { head = h; body = body }
-
-    plain : (body : Body) (q : Peering) → q.state ≡ state.AckDisconnect → Next state.AckDisconnect (unless_crowded_out p (came body) (answered q (came body) sent true)).after.state
-    plain body q e = unless-holds (λ q. Next state.AckDisconnect q.state) p (came body) (answered q (came body) sent true) (inl refl) (answered-next state.AckDisconnect q (came body) sent (inl e))
 
     taken-away : (number time : ℕ) (x : Matched) → (on_match x p (acknowledged p now h.channel number time)).state ≡ state.AckDisconnect
     taken-away number time matched.Nothing = refl
     taken-away number time matched.Data = refl
     taken-away number time (matched.Control what) = refl
-
-    by : (body : Body) → Next state.AckDisconnect (obeyed p now sent (came body)).after.state
-    by (connect offer) = inl refl
-    by (acknowledge number time) = plain (acknowledge number time) (on_acknowledge p now h.channel number time) (taken-away number time (matched_by p.outbox h.channel number))
-    by (verify_connect v) = plain (verify_connect v) p refl
-    by (disconnect info) = plain (disconnect info) p refl
-    by body = inl refl
 
 ended-obeyed : (r : Peering) (now : ℕ) (sent : Option ℕ) (h : Head) (body : Body) → Next state.Ended (obeyed (in_state state.Ended r) now sent (record { head = h; body = body })).after.state
 ended-obeyed r now sent h ping = inl refl
