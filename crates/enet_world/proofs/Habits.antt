@@ -10,6 +10,7 @@ use Rattle.enet_codec.specs.Config.{is_in_range}
 use Rattle.enet_codec.specs.declared.event.Event.TheVariants as tells
 use Rattle.enet_codec.specs.declared.event.PeerRef.{PeerRef}
 use Rattle.enet_codec.specs.declared.refusal.Refusal.{Refusal}
+use Rattle.enet_rtt.specs.declared.transmission.Transmission.{Transmission}
 use Rattle.enet_peer.specs.Peering.{Peering}
 use Rattle.enet_peer.specs.CommandEffect.{obeyed, wants_memory}
 use Rattle.enet_outbox.specs.Emission.{filled}
@@ -47,6 +48,7 @@ use Rattle.law_network.proofs.Beginning.{each-beginning, lived-all}
 use Rattle.law_network.proofs.Matching.{was-set, matches}
 use Rattle.law_network.proofs.Own.{of-the-host}
 use Rattle.law_network.proofs.Runs.{both}
+use Rattle.law_network.proofs.Submitting.{same-some}
 use Rattle.law_progress.specs.Attempts.{after_take}
 use Rattle.law_progress.specs.Waits.{after_leave}
 use Rattle.law_progress.proofs.Ageing.{Aged, Ages, most, ages-ticked, ages-emitted, ages-more}
@@ -54,14 +56,12 @@ use Rattle.law_progress.proofs.Waiting.{none-new, fair-obeyed, fair-takes, fair-
 use Rattle.law_progress.proofs.Wide.{IsWide, at-least, wide-obeyed, wide-takes, wide-went, wide-left, wide-ticked}
 use Rattle.enet_world.specs.Worlds.{first}
 use Rattle.enet_world.specs.Private.Worlds.{IsReachedIn, passes, all_pass}
+use Rattle.enet_world.proofs.Fallen.{Each, kept-by-each, each-if, each-up-to, each-reaches}
 use Rattle.enet_world.proofs.Lasting.{obeys}
 use Rattle.enet_world.proofs.Modest.{IsModest, modest-obeyed, modest-ticked, modest-emitted, modest-submitted, modest-left}
 use Rattle.enet_world.proofs.Pings.{Idle, Queued}
 use Rattle.enet_world.proofs.Punctual.{Rests, rests-ticked, rests-emitted}
 use Rattle.enet_world.proofs.Unset.{IsUnset, unset-obeyed, unset-went, unset-left, unset-ticked}
-use Rattle.enet_world.proofs.Fallen.{Each, kept-by-each, each-if, each-up-to, each-reaches}
-use Rattle.law_network.proofs.Submitting.{same-some}
-use Rattle.enet_rtt.specs.declared.transmission.Transmission.{Transmission}
 
 -- ---- a peer
 -- what it keeps, where `time` milliseconds have passed since the world began; `now` is a moment of its host's clock, which wraps

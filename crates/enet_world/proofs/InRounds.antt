@@ -53,6 +53,7 @@ use Rattle.law_progress.proofs.BothRounds.{tick-peer}
 use Rattle.law_progress.proofs.Exchanges.{Joint, joint-swap, joint-event, same-peer, all-joint, put_out, Gone, gone, Came, took-all}
 use Rattle.law_progress.proofs.Fitting.{all-fits}
 use Rattle.law_progress.proofs.Spent.{nothing-may-go}
+use Rattle.law_headline.proofs.Net.{get-last}
 use Rattle.enet_world.specs.Calm.{most, datagram_in, event_in, refusals_in, stops_in, Carries, CarriesMany, PutsNone, PutsAllOut, TakesOne, TakesMany, TakesNone, TakesAll}
 use Rattle.enet_world.specs.Private.Worlds.{IsReached}
 use Rattle.enet_world.proofs.Crossing.{all-come, puts-plain, names-slot}
@@ -66,7 +67,6 @@ use Rattle.enet_world.proofs.Pings.{IsLone, is_ping}
 use Rattle.enet_world.proofs.Reaching.{reached-step}
 use Rattle.enet_world.proofs.Staying.{puts-none-ends, emits-on, none-filled}
 use Rattle.enet_world.proofs.TwoEnds.{from_start, sound, host-at, twice, Ends, swapped, is-end, far-end, faces, Moved, moved, IsDown, down-step, Up, up-back, begun-here, IsOn, up-or-down, live}
-use Rattle.law_headline.proofs.Net.{get-last}
 
 -- ---- the hosts' clocks
 abbrev pub clock_at : World → Side → ℕ

@@ -1,6 +1,6 @@
 -- What a peer of which nothing is set has to send on channel 0xFF, whatever happens: while the connection stands at most one PING, and while a
 -- server awaits the client at most one command.
-use Rattle.std.proofs.Common.{◌≡◌, ℕ, ◌&&◌, leb, Bool, true, false, cond, length, refl, sym, ap, subst, Option, Some, None, nat_lt}
+use Rattle.std.proofs.Common.{◌≡◌, ℕ, ◌&&◌, leb, Bool, true, false, cond, length, refl, ap, subst, Option, Some, None, nat_lt}
 use Rattle.std.specs.List.{slice_get, list_all}
 use Rattle.enet_codec.specs.Message.{Message}
 use Rattle.enet_codec.specs.declared.command.Verify.{Verify}
@@ -26,9 +26,9 @@ use Rattle.enet_peer.specs.Endings.{settled, disconnecting, freed, cut_off_in, i
 use Rattle.enet_peer.specs.CommandEffect.{obeyed, answered, on_acknowledge, on_match, acknowledged, welcomed, on_last_disconnect}
 use Rattle.enet_peer.specs.Calls.{Leave, AtOnce, TellsOnce, Asks, AsksLater, Refused, left, is_connected, pace_of, pinged, is_pinged, after_timeouts_by, growth_bound, ticked, submitted, gone_on, gone_on_in}
 use Rattle.law_progress.specs.Waits.{after_leave}
-use Rattle.enet_world.proofs.Lasting.{is_past, past-lasts}
-use Rattle.enet_world.proofs.Pings.{IsLone, Idle, is_ping, is_any, idle-lists, queued-lone, marked-lone, acknowledged-lone, answered-lone, filled-lone, connected, meets-connected, answered-holds, obeys-each}
 use Rattle.law_network.proofs.Runs.{both}
+use Rattle.enet_world.proofs.Lasting.{is_past, past-lasts}
+use Rattle.enet_world.proofs.Pings.{IsLone, Idle, is_ping, is_any, idle-lists, queued-lone, marked-lone, acknowledged-lone, answered-lone, filled-lone, connected, meets-connected, answered-holds, obeys-each, in_state, was-in}
 
 abbrev pub Controlled : PeerState → Commands → Type 0
 Controlled state.Connected c = IsLone is_ping c
@@ -70,12 +70,6 @@ meets-stands p now sent m h = meets-connected IsModest p now sent m (record {
     ends : (b : Bool) (info : ℕ) → IsModest (on_last_disconnect (connected p) b info)
     ends true info = tt
     ends false info = tt
-
-abbrev in_state : PeerState → Peering → Peering
-in_state s p = record p { state = s }
-
-pub was-in : (p : Peering) (s : PeerState) → p.state ≡ s → in_state s p ≡ p
-was-in p s e = ap (λ (t : PeerState). record p { state = t }) (sym e)
 
 meets-answering : (p : Peering) (now : ℕ) (sent : Option ℕ) (m : Message) → IsLone is_any p.outbox.control → IsModest (obeyed (in_state state.Answering p) now sent m).after
 meets-answering p now sent m h = obeys-each IsModest old now sent m (record {

@@ -1,4 +1,4 @@
--- Only a client that asks has a CONNECT to send.
+-- Only a client that asks has a CONNECT to send; and what each message of a datagram is, by the commands that go.
 use Rattle.std.proofs.Common.{◌≡◌, ℕ, ◌==◌, ◌⊎◌, inl, inr, Bool, true, false, cond, List, [], ◌∷◌, ◌++◌, refl, sym, ap, subst, ◌∙◌, Option, Some, None, slice_get, slice_set}
 use Rattle.std.specs.List.{position}
 use Rattle.enet_codec.specs.declared.command.Fragment.{Fragment}
@@ -30,8 +30,8 @@ use Rattle.law_connection.proofs.Lists.{Has-push_cases, Has-slice_get}
 use Rattle.law_connection.proofs.Emits.{Has-from_map}
 use Rattle.law_connection.proofs.PeerChanges.{Core, Changes, is_offer}
 use Rattle.law_progress.proofs.Waiting.{Has-set, Has-removed}
-use Rattle.enet_world.proofs.Lasting.{Lasts, changes-last}
 use Rattle.law_network.proofs.Submitting.{same-some}
+use Rattle.enet_world.proofs.Lasting.{Lasts, changes-last}
 
 -- no CONNECT is queued or sent of channel 0xFF
 pub record NoOffers (c : Commands) : Type 0 where

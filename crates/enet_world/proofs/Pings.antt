@@ -1,5 +1,5 @@
 -- At most one command of channel 0xFF is queued or sent, and while the connection stands that is a PING: what each thing that happens at a
--- peer makes of it.
+-- peer makes of it. And what a command that comes makes of a peer, for any property.
 use Rattle.std.proofs.Common.{◌≡◌, ℕ, zero, suc, ◌&&◌, ◌==◌, Bool, true, false, cond, List, [], ◌∷◌, ◌++◌, length, map, refl, sym, ap, subst, ◌∙◌, inl, inr, ◌⊎◌, arith, Option, Some, None, Result, Ok, Err, is_some}
 use Rattle.std.proofs.lemmas.Bool.Decides.{nat_tests}
 use Rattle.std.proofs.lemmas.List.{nil_from_length}
@@ -230,11 +230,14 @@ pub record Meets (P : Peering → Type 0) (now : ℕ) (m : Message) (p : Peering
   pub ends : (b : Bool) (info : ℕ) → m.body ≡ disconnect info → P (on_last_disconnect p b info)
   pub answers : (q : Peering) (a : Acknowledgement) → P q → P (record q { outbox = with_acknowledgement q.outbox a })
 
-abbrev pub connected : Peering → Peering
-connected p = record p { state = state.Connected }
+abbrev pub in_state : PeerState → Peering → Peering
+in_state s p = record p { state = s }
 
-pub was-connected : (p : Peering) → p.state ≡ state.Connected → connected p ≡ p
-was-connected p e = ap (λ (s : PeerState). record p { state = s }) (sym e)
+pub was-in : (p : Peering) (s : PeerState) → p.state ≡ s → in_state s p ≡ p
+was-in p s e = ap (λ (t : PeerState). record p { state = t }) (sym e)
+
+abbrev pub connected : Peering → Peering
+connected p = in_state state.Connected p
 
 pub meets-connected : (P : Peering → Type 0) (p : Peering) (now : ℕ) (sent : Option ℕ) (m : Message) → Meets P now m (connected p) → P (obeyed (connected p) now sent m).after
 meets-connected P p now sent m k = obeys-each P (connected p) now sent m (record {
@@ -254,4 +257,4 @@ meets-connected P p now sent m k = obeys-each P (connected p) now sent m (record
     gone channel number time (matched.Control what) = k.acknowledges channel number time
 
 pub meets : (P : Peering → Type 0) (p : Peering) (now : ℕ) (sent : Option ℕ) (m : Message) → p.state ≡ state.Connected → Meets P now m p → P (obeyed p now sent m).after
-meets P p now sent m on k = subst (λ (x : Peering). P (obeyed x now sent m).after) (was-connected p on) (meets-connected P p now sent m (subst (Meets P now m) (sym (was-connected p on)) k))
+meets P p now sent m on k = subst (λ (x : Peering). P (obeyed x now sent m).after) (was-in p state.Connected on) (meets-connected P p now sent m (subst (Meets P now m) (sym (was-in p state.Connected on)) k))

@@ -23,8 +23,7 @@ use Rattle.law_network.specs.Deeds.{Deed, Alone, emitted}
 use Rattle.law_network.specs.Deeds as deed
 use Rattle.law_network.proofs.Matching.{was-set, matches}
 use Rattle.enet_world.proofs.Lasting.{obeys}
-use Rattle.enet_world.proofs.Modest.{was-in}
-use Rattle.enet_world.proofs.Pings.{answered-holds, meets-connected, obeys-each}
+use Rattle.enet_world.proofs.Pings.{answered-holds, meets-connected, obeys-each, in_state, was-in}
 
 -- ---- states
 abbrev pub is_up : PeerState → Bool
@@ -38,9 +37,6 @@ abbrev Next : PeerState → PeerState → Type 0
 Next s t = (t ≡ s) ⊎ ((t ≡ state.Ended) ⊎ ((s ≡ state.Connected) × (t ≡ state.AckDisconnect)))
 
 -- a peer in a state
-abbrev in_state : PeerState → Peering → Peering
-in_state s r = record r { state = s }
-
 -- what holds in each state that is up
 each-up : (P : PeerState → Peering → Type 0) → ((r : Peering) → P state.Connected (in_state state.Connected r)) → ((r : Peering) → P state.AckDisconnect (in_state state.AckDisconnect r))
     → ((r : Peering) → P state.Ended (in_state state.Ended r)) → (p : Peering) → is_up p.state ≡ true → P p.state p

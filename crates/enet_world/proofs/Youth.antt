@@ -7,9 +7,9 @@ use Rattle.enet_rtt.specs.Clock.{elapsed_time, since_later}
 use Rattle.enet_rtt.specs.Transmission as transmission
 use Rattle.enet_rtt.specs.Expiry.{gives_up, standard_patience}
 use Rattle.enet_rtt.specs.declared.transmission.Transmission.{Transmission}
+use Rattle.law_progress.proofs.Timed.{lt-of}
 use Rattle.enet_world.specs.Stands.{IsYoung}
 use Rattle.enet_world.proofs.Punctual.{Rests, no-time}
-use Rattle.law_progress.proofs.Timed.{lt-of}
 
 -- ---- a clock
 abbrev pub moment : ℕ → ℕ → ℕ
