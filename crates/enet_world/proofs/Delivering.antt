@@ -1,83 +1,15 @@
--- What a host has nothing left to send of arrived at the other, by the law of its connection.
-use Rattle.std.proofs.Common.{◌≡◌, ◌<◌, ◌≤◌, ◌==◌, ℕ, ◌++◌, Bool, true, false, List, sym, ap, subst, ◌∙◌, inl, inr, arith, Option, Some, None}
-use Rattle.enet_packets.specs.declared.incoming_packet.Dispatched.{Dispatched}
-use Rattle.enet_sender.specs.CommandChoice.{carried}
-use Rattle.enet_sender.specs.CommandChoice as command_choice
-use Rattle.law_connection.specs.Connection.{End, of_channel, packets_of, in_sequence}
-use Rattle.law_connection.specs.Law.{mtu_of, mtu_in}
-use Rattle.law_connection.specs.LinkSteps.{bodies_of}
-use Rattle.law_progress.specs.Delivered.{IsDelivered}
-use Rattle.law_progress.specs.Links.{AllDispatched}
-use Rattle.law_progress.proofs.Delivered.{delivered-forth, delivered-back}
-use Rattle.law_network.specs.Law.{ShowsAt}
-use Rattle.law_network.specs.Log.{packets_at}
-use Rattle.law_network.specs.Network.{HostEnd, Site, end_of}
-use Rattle.law_network.specs.Numbers.{Stands}
-use Rattle.law_network.specs.Shown.{Shows}
+-- What a host has nothing left to send of arrived at the other, in every world.
+use Rattle.std.proofs.Common.{ℕ, ◌==◌, Bool, true, false, inl, inr}
 use Rattle.law_network.specs.World.{World}
-use Rattle.law_network.proofs.Agreed.{same-peer}
-use Rattle.law_network.proofs.Channels.{same-going, same-come}
-use Rattle.law_network.proofs.Delivering.{end-there}
 use Rattle.law_network.proofs.Runs.{Sound, less-or-not, sound-list, sound-joined-list}
-use Rattle.law_network.proofs.Submitting.{same-some}
-use Rattle.law_network.proofs.Worlds.{KeptEither, IsHost, end-none}
-use Rattle.enet_world.specs.Delivered.{ArrivesFrom, HasDelivered}
+use Rattle.law_headline.proofs.Delivering.{arrives-between, arrives-none}
+use Rattle.enet_world.specs.Delivered.{HasDelivered}
 use Rattle.enet_world.specs.Private.Worlds.{IsReached}
-
--- an end that stands is the one that is shown
-pub standing : (s : Site) (count x : ℕ) (own : End) → IsHost s count → ShowsAt s x own → (a : Stands s x) → Shows s a.end own
-standing s count x own k (inl shown) a =
-    let there : end_of x s.ends ≡ Some shown.0 = subst (λ (n : ℕ). end_of n s.ends ≡ Some shown.0) shown.2 (end-there s.ends shown.0 shown.1 (k.apart shown.0 shown.1)) in
-    let same : shown.0 ≡ a.end = same-some shown.0 a.end (sym there ∙ a.there) in
-    subst (λ (e : HostEnd). Shows s e own) same shown.3
-standing s count x own k (inr none) a = absurd (let y : ◌≡◌ {A = Option HostEnd} None (Some a.end) = sym (end-none s.ends x none.0) ∙ a.there in cc)
-
-arrives : (s t : Site) (count x : ℕ) (own far : End) → IsHost s count → IsHost t count → ShowsAt s x own → ShowsAt t x far → ((channel : ℕ) → channel < 255 → IsDelivered own far channel) → ArrivesFrom s t x
-arrives s t count x own far k ko here there all from to channel low nothing dispatches =
-    subst (λ (l : List command_choice.Packet). AllDispatched (carried from.peer.terms.mtu l) (bodies_of (in_sequence channel (packets_at to.end.channels channel).taken ++ in_sequence channel to.peer.inbox.untaken))) submitted
-    (subst (λ m. AllDispatched (carried m (of_channel m channel own.submitted)) (bodies_of (in_sequence channel (packets_at to.end.channels channel).taken ++ in_sequence channel to.peer.inbox.untaken))) mtu
-    (subst (λ (l : List Dispatched). AllDispatched (carried (mtu_of own) (of_channel (mtu_of own) channel own.submitted)) (bodies_of (l ++ in_sequence channel to.peer.inbox.untaken))) taken
-    (all channel low from.peer to.peer (record { from_is = mine; to_is = theirs; sends = nothing.sends; dispatches = dispatches; none = nothing.none }))))
-  where
-    a : Shows s from.end own
-    a = standing s count x own k here from
-
-    b : Shows t to.end far
-    b = standing t count x far ko there to
-
-    mine : own.peer ≡ Some from.peer
-    mine = a.has ∙ ap Some (same-peer s.host from.end.name a.peer from.peer a.shows from.is)
-
-    theirs : far.peer ≡ Some to.peer
-    theirs = b.has ∙ ap Some (same-peer t.host to.end.name b.peer to.peer b.shows to.is)
-
-    mtu : mtu_of own ≡ from.peer.terms.mtu
-    mtu = ap mtu_in mine
-
-    submitted : of_channel from.peer.terms.mtu channel own.submitted ≡ of_channel from.peer.terms.mtu channel (packets_at from.end.channels channel).submitted
-    submitted = sym (same-going from.peer.terms.mtu channel own.submitted) ∙ ap (of_channel from.peer.terms.mtu channel) (sym (a.submitted channel (omega arith)))
-
-    taken : in_sequence channel (packets_of far.events) ≡ in_sequence channel (packets_at to.end.channels channel).taken
-    taken = sym (same-come channel (packets_of far.events)) ∙ ap (in_sequence channel) (sym (b.taken channel (omega arith)))
-
-delivered-either : (j : Bool) (one two : End) → KeptEither j one two → (channel : ℕ) → channel < 255 → IsDelivered one two channel × IsDelivered two one channel
-delivered-either j one two (inl k) channel low = (delivered-forth j (record { one = one; two = two }) channel k.connection low, delivered-back j (record { one = one; two = two }) channel k.connection low)
-delivered-either j one two (inr k) channel low = (delivered-back j (record { one = two; two = one }) channel k.connection low, delivered-forth j (record { one = two; two = one }) channel k.connection low)
-
--- of a connection that hasn't begun no end stands
-none-stands : (s : Site) (count x : ℕ) → IsHost s count → count ≤ x → Stands s x → ⊥
-none-stands s count x k far a =
-    let empty : end_of x s.ends ≡ None = end-none s.ends x (λ e h of. let low : e.connection < count = k.below e h in let same : e.connection ≡ x = of in omega arith) in
-    let y : ◌≡◌ {A = Option HostEnd} None (Some a.end) = sym empty ∙ a.there in
-    cc
 
 sound-delivered : (j : ℕ → Bool) (w : World) → Sound j w → HasDelivered w
 sound-delivered j w s x = elim (less-or-not x w.count) [
-  | inl low ↦ (let p = s.pairs x low in (
-    arrives w.a w.b w.count x p.one p.two s.a s.b p.here p.there (λ channel few. (delivered-either (j x) p.one p.two p.kept channel few).0),
-    arrives w.b w.a w.count x p.two p.one s.b s.a p.there p.here (λ channel few. (delivered-either (j x) p.one p.two p.kept channel few).1),
-  ))
-  | inr far ↦ ((λ from. absurd (none-stands w.a w.count x s.a far from)), (λ from. absurd (none-stands w.b w.count x s.b far from)))
+  | inl low ↦ arrives-between (j x) w.a w.b w.count x s.a s.b (s.pairs x low)
+  | inr far ↦ arrives-none w.a w.b w.count x s.a s.b far
 ]
 
 pub reached-delivered : (joined : Bool) (w : World) → IsReached joined w → HasDelivered w

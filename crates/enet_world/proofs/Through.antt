@@ -55,7 +55,7 @@ use Rattle.enet_world.specs.declared.calm.Share.{Share}
 use Rattle.enet_world.specs.Calm.{Round, Rounds, both, is_smooth, sum}
 use Rattle.enet_world.specs.Progress.{clock_by_rounds, AllCame, WasTaken, GetsThrough}
 use Rattle.enet_world.specs.Private.Worlds.{IsReached}
-use Rattle.enet_world.proofs.Delivering.{standing}
+use Rattle.law_headline.proofs.Delivering.{standing}
 use Rattle.enet_world.proofs.Habits.{Habits, habits-step}
 use Rattle.enet_world.proofs.InRounds.{clock_at, StandStill, Keeps, kept-out, kept-taken, still-keeps, reached-keeps, habits-keeps, IsLost, lost-step, Ticked, ticked, ticked-on, PutsOutAll, puts-all-out, TakesOut, takes-all, IsEmpty, named-up, no-more, StepsKeep, keeps-all, reached-steps}
 use Rattle.enet_world.proofs.Lasting.{is_past, not-past}

@@ -1,25 +1,8 @@
 -- Acknowledged means delivered, between the two hosts of a world.
-use Rattle.std.specs.Prelude.{◌≡◌, ◌<◌, ℕ, true, false, slice_get}
-use Rattle.enet_sender.specs.Sender.{left}
-use Rattle.law_connection.specs.LinkSteps.{bodies_of}
-use Rattle.law_connection.specs.Linked.{sends_in, dispatches_in, sender_in}
-use Rattle.law_connection.specs.Numbers.{carried_by}
-use Rattle.law_progress.specs.Links.{AllDispatched}
-use Rattle.law_network.specs.Network.{Site}
-use Rattle.law_network.specs.Numbers.{Stands, sending_at, receiving_at}
+use Rattle.std.specs.Prelude.{ℕ}
 use Rattle.law_network.specs.World.{World}
+use Rattle.law_headline.specs.Delivered.{ArrivesBetween}
 
--- the end of connection x at a host, whose peer stands, still sends, and has no reliable command of the channel queued or unacknowledged
-pub record HasNothingLeft {s : Site} {x : ℕ} (from : Stands s x) (channel : ℕ) : Type 0 where
-  pub sends : sends_in from.peer.state ≡ true
-  pub none : (left (sender_in (slice_get from.peer.outbox.senders channel))).reliable ≡ false
-
--- then each reliable packet that its user submitted on the channel, and that went in order, was dispatched at the other host's end, taken or
--- not, in order, where the peer of that end stands and still dispatches
-abbrev pub ArrivesFrom : Site → Site → ℕ → Type 0
-ArrivesFrom s t x = (from : Stands s x) (to : Stands t x) (channel : ℕ) → channel < 255 → HasNothingLeft from channel → dispatches_in to.peer.state ≡ true
-    → AllDispatched (carried_by (sending_at channel from.end from.peer)) (bodies_of (receiving_at channel to.end to.peer).receiver.dispatched)
-
--- of each connection, both ways
+-- of each connection
 abbrev pub HasDelivered : World → Type 0
-HasDelivered w = (x : ℕ) → ArrivesFrom w.a w.b x × ArrivesFrom w.b w.a x
+HasDelivered w = (x : ℕ) → ArrivesBetween w.a w.b x

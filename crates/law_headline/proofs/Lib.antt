@@ -1,3 +1,4 @@
+pub mod Delivering
 pub mod Net
 pub mod Kept
 pub mod Covered

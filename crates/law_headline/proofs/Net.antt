@@ -3,22 +3,17 @@ use Rattle.enet_codec.specs.Config.{is_in_range}
 use Rattle.enet_codec.specs.declared.address.Addr.{Addr}
 use Rattle.enet_codec.specs.declared.config.Config.{Config}
 use Rattle.enet_codec.specs.declared.event.Received.{Received}
-use Rattle.enet_codec.specs.declared.refusal.Refusal.{Refusal}
 use Rattle.law_headline.specs.declared.node.Node.{Node}
 use Rattle.law_headline.specs.declared.node.Node.TheVariants.{Server, Client}
-use Rattle.enet_host.specs.Host.{peer_in, slot_named}
-use Rattle.enet_peer.specs.Peering.{Peering}
 use Rattle.enet_slot.specs.Receiving.{is_same_address}
-use Rattle.enet_slot.specs.Slot.{SlotState}
 use Rattle.law_connection.proofs.Lists.{Has-slice_get, Has-push}
 use Rattle.law_connection.specs.LinkSteps.{Has}
-use Rattle.law_network.proofs.Addresses.{is-elsewhere, equal-address, same-address}
+use Rattle.law_network.proofs.Addresses.{is-elsewhere, same-address}
 use Rattle.law_network.proofs.Agreed.{agree-between}
 use Rattle.law_network.proofs.Delivering.{end-there}
 use Rattle.law_network.proofs.Growing.{more_of, Grows, grows, from-before, stays-there}
 use Rattle.law_network.proofs.Headlines.{ArePaired, headline-at, headline-between, headline-none, swapped-pair}
 use Rattle.law_network.proofs.Lists.{get-within, same-or, get-set, get-set_other}
-use Rattle.law_network.proofs.Names.{IsThere, named-there, there-slot}
 use Rattle.law_network.proofs.Once.{AreAt, IsOfSender, at-goes, begins-once}
 use Rattle.law_network.proofs.Owned.{AreOwned, owned-goes, none-held}
 use Rattle.law_network.proofs.Runs.{wider, stays-put, new-pair, few-of, both, none-at, lawful-either, submitted-either}
@@ -32,17 +27,17 @@ use Rattle.law_network.specs.Log.{Logged}
 use Rattle.law_network.specs.Network.{HostEnd, Site, fresh_end, end_of}
 use Rattle.law_network.specs.Numbers.{AgreeBetween}
 use Rattle.law_network.specs.Steps.{Happening, Calls, Delivers, count_after, Around, HappensAmong}
-use Rattle.std.proofs.Common.{◌≡◌, ◌≢◌, ℕ, zero, suc, ◌+◌, ◌<◌, ◌⊎◌, inl, inr, ◌&&◌, ◌||◌, nat_le, nat_lt, true, false, List, [], ◌∷◌, ◌++◌, length, refl, sym, ap, ◌∙◌, arith, Option, Some, None, slice_get, ◌≤◌, subst, map, Ok, slice_set, Bool, cond, Result, Err}
-use Rattle.std.proofs.lemmas.Bool.Decides.{nat_tests}
+use Rattle.std.proofs.Common.{◌≡◌, ◌≢◌, ℕ, zero, suc, ◌+◌, ◌<◌, ◌⊎◌, inl, inr, ◌||◌, true, false, List, [], ◌∷◌, ◌++◌, length, refl, sym, ap, ◌∙◌, arith, Option, Some, None, slice_get, ◌≤◌, subst, map, Ok, slice_set, Bool}
 use Rattle.std.proofs.lemmas.List.{length-set}
 use Rattle.std.proofs.lemmas.Option.{slice_get_within}
 use Rattle.std.specs.List.{list_all}
-use Rattle.std.specs.Option.{option_map}
 use Rattle.law_network.specs.Calls as call
 use Rattle.law_headline.specs.Nets as nets
 use Rattle.enet_site.specs.Places.{Place, opened_at, all_opened}
 use Rattle.law_headline.specs.Nets.{Net, place_of, with_place, AreApart, is_client, numbers_at, client_in, client_of, asked_after, HappensAt, AllowsCall, IsAllowed, Thing, AllHappen, open_net}
 use Rattle.law_headline.specs.Law.{end_in, HasHeadline, OfEachNet}
+use Rattle.law_headline.specs.Delivered.{HasDelivered}
+use Rattle.law_headline.proofs.Delivering.{arrives-between}
 
 -- lists
 
@@ -623,15 +618,21 @@ module _ (home : Node → Addr) (apart : AreApart home) where
       let r = are-lawful f s e.connection i (k.own e h) in
       (f.server.site, subst (λ (q : Place). IsPaired false q.site f.server.site e.connection) (same-some r.0 p (sym r.1 ∙ there)) r.2)
 
-  pub agreed : (f : Net) → Sound f → (x : ℕ) (p : Place) → client_of f x ≡ Some p → AgreeBetween p.site f.server.site x
-  agreed f s x p there = by (slice_get f.asked x) refl there
+  -- the client that asked for a connection shows the one end, the server the other
+  pair-of : (f : Net) → Sound f → (x : ℕ) (p : Place) → client_of f x ≡ Some p → IsHost p.site (length f.asked) × Pair false p.site f.server.site x
+  pair-of f s x p there = by (slice_get f.asked x) refl there
     where
-      by : (o : Option ℕ) → slice_get f.asked x ≡ o → client_in f.clients o ≡ Some p → AgreeBetween p.site f.server.site x
+      by : (o : Option ℕ) → slice_get f.asked x ≡ o → client_in f.clients o ≡ Some p → IsHost p.site (length f.asked) × Pair false p.site f.server.site x
       by None asked at = absurd (cc)
       by (Some i) asked at =
           let r = s.pairs x i asked in
-          subst (λ (q : Place). AgreeBetween q.site f.server.site x) (same-some r.0 p (sym r.1 ∙ at))
-          (agree-between false r.0.site f.server.site (length f.asked) x (s.clients i r.0 r.1).host s.server.host r.2)
+          ((s.clients i p at).host, subst (λ (q : Place). Pair false q.site f.server.site x) (same-some r.0 p (sym r.1 ∙ at)) r.2)
+
+  pub agreed : (f : Net) → Sound f → (x : ℕ) (p : Place) → client_of f x ≡ Some p → AgreeBetween p.site f.server.site x
+  agreed f s x p there = let e = pair-of f s x p there in agree-between false p.site f.server.site (length f.asked) x e.0 s.server.host e.1
+
+  pub has-delivered : (f : Net) → Sound f → HasDelivered f
+  has-delivered f s x p there = let e = pair-of f s x p there in arrives-between false p.site f.server.site (length f.asked) x e.0 s.server.host e.1
 
   -- the client that asked for a connection has an end of it
   begun-end : (f : Net) → Sound f → (x i : ℕ) → slice_get f.asked x ≡ Some i → (e : HostEnd) × (end_in x (client_of f x) ≡ Some e)
@@ -654,5 +655,12 @@ module _ (home : Node → Addr) (apart : AreApart home) where
   all-sound [] f g r s = subst Sound (sym r) s
   all-sound (t ∷ ts) f g r s = all-sound ts r.0 g r.3 (sound-goes t.node t.from t.what f r.0 r.1 r.2 s)
 
+sound-net : (home : Node → Addr) (apart : AreApart home) (server : Config) (clients : List Config) → is_in_range server ≡ true → list_all is_in_range clients ≡ true
+    → (ts : List Thing) (f : Net) → AllHappen home ts (open_net home server clients) f → Sound home apart f
+sound-net home apart server clients one all ts f r = all-sound home apart ts (open_net home server clients) f r (open-sound home apart server clients one all)
+
 pub headline-net : OfEachNet HasHeadline
-headline-net home apart server clients one all ts f r = has-headline home apart f (all-sound home apart ts (open_net home server clients) f r (open-sound home apart server clients one all))
+headline-net home apart server clients one all ts f r = has-headline home apart f (sound-net home apart server clients one all ts f r)
+
+pub delivered-net : OfEachNet (λ at. HasDelivered)
+delivered-net home apart server clients one all ts f r = has-delivered home apart f (sound-net home apart server clients one all ts f r)

@@ -1,4 +1,5 @@
 pub mod Nets
 pub mod Law
+pub mod Delivered
 pub mod Kept
 pub mod Page

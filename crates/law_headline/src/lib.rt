@@ -1,12 +1,14 @@
 //! The headline on one page (specs/Page), of what users submitted and took and of nothing else; and what it rests on: what is kept of
-//! an end of a connection (specs/Kept), and a server and its clients at any addresses, with strangers around them (specs/Nets).
-//! No code but the name of a host.
+//! an end of a connection (specs/Kept), and a server and its clients at any addresses, with strangers around them (specs/Nets), between
+//! whom what was acknowledged was delivered, too (specs/Delivered). No code but the name of a host.
 //!
 //! Proved, of these definitions: what is kept of an end is what the calls of its host add up to, by the end's name
-//! (`what_is_kept`); the headline holds of each connection of a server and its clients, wherever they are (`each_net`); and of users
-//! that submitted more than was taken in yet, or took less than was dispatched (`headline_of_less`).
+//! (`what_is_kept`); the headline holds of each connection of a server and its clients, wherever they are, and what an end has nothing
+//! left to send of was dispatched at the other (`each_net`). The headline also holds of users that submitted more than was taken in yet,
+//! or took less than was dispatched (`headline_of_less`).
 #![tactic(auto)]
 
+ghost use Rattle.law_headline.specs.Delivered.{HasDelivered};
 ghost use Rattle.law_headline.specs.Kept.{StaysRecorded, StaysCovered};
 ghost use Rattle.law_headline.specs.Law.{OfEachNet, HasHeadline};
 ghost use Rattle.law_headline.specs.Page.{HoldsBehind};
@@ -15,9 +17,11 @@ mod node;
 
 pub use node::Node;
 
-/// The headline of each connection of a server and its clients, wherever they are, whatever happens there.
+/// Of each connection of a server and its clients, wherever they are, whatever happens there: the headline, and acknowledged means
+/// delivered.
 pub fn each_net()
-    ensures { OfEachNet HasHeadline }
+    ensures headline { OfEachNet HasHeadline }
+    ensures delivered { OfEachNet (λ at. HasDelivered) }
 {}
 
 /// What is kept of an end of a connection, of submissions and of events, is what the calls of its host add up to, by the end's
