@@ -27,6 +27,7 @@ CLAUSES = [
     ("that who is left alone is told", "`World::calm`, `alone`", ["enet_world.Alone.TellsAlone"]),
     ("each peer of a host as one end", "`each_peer_of_a_host` of `law_one_end`", ["law_one_end.Hosts.EachIsOneEnd"]),
     ("what has nothing left to send was delivered", "`World::delivered`", ["enet_world.Delivered.HasDelivered"]),
+    ("the same in a fleet", "`Fleet::delivered`", ["law_headline.Delivered.HasDelivered"]),
     ("at each moment of running services", "`services_in_order`, `at_each_moment`", ["law_service.EndToEnd.AtEachMoment"]),
     ("by what services were given and told", "`services_in_order`, `services`", ["law_service.EndToEnd.EndToEnd"]),
     ("between their game threads", "`services_in_order`, `threads` and `all_shown`", ["law_service.EndToEnd.EndToEnd", "law_service.EndToEnd.BetweenThreads", "law_service.Queues.EachLifeShows"]),

@@ -1,5 +1,5 @@
 -- Whatever happens at the hosts of a fleet.
-use Rattle.std.proofs.Common.{◌≡◌, true, false, List, [], ◌∷◌, refl, sym, ap, subst, ◌∙◌, Some}
+use Rattle.std.proofs.Common.{◌≡◌, true, false, List, [], ◌∷◌, refl, ap, ◌∙◌, Some}
 use Rattle.enet_host.specs.Host.{Host}
 use Rattle.law_network.specs.Alone.{call_by}
 use Rattle.law_network.specs.Calls.{Call, Acts}
@@ -15,6 +15,7 @@ use Rattle.enet_fleet.specs.Law.{AreLawful, AreAcross}
 use Rattle.enet_fleet.specs.Series.{AllHappen, OfEachSeries, calls_among, EachAloneAmong, is_setting, with_host, SettingsHappen}
 use Rattle.enet_fleet.proofs.Alone.{Leads, stays-there, led-at, leads-on, live-alone}
 use Rattle.enet_fleet.proofs.Headlines.{has-headline}
+use Rattle.law_headline.specs.Delivered.{HasDelivered}
 use Rattle.law_headline.specs.Nets.{Thing, AllowsCall}
 use Rattle.law_headline.proofs.Net as net
 use Rattle.enet_fleet.proofs.Places.{apart, Sound}
@@ -29,6 +30,9 @@ lawful-series server clients one all ts f h = are-lawful f (sound-series server 
 
 pub headline-series : OfEachSeries HasHeadline
 headline-series server clients one all ts f h = has-headline f (sound-series server clients one all ts f h)
+
+pub delivered-series : OfEachSeries HasDelivered
+delivered-series server clients one all ts f h = net.has-delivered address_of apart f (sound-series server clients one all ts f h)
 
 pub across-series : OfEachSeries AreAcross
 across-series server clients one all ts f h = are-across f (sound-series server clients one all ts f h)

@@ -5,6 +5,7 @@ ghost use Rattle.std.specs.List.{list_all};
 ghost use Rattle.std.specs.Option.{option_map};
 ghost use Rattle.enet_codec.specs.Config.{is_in_range};
 ghost use Rattle.law_network.specs.Headline.{submitted_at, taken_at, events_at};
+ghost use Rattle.law_headline.specs.Delivered.{HasDelivered};
 ghost use Rattle.enet_fleet.specs.Transcript.{IsOnEachFront};
 ghost use Rattle.enet_fleet.specs.Fleets.{Fleet as AllHosts, Steps, Runs, open_fleet, place_of, sent_by};
 ghost use Rattle.enet_fleet.specs.Ends.{EachIsOneEnd};
@@ -28,8 +29,8 @@ const MAX_CLIENTS: usize = 4095;
 /// A server at 10.0.0.1 port 7001 and its clients at 10.0.0.2, client `i` at port 7002 + `i`, each with what is kept of it, and the
 /// network between them, which loses, repeats and reorders datagrams as the events say. Strangers are at all other addresses.
 ///
-/// Every fleet is one that steps made of hosts to which nothing had happened, so `step` and `run` promise the headline without any
-/// premise.
+/// Every fleet is one that steps made of hosts to which nothing had happened, so `step` and `run` promise the headline, and that
+/// acknowledged means delivered, without any premise.
 #[derive(Drop)]
 pub struct Fleet {
     alloc: Global,
@@ -162,14 +163,28 @@ impl Fleet {
         let _ = &self.hosts;
     }
 
+    /// Acknowledged means delivered, a law of every fleet. Of each connection between the server and a client, both ways, on each channel
+    /// below 255, whatever the other hosts and strangers send: where the peer of the one end stands, still sends, and has no reliable
+    /// command of the channel queued or unacknowledged, each reliable packet that its user submitted there, and that went in order, was
+    /// dispatched at the other end, in order, taken or not, if the peer of that end stands and still dispatches.
+    pub fn delivered(&self)
+        ensures { HasDelivered self.now }
+    {
+        each_connection_of_a_fleet();
+        // The field is looked at, so that what holds of every fleet is known here.
+        let _ = &self.hosts;
+    }
+
     /// Makes one event happen. An event that is refused changes nothing; `FleetEvent` names the refusals that each can meet, in the
     /// order in which they are tested.
     pub fn step(&mut self, event: FleetEvent) -> Result<Answer, Refusal>
         ensures steps { Steps self.old event result self.new }
         ensures headline { HasHeadline self.new }
+        ensures delivered { HasDelivered self.new }
     {
         let answer = self.happen(&event);
         self.headline();
+        self.delivered();
         answer
     }
 
@@ -180,9 +195,11 @@ impl Fleet {
         ensures unchanged { OnErr result (self.new ≡ self.old) }
         ensures steps { IfOk result (λ answers. Runs self.old events.now answers.items self.new) }
         ensures headline { HasHeadline self.new }
+        ensures delivered { HasDelivered self.new }
     {
         let answers = self.run_all(events);
         self.headline();
+        self.delivered();
         answers
     }
 
