@@ -1,9 +1,12 @@
 -- A run of a fleet, of the things that happen in the example of a world: client 0 is where B is, and the server where A is.
-use Rattle.std.proofs.Common.{◌≡◌, ℕ, zero, suc, List, [], ◌∷◌, ◌++◌, length, refl, Some, None, Ok}
+use Rattle.std.proofs.Common.{◌≡◌, ℕ, zero, suc, List, [], ◌∷◌, ◌++◌, length, refl, arith, Some, None, Ok}
 use Rattle.enet_codec.specs.declared.event.Event.TheVariants as events
 use Rattle.enet_codec.specs.declared.stop.Stop.TheVariants.{Short}
 use Rattle.enet_codec.specs.Message.{Message}
+use Rattle.enet_fragment.specs.Cutting as cutting
 use Rattle.enet_peer.specs.declared.parts.PeerEvent.TheVariants as told
+use Rattle.enet_peer.specs.declared.parts.PeerState.TheVariants as state
+use Rattle.enet_peer.specs.CommandEffect.{obeyed}
 use Rattle.enet_peer.specs.Peering.{Peering}
 use Rattle.enet_slot.specs.Receiving.{stopped}
 use Rattle.enet_host.specs.Receiving.{handled_one}
@@ -12,16 +15,18 @@ use Rattle.law_connection.proofs.FirstPacket.{with_untaken, rest, first_message}
 use Rattle.enet_fleet.specs.declared.answer.Answer.TheVariants as answer
 use Rattle.law_network.specs.declared.event.Side.TheVariants.{A, B}
 use Rattle.law_network.specs.Examples.{example_config, first_name}
-use Rattle.law_network.specs.Log.{fresh_greatest, fresh_channels}
+use Rattle.law_network.specs.Log.{Logged, fresh_greatest, fresh_channels}
 use Rattle.law_network.specs.Network.{Site}
+use Rattle.law_network.specs.Numbers.{Stands}
 use Rattle.law_network.specs.World as world
-use Rattle.law_network.proofs.LoneSites.{Lone, site, stands, submits, takes, PutsOne, after_putting, puts-out, text_of, header_of, after_hearing, hears, hears-nothing, free_site, asks-first, answers-first}
+use Rattle.law_network.proofs.LoneSites.{Lone, site, end_of, submits, takes, PutsOne, after_putting, puts-out, text_of, header_of, logged, spells, Brings, after_hearing, Obeys, hears, hears-nothing, free_site, asks-first, answers-first}
 use Rattle.law_network.proofs.ExampleWorlds.{content, submitting, sending, sent, hearing, taking, offer, reliable, asking_message, verifying_message, confirming_message, asking, asked, ask, answering, verified, verify, welcomed, confirmed, confirm, standing, told_asker, told_answerer, puts-ask, brings-ask, puts-verify, brings-verify, puts-confirm, brings-confirm, crosses-told}
 use Rattle.enet_site.specs.Places.{Place, opened_at}
 use Rattle.enet_site.specs.declared.put_out.Sent.{Sent}
 use Rattle.enet_site.specs.declared.put_out.Sent.TheVariants.{Of}
 use Rattle.enet_fleet.specs.declared.event.FleetEvent.TheVariants as happen
 use Rattle.law_headline.specs.declared.node.Node.TheVariants.{Server, Client}
+use Rattle.law_headline.specs.Delivered.{HasNothingLeft}
 use Rattle.enet_fleet.specs.Fleets.{Fleet, address_of, is_host, numbers_far, Steps}
 use Rattle.enet_fleet.specs.Examples as example
 use Rattle.enet_fleet.proofs.Stepping.{asks, submitted, turned, delivered, heard, taken-one}
@@ -83,13 +88,45 @@ client = site B (sending told_asker told_answerer)
 abbrev server : Lone
 server = taking told_asker told_answerer untaken emptied
 
+-- its acknowledgement goes and comes: that of the VERIFY_CONNECT, but on channel 0
+
+abbrev acknowledging_message : Message
+acknowledging_message = record confirming_message { head = record confirming_message.head { channel = 0 } }
+
+abbrev acknowledged : Lone
+acknowledged = after_putting A client server acknowledging_message
+
+abbrev acknowledgement : Logged
+acknowledgement = logged A client server acknowledging_message
+
+abbrev relieved : Lone
+relieved = after_hearing (sending told_asker told_answerer) acknowledgement.text (obeyed (sending told_asker told_answerer).peer 0 None acknowledging_message).after
+
+puts-acknowledgement : PutsOne server.peer acknowledging_message
+puts-acknowledgement = record { messages = refl; live = λ e. absurd (cc); ranges = record { channel = omega arith; number = puts-confirm.ranges.number; fields = puts-confirm.ranges.fields }; plain = refl }
+
+brings-acknowledgement : Brings (site A acknowledged) client B 1 0 (header_of server.peer acknowledging_message).session None acknowledgement acknowledging_message
+unfolding fresh_greatest
+brings-acknowledgement = record { there = refl; at = refl; of = refl; in_time = refl; spelled = spells server.peer acknowledging_message puts-acknowledgement; plain = refl }
+
+obeys-acknowledgement : Obeys B (sending told_asker told_answerer) (header_of server.peer acknowledging_message).session None acknowledging_message relieved.peer
+unfolding cutting.piece_count
+obeys-acknowledgement = record { let_in = refl; goes = refl; after = refl; live = λ e. absurd (let z : state.Connected ≡ state.Free = e in cc) }
+
+abbrev client-stands : Stands (site B relieved) 0
+client-stands = record { end = end_of relieved; there = refl; peer = relieved.peer; is = refl }
+
+nothing-left : HasNothingLeft client-stands 0
+unfolding cutting.piece_count
+nothing-left = record { sends = refl; none = refl }
+
 abbrev undisturbed : Lone
-undisturbed = after_hearing server [] server.peer
+undisturbed = after_hearing acknowledged [] acknowledged.peer
 
 pub crosses : example.Crosses
 unfolding fresh_channels fresh_greatest
 crosses = (
-  pair client 3 (site A undisturbed) 1,
+  pair (site B relieved) 3 (site A undisturbed) 2,
   (
     pair (site B asking) 0 (free_site A) 0,
     asks (fleet (free_site B) 0 (free_site A) 0 []) 0 (place (free_site B) 0) (site B asking) (0 ∷ []) 1 3 9 first_name refl refl (asks-first B (free_site A) 3 9 refl) refl,
@@ -140,13 +177,22 @@ crosses = (
                             taken-one (pair client 3 (site A (hearing told_asker told_answerer untaken)) 1) Server (place (site A (hearing told_asker told_answerer untaken)) 1) (site A server) (events.Receive first_name example_packet) (address_of (Client 0)) refl
                                 (λ next far. takes next A far (hearing told_asker told_answerer untaken) emptied (told.Receive example_packet) crosses-told.tells crosses-told.stays) refl,
                             (
-                              pair client 3 (site A undisturbed) 1,
-                              heard (pair client 3 (site A server) 1) Server (place (site A server) 1) (site A undisturbed) example.stranger [] (stopped Short) refl refl
-                                  (λ next. hears-nothing next A server example.stranger),
+                              pair client 3 (site A acknowledged) 2,
+                              server-turns server 1 client 3 acknowledging_message puts-acknowledgement refl refl,
                               (
-                                pair client 3 (site A undisturbed) 1,
-                                (refl, refl),
-                                (pair client 3 (site A undisturbed) 1, (refl, refl), refl),
+                                pair (site B relieved) 3 (site A acknowledged) 2,
+                                delivered (pair client 3 (site A acknowledged) 2) (Client 0) Server 1 1 (place client 3) (place (site A acknowledged) 2) (site B relieved) handled_one refl refl refl
+                                    (λ next. hears next B (site A acknowledged) (sending told_asker told_answerer) 1 (header_of server.peer acknowledging_message).session None acknowledgement acknowledging_message relieved.peer brings-acknowledgement obeys-acknowledgement),
+                                (
+                                  pair (site B relieved) 3 (site A undisturbed) 2,
+                                  heard (pair (site B relieved) 3 (site A acknowledged) 2) Server (place (site A acknowledged) 2) (site A undisturbed) example.stranger [] (stopped Short) refl refl
+                                      (λ next. hears-nothing next A acknowledged example.stranger),
+                                  (
+                                    pair (site B relieved) 3 (site A undisturbed) 2,
+                                    (refl, refl),
+                                    (pair (site B relieved) 3 (site A undisturbed) 2, (refl, refl), refl),
+                                  ),
+                                ),
                               ),
                             ),
                           ),
@@ -162,5 +208,14 @@ crosses = (
       ),
     ),
   ),
-  record { client = place client 3; asked = refl; one = stands B (sending told_asker told_answerer); two = stands A undisturbed; submitted = refl; taken = refl },
+  record {
+    client = place (site B relieved) 3;
+    asked = refl;
+    one = client-stands;
+    two = record { end = end_of undisturbed; there = refl; peer = undisturbed.peer; is = refl };
+    submitted = refl;
+    taken = refl;
+    left = nothing-left;
+    dispatches = refl;
+  },
 )
