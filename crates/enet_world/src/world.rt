@@ -24,8 +24,8 @@ use std::marker::Model;
 /// Two hosts, at 10.0.0.1 port 7001 and 10.0.0.2 port 7002, each with what is kept of it, and the network between them, which
 /// loses, repeats and reorders datagrams as the events say.
 ///
-/// Every world is one that steps made of two hosts to which nothing had happened, so `step` and `run` promise the headline without
-/// any premise.
+/// Every world is one that steps made of two hosts to which nothing had happened, so `step` and `run` promise the headline, and that
+/// acknowledged means delivered, without any premise.
 #[derive(Drop)]
 pub struct World {
     alloc: Global,
@@ -181,9 +181,11 @@ impl World {
         ensures joined { self.new.joined ≡ self.old.joined }
         ensures passed { self.new.passed ≡ passed_by event self.old.passed }
         ensures headline { HasHeadline self.new.joined self.new.world }
+        ensures delivered { HasDelivered self.new.world }
     {
         let answer = self.happen(&event);
         self.headline();
+        self.delivered();
         answer
     }
 
@@ -196,9 +198,11 @@ impl World {
         ensures joined { self.new.joined ≡ self.old.joined }
         ensures passed { IfOk result (λ answers. self.new.passed ≡ passed_in events.now self.old.passed) }
         ensures headline { HasHeadline self.new.joined self.new.world }
+        ensures delivered { HasDelivered self.new.world }
     {
         let answers = self.run_all(events);
         self.headline();
+        self.delivered();
         answers
     }
 
