@@ -38,7 +38,7 @@ pub struct Sleepers {
     pub(crate) marks: Vec<Mark>,
     /// The host's clock as it was last told, on a clock that doesn't wrap.
     pub(crate) clock: u64,
-    /// How many slots may still fall asleep by `rest` before the clock goes on.
+    /// How often slots may still fall asleep by `rest`, or sleep on by `hear`, before the clock goes on.
     naps: u32,
 }
 
@@ -111,7 +111,8 @@ impl Sleepers {
     }
 
     /// Something came to the slot of this number, which may have slept: it sleeps on if it has nothing to do, and when time brings it something
-    /// is noted anew; else it is awake from now on. So it is with a datagram that only acknowledges.
+    /// is noted anew; else it is awake from now on. So it is with a datagram that only acknowledges. Slots sleep on, or fall asleep by
+    /// `rest`, four times each between two ticks at most, on average.
     #[inline(always)]
     pub fn hear(&mut self, slots: &[Slot], number: usize, now: u32)
         requires within { number < length slots.now }
@@ -135,7 +136,7 @@ impl Sleepers {
         ensures same { result ≡ false → self.new ≡ self.old }
     {
         let slot = &slots[number];
-        if self.free.contains(number) || slot.is_vacant() {
+        if self.naps == 0 || self.free.contains(number) || slot.is_vacant() {
             return false;
         }
         if !slot.only_waits() {
@@ -147,6 +148,7 @@ impl Sleepers {
             return false;
         }
         let moment = self.clock + u64::from(wait);
+        self.naps -= 1;
         self.due.set(number, moment);
         true
     }
