@@ -42,22 +42,31 @@ python3 scripts/quotes.py
 python3 scripts/check-documents.py
 bash scripts/check-trials.sh
 END
-# The gate, with one check a processor: several processors on one check take twice the processor time for the same proof.
+# The gate, with one check a processor: several processors on one check take twice the processor time for the same proof. Sets `gate` to its status,
+# and `was_full` to 1 where it says that the disk was full.
 prove() {
-    RT_JOBS=${RT_JOBS:-$(nproc)} rt ci 2>&1 | tee "$room/gate"
-    return "${PIPESTATUS[0]}"
+    local statuses
+    RT_JOBS=${RT_JOBS:-$(nproc)} rt ci 2>&1 | awk '
+        { print; fflush() }
+        /could not write its statements|the disk is full|No space left on device/ { full = 1 }
+        END { exit full }'
+    statuses=("${PIPESTATUS[@]}")
+    gate=${statuses[0]}
+    was_full=${statuses[1]}
+}
+# The free room in megabytes, here or for temporary files, whichever is less.
+free_room() {
+    df -m --output=avail . "${TMPDIR:-/tmp}" | tail -n 2 | sort -n | head -n 1
 }
 prove
-gate=$?
-# Where the disk is full for a while, crates that are proved just then aren't built. Once it has the 3 GB that the gate wants, in ten minutes at
-# most, what failed is tried once more; what passed is kept.
-if [ "$gate" != 0 ] && grep -qE 'could not write its statements|the disk is full' "$room/gate"; then
+# Where the disk is full for a while, crates that are proved just then aren't built. Once there are 5 GB, below which the gate keeps nothing, or
+# after ten minutes, it runs once more: over what it kept, or from nothing.
+if [ "$gate" != 0 ] && [ "$was_full" = 1 ]; then
     for _ in {1..20}; do
-        [ "$(df -m --output=avail . | tail -n 1)" -lt 3000 ] || break
+        [ "$(free_room)" -lt 5000 ] || break
         sleep 30
     done
     prove
-    gate=$?
 fi
 echo "rt ci ended with status $gate after $((SECONDS - begun)) seconds"
 if [ "$gate" != 0 ]; then

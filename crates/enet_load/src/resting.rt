@@ -48,6 +48,69 @@ fn wake_all(house: &mut House, waking: Waking) -> Result<()> {
     Ok(())
 }
 
+/// All slots have something in flight and rest; then so many empty datagrams come to each, before any is asked. COUNT times.
+pub fn knock_often(alloc: Global, seed: u64, size: Size) -> Result<Digest> {
+    let mut house = House::open(alloc, seed, size.slots, 2)?;
+    knock_often_in(&mut house, size)?;
+    Ok(house.digest)
+}
+
+fn knock_often_in(house: &mut House, size: Size) -> Result<()> {
+    house.invite(size.slots, 2)?;
+    house.delay(1)?;
+    tell_all(house)?;
+    for _ in 0..size.count {
+        rest(house, 3);
+        knock_all(house, size.commands)?;
+        house.send_all();
+    }
+    Ok(())
+}
+
+fn knock_all(house: &mut House, times: u32) -> Result<()> {
+    for number in 0..house.len() {
+        knock(house, number, times)?;
+    }
+    Ok(())
+}
+
+fn knock(house: &mut House, number: usize, times: u32) -> Result<()> {
+    let guest = house.guest(number)?;
+    for _ in 0..times {
+        house.knock(guest)?;
+    }
+    Ok(())
+}
+
+/// Every PACE milliseconds each peer acknowledges what it was told, and is told something again before its slot is asked. COUNT times.
+pub fn answer_often(alloc: Global, seed: u64, size: Size) -> Result<Digest> {
+    let mut house = House::open(alloc, seed, size.slots, 2)?;
+    answer_often_in(&mut house, size)?;
+    Ok(house.digest)
+}
+
+fn answer_often_in(house: &mut House, size: Size) -> Result<()> {
+    house.invite(size.slots, 2)?;
+    for round in 0..size.count {
+        house.tick(size.pace);
+        answer_all(house, round, size.pace)?;
+        house.send_all();
+    }
+    Ok(())
+}
+
+fn answer_all(house: &mut House, round: u32, pace: u32) -> Result<()> {
+    for number in 0..house.len() {
+        let guest = house.guest(number)?;
+        if round > 0 {
+            let number = (round % 65_536) as u16;
+            house.acknowledge(guest, 0, number, house.clock.wrapping_sub(pace))?;
+        }
+        house.tell(guest, 0, RELIABLE, 12)?;
+    }
+    Ok(())
+}
+
 /// All slots have something in flight, the first one since longest. That one is woken, and it is asked COUNT times when something is due.
 pub fn ask(alloc: Global, seed: u64, size: Size) -> Result<Digest> {
     let mut house = House::open(alloc, seed, size.slots, 2)?;

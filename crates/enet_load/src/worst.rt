@@ -1,7 +1,7 @@
 //! Inputs that cost most.
 
 use crate::flying::{block, take_newest, take_oldest};
-use crate::resting::{ask, share_out, talk_behind, wake};
+use crate::resting::{answer_often, ask, knock_often, share_out, talk_behind, wake};
 use anyhow::{Result, bail};
 use enet_testbed::{Digest, House};
 use std::alloc::Global;
@@ -13,7 +13,7 @@ pub struct Size {
     pub count: u32,
     /// The slots of the server, all of them used at first.
     pub slots: u16,
-    /// The commands in flight at each peer, or the packets queued on each channel.
+    /// The commands in flight at each peer, the packets queued on each channel, or the datagrams that come to each slot.
     pub commands: u32,
     /// Every how many milliseconds something comes.
     pub pace: u32,
@@ -42,6 +42,8 @@ pub fn run_row(alloc: Global, row: &str, seed: u64, size: Size) -> Result<Digest
         "blocked" => block(alloc, seed, size),
         "woken-by-datagram" => wake(alloc, seed, size, Waking::Datagram),
         "woken-by-packet" => wake(alloc, seed, size, Waking::Packet),
+        "knocked" => knock_often(alloc, seed, size),
+        "answered" => answer_often(alloc, seed, size),
         "talkers-behind" => talk_behind(alloc, seed, size),
         "due-in" => ask(alloc, seed, size),
         "seconds-free" => share_out(alloc, seed, size, Seconds::Free),
