@@ -1,7 +1,7 @@
 //! Unreliable packets that wait for their reliable number.
 
 ghost use Rattle.std.specs.Prelude.{◌≡◌, ℕ, ◌+◌, ◌≤◌, ◌++◌, ◌↔◌, length, IsTrue, IsSome, OnOk, OnErr, IfErr, Some, None};
-ghost use Rattle.std.specs.Option.{IsSomeAnd, option_copied};
+ghost use Rattle.std.specs.Option.{IsSomeAnd, is_some, option_copied};
 ghost use Rattle.std.specs.Ordering.{nat_cmp};
 ghost use Rattle.std.specs.BTreeMap as tree;
 ghost use Rattle.std.specs.FinMap as map;
@@ -236,6 +236,13 @@ impl Waiting {
         ensures { IsTrue result ↔ (map.len self.now ≡ 0) }
     {
         self.lines.is_empty()
+    }
+
+    /// Whether a packet waits for this reliable number: lines have one at least.
+    pub fn has_line(&self, number: u16) -> bool
+        ensures { result ≡ is_some (map.get self.now number) }
+    {
+        self.lines.contains_key(&number)
     }
 
     /// How many packets there are in all lines.
