@@ -1,6 +1,6 @@
 //! One channel's sender over the commands of its peer.
 
-ghost use Rattle.std.specs.Prelude.{◌≡◌, ℕ, ◌+◌, ◌<◌, ◌≤◌, ◌∷◌, ◌++◌, [], if◌then◌else◌, IsTrue, IsOk, IfOk, OnOk, IfErr, IsErrAnd, ◌⊎◌, ◌↔◌, List, Option, Some, None, IfSome, IfNone, length, map, take, drop, slice_get, true, false};
+ghost use Rattle.std.specs.Prelude.{◌≡◌, ℕ, ◌+◌, ◌<◌, ◌≤◌, ◌∷◌, ◌++◌, [], if◌then◌else◌, IsTrue, IsOk, IfOk, OnOk, OnErr, IfErr, IsErrAnd, ◌⊎◌, ◌↔◌, List, Option, Some, None, IfSome, IfNone, length, map, take, drop, slice_get, true, false};
 ghost use Rattle.std.specs.VecDeque.{deque_len, deque_capacity};
 ghost use Rattle.slab.specs.Slab.{get, slab_len, SameValues, HasRoomFor};
 ghost use Rattle.enet_rtt.specs.Clock.{HappensIn};
@@ -37,6 +37,7 @@ use enet_fragment::{DataCommand, FRAGMENT_OVERHEAD};
 use enet_rtt::{Expiry, Patience};
 use std::alloc::Global;
 use std::collections::VecDeque;
+use std::mem;
 
 /// How many numbers may be unacknowledged at a time (our profile).
 const SPAN: usize = 8192;
@@ -591,26 +592,28 @@ impl Outgoing {
         &mut self,
         pending: &mut Pending,
         flags: u8,
-        body: Bytes,
+        body: &mut Bytes,
         mtu: u32,
-    ) -> Result<(), (Refusal, Bytes)>
+    ) -> Result<(), Refusal>
         requires low { 576 ≤ mtu }
         requires high { mtu ≤ 4096 }
-        requires short { length body ≤ piece_length mtu }
+        requires short { length body.old ≤ piece_length mtu }
         requires kept { KeepsIn pending.old self.old }
         requires room { HasRoom self.old }
-        ensures queued { OnOk result (end_in pending.new self.new ≡ with_submitted mtu (end_in pending.old self.old) flags body) }
-        ensures refused { IfErr result (λ e. (end_in pending.new self.new ≡ end_in pending.old self.old) × (e.1 ≡ body)) }
-        ensures too_large { IsErrAnd result (λ e. e.0 ≡ Refusal.TooLarge) ↔ (fragment_limit < piece_count (length body) mtu) }
-        ensures only { IfErr result (λ e. e.0 ≡ Refusal.Memory) }
+        ensures queued { OnOk result (end_in pending.new self.new ≡ with_submitted mtu (end_in pending.old self.old) flags body.old) }
+        ensures refused { OnErr result ((end_in pending.new self.new ≡ end_in pending.old self.old) × (body.new ≡ body.old)) }
+        ensures taken { OnOk result (body.new ≡ []) }
+        ensures too_large { IsErrAnd result (λ why. why ≡ Refusal.TooLarge) ↔ (fragment_limit < piece_count (length body.old) mtu) }
+        ensures only { IfErr result (λ why. why ≡ Refusal.Memory) }
         ensures kept { KeepsIn pending.new self.new }
         ensures passes { PassesIn pending.old self.old pending.new self.new }
         ensures room { HasRoom self.new }
     {
-        let course = Course::whole(flags, &body, mtu, self.number, self.unreliable);
+        let course = Course::whole(flags, body, mtu, self.number, self.unreliable);
         if !self.make_room(pending, 1) {
-            return Err((Refusal::Memory, body));
+            return Err(Refusal::Memory);
         }
+        let body = mem::replace(body, Bytes::new());
         self.queue(pending, course.command(0, body));
         self.unreliable = course.unreliable_number();
         Ok(())
@@ -649,23 +652,24 @@ impl Outgoing {
     /// packet of more than `mtu - 28` bytes is cut into fragments. It goes reliable where it asks for it, where the
     /// unreliable numbers are used up, and where it is long and does not ask for unreliable fragments (ENet 1.3).
     ///
-    /// E5 exactly where it would be cut into more than 16,384 pieces (our profile), then E1 where memory is refused. After
-    /// either nothing has changed, and the body comes back.
+    /// The body is taken, and an empty one left. E5 exactly where it would be cut into more than 16,384 pieces (our profile), then
+    /// E1 where memory is refused. After either nothing has changed, and the body is still there.
     pub fn submit(
         &mut self,
         pending: &mut Pending,
         flags: u8,
-        body: Bytes,
+        body: &mut Bytes,
         mtu: u32,
-    ) -> Result<(), (Refusal, Bytes)>
+    ) -> Result<(), Refusal>
         requires low { 576 ≤ mtu }
         requires high { mtu ≤ 4096 }
         requires kept { KeepsIn pending.old self.old }
         requires room { HasRoom self.old }
-        ensures queued { OnOk result (end_in pending.new self.new ≡ with_submitted mtu (end_in pending.old self.old) flags body) }
-        ensures too_large { IsErrAnd result (λ e. e.0 ≡ Refusal.TooLarge) ↔ (fragment_limit < piece_count (length body) mtu) }
-        ensures refused { IfErr result (λ e. (end_in pending.new self.new ≡ end_in pending.old self.old) × (e.1 ≡ body)) }
-        ensures only { IfErr result (λ e. (e.0 ≡ Refusal.TooLarge) ⊎ (e.0 ≡ Refusal.Memory)) }
+        ensures queued { OnOk result (end_in pending.new self.new ≡ with_submitted mtu (end_in pending.old self.old) flags body.old) }
+        ensures too_large { IsErrAnd result (λ why. why ≡ Refusal.TooLarge) ↔ (fragment_limit < piece_count (length body.old) mtu) }
+        ensures refused { OnErr result ((end_in pending.new self.new ≡ end_in pending.old self.old) × (body.new ≡ body.old)) }
+        ensures taken { OnOk result (body.new ≡ []) }
+        ensures only { IfErr result (λ why. (why ≡ Refusal.TooLarge) ⊎ (why ≡ Refusal.Memory)) }
         ensures kept { KeepsIn pending.new self.new }
         ensures passes { PassesIn pending.old self.old pending.new self.new }
         ensures room { HasRoom self.new }
@@ -673,10 +677,7 @@ impl Outgoing {
         if body.len() > (mtu - FRAGMENT_OVERHEAD) as usize {
             return self.submit_long(pending, flags, body, mtu);
         }
-        if let Err(refused) = self.submit_short(pending, flags, body, mtu) {
-            return Err(refused);
-        }
-        Ok(())
+        self.submit_short(pending, flags, body, mtu)
     }
 
     /// Queues the commands of a packet that is cut into pieces.
@@ -684,32 +685,34 @@ impl Outgoing {
         &mut self,
         pending: &mut Pending,
         flags: u8,
-        body: Bytes,
+        body: &mut Bytes,
         mtu: u32,
-    ) -> Result<(), (Refusal, Bytes)>
+    ) -> Result<(), Refusal>
         requires low { 576 ≤ mtu }
         requires high { mtu ≤ 4096 }
         requires kept { KeepsIn pending.old self.old }
         requires room { HasRoom self.old }
-        ensures queued { OnOk result (end_in pending.new self.new ≡ with_submitted mtu (end_in pending.old self.old) flags body) }
-        ensures too_large { IsErrAnd result (λ e. e.0 ≡ Refusal.TooLarge) ↔ (fragment_limit < piece_count (length body) mtu) }
-        ensures refused { IfErr result (λ e. (end_in pending.new self.new ≡ end_in pending.old self.old) × (e.1 ≡ body)) }
-        ensures only { IfErr result (λ e. (e.0 ≡ Refusal.TooLarge) ⊎ (e.0 ≡ Refusal.Memory)) }
+        ensures queued { OnOk result (end_in pending.new self.new ≡ with_submitted mtu (end_in pending.old self.old) flags body.old) }
+        ensures too_large { IsErrAnd result (λ why. why ≡ Refusal.TooLarge) ↔ (fragment_limit < piece_count (length body.old) mtu) }
+        ensures refused { OnErr result ((end_in pending.new self.new ≡ end_in pending.old self.old) × (body.new ≡ body.old)) }
+        ensures taken { OnOk result (body.new ≡ []) }
+        ensures only { IfErr result (λ why. (why ≡ Refusal.TooLarge) ⊎ (why ≡ Refusal.Memory)) }
         ensures kept { KeepsIn pending.new self.new }
         ensures passes { PassesIn pending.old self.old pending.new self.new }
         ensures room { HasRoom self.new }
     {
-        let Some(course) = Course::plan(flags, &body, mtu, self.number, self.unreliable) else {
-            return Err((Refusal::TooLarge, body));
+        let Some(course) = Course::plan(flags, body, mtu, self.number, self.unreliable) else {
+            return Err(Refusal::TooLarge);
         };
         if !self.make_room(pending, course.pieces as usize) {
-            return Err((Refusal::Memory, body));
+            return Err(Refusal::Memory);
         }
-        let Some(pieces) = cut_all(*self.queued.allocator(), &body, course) else {
-            return Err((Refusal::Memory, body));
+        let Some(pieces) = cut_all(*self.queued.allocator(), body, course) else {
+            return Err(Refusal::Memory);
         };
-        self.queue_pieces(pending, course, &body, pieces);
+        self.queue_pieces(pending, course, body, pieces);
         self.unreliable = course.unreliable_number();
+        *body = Bytes::new();
         Ok(())
     }
 }

@@ -33,8 +33,8 @@ returns-clause-queued c =
     let channel_is = c.make_room.ensures.channel in
     let slots_is = c.make_room.ensures.slots in
     let rings_is = c.make_room.ensures.rings in
-    let after_all : SendingEnd = with_course c.make_room.new.self.channel c.make_room.new.pending.slab.slots (rings_of c.make_room.new.self) course c.args.body in
-    let all : SendingEnd = with_course c.args.self.now.channel c.args.pending.now.slab.slots (rings_of c.args.self.now) course c.args.body in
+    let after_all : SendingEnd = with_course c.make_room.new.self.channel c.make_room.new.pending.slab.slots (rings_of c.make_room.new.self) course c.args.body.now in
+    let all : SendingEnd = with_course c.args.self.now.channel c.args.pending.now.slab.slots (rings_of c.args.self.now) course c.args.body.now in
     let made : record {
       channel = c.queue_pieces.new.self.channel;
       sender = record {
@@ -44,5 +44,5 @@ returns-clause-queued c =
         sent = named (get c.queue_pieces.new.pending.slab) c.queue_pieces.new.self.sent.items;
       };
     } ≡ after_all = λ i. record { channel = channel i; sender = record { number = number i; unreliable = unreliable i; queued = queued i; sent = sent i } } in
-    let moved : after_all ≡ all = λ i. with_course (channel_is i) (slots_is i) (rings_is i) course c.args.body in
-    made ∙ moved ∙ ap (λ (k : Course). with_course c.args.self.now.channel c.args.pending.now.slab.slots (rings_of c.args.self.now) k c.args.body) c.in-Some.ensures.course
+    let moved : after_all ≡ all = λ i. with_course (channel_is i) (slots_is i) (rings_is i) course c.args.body.now in
+    made ∙ moved ∙ ap (λ (k : Course). with_course c.args.self.now.channel c.args.pending.now.slab.slots (rings_of c.args.self.now) k c.args.body.now) c.in-Some.ensures.course

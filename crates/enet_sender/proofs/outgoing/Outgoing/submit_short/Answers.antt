@@ -3,6 +3,7 @@ use Rattle.slab.specs.Slab.{get}
 use Rattle.enet_fragment.specs.declared.data.DataCommand.{DataCommand}
 use Rattle.enet_sender.specs.declared.sent.Sent.{Sent}
 use Rattle.enet_sender.specs.Sender.{Sender}
+use Rattle.enet_sender.specs.Course.{command_of}
 use Rattle.enet_sender.specs.Due.{SendingEnd}
 use Rattle.enet_sender.specs.Pending.{named}
 use Rattle.enet_sender.specs.Rings.{Rings, rings_of, sender_of, commands_at}
@@ -28,8 +29,8 @@ returns-clause-queued c =
     let channel_is = c.make_room.ensures.channel in
     let slots_is = c.make_room.ensures.slots in
     let rings_is = c.make_room.ensures.rings in
-    let command_is = c.command.ensures in
+    let command_is = c.command.ensures ∙ ap (λ (b : List ℕ). command_of c.whole-course.result 0 b) c.replace-body.ensures.value in
     let unreliable_is = c.unreliable_number-self.ensures in
     ap (λ (e : SendingEnd). record e { sender = record e.sender { unreliable = unreliable } }) c.queue.ensures.queued
     ∙ (λ i. one_more (channel_is i) (slots_is i) (rings_is i) (command_is i) (unreliable_is i))
-    ∙ ap (λ (x : Sender). record { channel = c.args.self.now.channel; sender = x }) (submitted-short c.args.mtu c.args.flags s c.args.body c.whole-course.result c.whole-course.ensures.course c.requires.low c.requires.short)
+    ∙ ap (λ (x : Sender). record { channel = c.args.self.now.channel; sender = x }) (submitted-short c.args.mtu c.args.flags s c.args.body.now c.whole-course.result c.whole-course.ensures.course c.requires.low c.requires.short)
