@@ -1,4 +1,5 @@
 pub mod Message
+pub mod Frequent
 pub mod Writing
 pub mod Header
 pub mod Datagram

@@ -182,8 +182,8 @@ fn command<'a>(kind: u8, head: Head, fields: &[u8], payload: &'a [u8]) -> Comman
     }
 }
 
-// The first four bytes. Bits 4 and 5 of the first are ignored (our profile).
-fn head_at(bytes: &[u8]) -> Head
+/// The first four bytes. Bits 4 and 5 of the first are ignored (our profile).
+pub(crate) fn head_at(bytes: &[u8]) -> Head
     requires { 4 ≤ length bytes.now }
     ensures { result ≡ head_at bytes.now }
 {
