@@ -1,5 +1,5 @@
 -- All channels change, one after another.
-use Rattle.std.proofs.Common.{◌≡◌, ℕ, zero, suc, ◌+◌, ◌<◌, ◌≤◌, Bool, true, ◌&&◌, ◌||◌, List, [], ◌∷◌, ◌++◌, length, map, get_or, set, take, drop, Option, Some, None, Result, Ok, Err, OnOk, IfErr, refl, sym, ap, ap₂, subst, ◌∙◌, arith}
+use Rattle.std.proofs.Common.{◌≡◌, ℕ, zero, suc, ◌+◌, ◌<◌, ◌≤◌, Bool, true, ◌&&◌, ◌||◌, List, [], ◌∷◌, ◌++◌, length, map, get_or, set, take, drop, Option, Some, None, Result, Ok, Err, OnOk, OnErr, refl, sym, ap, ap₂, subst, ◌∙◌, arith}
 use Rattle.std.specs.List.{slice_get, range_with_len, list_all, list_any}
 use Rattle.std.proofs.lemmas.List.{length-append, length-map, length-take, length-drop, length-set, take_all, drop_all, append-nil, get_or_default, map_push, take-map, take-set-le}
 use Rattle.std.proofs.lemmas.List.Edits.{map_over_more}
@@ -103,19 +103,16 @@ set-there [] i x there = refl
 set-there (y ∷ xs) zero x there = let is : y ≡ x = cc in ap (λ z. z ∷ xs) (sym is)
 set-there (y ∷ xs) (suc i) x there = ap (λ ys. y ∷ ys) (set-there xs i x there)
 
--- what a clause says where a call answers Ok, since it did
-pub when-ok : {T E P : Type 0} (r : Result T E) (x : T) → r ≡ Ok x → OnOk r P → P
-when-ok {P = P} r x e p = subst (λ q. OnOk q P) e p
-
--- what a clause says of a refusal, since there was this one
-pub when-err : {T E : Type 0} (r : Result T E) (P : E → Type 0) (why : E) → r ≡ Err why → IfErr r P → P why
-when-err r P why e p = subst (λ q. IfErr q P) e p
+-- what follows from what a clause says of a call that was carried out
+pub where-ok : {T E P Q : Type 0} (r : Result T E) → (P → Q) → OnOk r P → OnOk r Q
+where-ok (Ok x) f p = f p
+where-ok (Err e) f p = p
 
 -- where a packet is refused, all ends are as they were
-pub refused-frame : (s t : Slab Sent) (channels : List Outgoing) (i : ℕ) (old new : Outgoing) {E U : Type 0} (result : Result U (E × List ℕ)) (body : List ℕ) → Framed s t channels i new → i < length channels → get_or channels i old ≡ old
-    → IfErr result (λ e. (end_of t new ≡ end_of s old) × (e.1 ≡ body)) → IfErr result (λ e. (ends_of t (set channels i new) ≡ ends_of s channels) × (e.1 ≡ body))
-refused-frame s t channels i old new (Ok x) body h inside is refused = refused
-refused-frame s t channels i old new (Err e) body h inside is refused =
+pub refused-frame : (s t : Slab Sent) (channels : List Outgoing) (i : ℕ) (old new : Outgoing) {E U : Type 0} (result : Result U E) (body was : List ℕ) → Framed s t channels i new → i < length channels → get_or channels i old ≡ old
+    → OnErr result ((end_of t new ≡ end_of s old) × (body ≡ was)) → OnErr result ((ends_of t (set channels i new) ≡ ends_of s channels) × (body ≡ was))
+refused-frame s t channels i old new (Ok x) body was h inside is refused = refused
+refused-frame s t channels i old new (Err e) body was h inside is refused =
     let one : slice_get channels i ≡ Some old = slice_get_read channels (length channels) i old refl inside (sym is) in
     let there : slice_get (ends_of s channels) i ≡ Some (end_of s old) = slice_get-map (end_of s) channels i ∙ ap (λ o. option_map (end_of s) o) one in
     (h.ends ∙ ap (λ x. set (ends_of s channels) i x) refused.0 ∙ set-there (ends_of s channels) i (end_of s old) there, refused.1)

@@ -1,6 +1,6 @@
 //! The channels of a peer over its commands.
 
-ghost use Rattle.std.specs.Prelude.{◌≡◌, ◌≢◌, ℕ, ◌^◌, true, false, ◌⊎◌, ◌↔◌, ◌<◌, ◌≤◌, IsTrue, OnOk, IfOk, IfErr, IfSome, IsErrAnd, Some, [], not, length, map, take, slice_get, slice_set, All};
+ghost use Rattle.std.specs.Prelude.{◌≡◌, ◌≢◌, ℕ, ◌^◌, true, false, ◌⊎◌, ◌↔◌, ◌<◌, ◌≤◌, IsTrue, OnOk, OnErr, IfOk, IfErr, IfSome, IsErrAnd, Some, [], not, length, map, take, slice_get, slice_set, All};
 ghost use Rattle.std.specs.List.{range_with_len, list_all, list_any};
 ghost use Rattle.enet_rtt.specs.Clock.{HappensIn};
 ghost use Rattle.enet_seq.specs.Numbering.{wire};
@@ -76,24 +76,22 @@ fn submit_on(
     pending: &mut Pending,
     channel: u8,
     flags: u8,
-    body: Bytes,
+    body: &mut Bytes,
     mtu: u32,
-) -> Result<(), (Refusal, Bytes)>
+) -> Result<(), Refusal>
     requires low { 576 ≤ mtu }
     requires high { mtu ≤ 4096 }
     requires kept { KeepsAllIn pending.old channels.old.items }
     requires inside { channel < length channels.old.items }
     ensures queued { (s : SendingEnd) → slice_get (ends_in pending.old channels.old.items) channel ≡ Some s
-        → OnOk result (ends_in pending.new channels.new.items ≡ slice_set (ends_in pending.old channels.old.items) channel (with_submitted mtu s flags body)) }
-    ensures too_large { IsErrAnd result (λ e. e.0 ≡ Refusal.TooLarge) ↔ (fragment_limit < piece_count (length body) mtu) }
-    ensures refused { IfErr result (λ e. (ends_in pending.new channels.new.items ≡ ends_in pending.old channels.old.items) × (e.1 ≡ body)) }
-    ensures only { IfErr result (λ e. (e.0 ≡ Refusal.TooLarge) ⊎ (e.0 ≡ Refusal.Memory)) }
+        → OnOk result (ends_in pending.new channels.new.items ≡ slice_set (ends_in pending.old channels.old.items) channel (with_submitted mtu s flags body.old)) }
+    ensures too_large { IsErrAnd result (λ why. why ≡ Refusal.TooLarge) ↔ (fragment_limit < piece_count (length body.old) mtu) }
+    ensures refused { OnErr result ((ends_in pending.new channels.new.items ≡ ends_in pending.old channels.old.items) × (body.new ≡ body.old)) }
+    ensures taken { OnOk result (body.new ≡ []) }
+    ensures only { IfErr result (λ why. (why ≡ Refusal.TooLarge) ⊎ (why ≡ Refusal.Memory)) }
     ensures kept { KeepsAllIn pending.new channels.new.items }
 {
-    if let Err(refused) = channels[usize::from(channel)].submit(pending, flags, body, mtu) {
-        return Err(refused);
-    }
-    Ok(())
+    channels[usize::from(channel)].submit(pending, flags, body, mtu)
 }
 
 /// The next command of a channel is written: the other channels stay as they were.
@@ -327,25 +325,24 @@ impl Senders {
     /// Queues the commands of a packet on a channel, numbered, as `Outgoing::submit` does; `mtu` is the peer's, in bytes.
     ///
     /// E5 exactly where it would be cut into more than 16,384 pieces (our profile), then E1 where memory is refused. After
-    /// either nothing has changed, and the body comes back.
+    /// either nothing has changed, and the body is still there.
     pub fn submit(
         &mut self,
         channel: u8,
         flags: u8,
-        body: Bytes,
+        body: &mut Bytes,
         mtu: u32,
-    ) -> Result<(), (Refusal, Bytes)>
+    ) -> Result<(), Refusal>
         requires mtu { (576 ≤ mtu) × (mtu ≤ 4096) }
         requires channel { channel < length self.old }
-        ensures queued { (s : SendingEnd) → slice_get self.old channel ≡ Some s → OnOk result (self.new ≡ slice_set self.old channel (with_submitted mtu s flags body)) }
-        ensures too_large { IsErrAnd result (λ e. e.0 ≡ Refusal.TooLarge) ↔ (fragment_limit < piece_count (length body) mtu) }
-        ensures refused { IfErr result (λ e. (self.new ≡ self.old) × (e.1 ≡ body)) }
-        ensures only { IfErr result (λ e. (e.0 ≡ Refusal.TooLarge) ⊎ (e.0 ≡ Refusal.Memory)) }
+        ensures queued { (s : SendingEnd) → slice_get self.old channel ≡ Some s → OnOk result (self.new ≡ slice_set self.old channel (with_submitted mtu s flags body.old)) }
+        ensures too_large { IsErrAnd result (λ why. why ≡ Refusal.TooLarge) ↔ (fragment_limit < piece_count (length body.old) mtu) }
+        ensures refused { OnErr result ((self.new ≡ self.old) × (body.new ≡ body.old)) }
+        ensures taken { OnOk result (body.new ≡ []) }
+        ensures only { IfErr result (λ why. (why ≡ Refusal.TooLarge) ⊎ (why ≡ Refusal.Memory)) }
     {
         let (channels, pending) = (&mut self.channels, &mut self.pending);
-        if let Err(refused) = submit_on(channels, pending, channel, flags, body, mtu) {
-            return Err(refused);
-        }
+        submit_on(channels, pending, channel, flags, body, mtu)?;
         self.ready.insert(channel);
         Ok(())
     }

@@ -1,7 +1,7 @@
 use Rattle.std.proofs.Common.{sym, arith}
 use Rattle.enet_sender.specs.Due.{SendingEnd, with_submitted}
 use Rattle.enet_senders.proofs.Frames.{Framed, framed, framed-write}
-use Rattle.enet_senders.proofs.Each.{refused-frame, when-ok, when-err}
+use Rattle.enet_senders.proofs.Each.{refused-frame, where-ok}
 use Rattle.enet_senders.proofs.senders.submit_on.Goals.{After-submit}
 use Rattle.enet_senders.proofs.senders.submit_on.Goals as goal
 
@@ -12,19 +12,14 @@ frame c =
 
 pub returns-clause-queued : goal.returns-clause-queued
 returns-clause-queued c = λ s there.
-    framed-write (frame (goal.at.returns-clause-queued c).After-submit) (λ (e : SendingEnd). with_submitted c.args.mtu e c.args.flags c.args.body) c.index_mut.result.now
-    (omega (arith, c.from.ensures, c.requires.inside)) (sym c.index_mut.ensures.value)
-    (when-ok c.submit.result c.in_default.field-0 c.in_default.is c.submit.ensures.queued) c.args.channel c.from.ensures s there
+    where-ok c.submit.result (λ queued. framed-write (frame (goal.at.returns-clause-queued c).After-submit) (λ (e : SendingEnd). with_submitted c.args.mtu e c.args.flags c.args.body.now) c.index_mut.result.now
+    (omega (arith, c.from.ensures, c.requires.inside)) (sym c.index_mut.ensures.value) queued c.args.channel c.from.ensures s there)
+    c.submit.ensures.queued
+
+pub returns-clause-refused : goal.returns-clause-refused
+returns-clause-refused c =
+    refused-frame c.args.pending.now.slab c.submit.new.pending.slab c.args.channels.now.items c.from.result c.index_mut.result.now c.submit.new.self c.submit.result c.submit.new.body c.args.body.now (frame (goal.at.returns-clause-refused c).After-submit)
+    (omega (arith, c.from.ensures, c.requires.inside)) (sym c.index_mut.ensures.value) c.submit.ensures.refused
 
 pub returns-clause-kept : goal.returns-clause-kept
 returns-clause-kept c = (frame (goal.at.returns-clause-kept c).After-submit).keeps
-
-pub returns-in-Err-clause-refused : goal.returns-in-Err-clause-refused
-returns-in-Err-clause-refused c =
-    let b = (goal.at.returns-in-Err-clause-refused c).After-submit in
-    when-err c.submit.result _ c.in-Err.refused c.in-Err.is
-    (refused-frame c.args.pending.now.slab c.submit.new.pending.slab c.args.channels.now.items c.from.result c.index_mut.result.now c.submit.new.self c.submit.result c.args.body (frame b)
-    (omega (arith, c.from.ensures, c.requires.inside)) (sym c.index_mut.ensures.value) c.submit.ensures.refused)
-
-pub returns-in-Err-clause-kept : goal.returns-in-Err-clause-kept
-returns-in-Err-clause-kept c = (frame (goal.at.returns-in-Err-clause-kept c).After-submit).keeps
