@@ -1,5 +1,5 @@
 -- The channels' senders, and the bytes that they have in transit.
-use Rattle.std.proofs.Common.{◌≡◌, ℕ, zero, suc, ◌+◌, ◌<◌, ◌≤◌, List, [], ◌∷◌, length, map, set, get_or, take, refl, sym, ap, subst, ◌∙◌, arith, Option, Some, unwrap_or, Result, Ok, Err, OnOk, IfErr}
+use Rattle.std.proofs.Common.{◌≡◌, ℕ, zero, suc, ◌+◌, ◌<◌, ◌≤◌, List, [], ◌∷◌, length, map, set, get_or, take, refl, sym, ap, subst, ◌∙◌, arith, Option, Some, unwrap_or, Result, Ok, Err, OnOk, OnErr}
 use Rattle.std.specs.List.{range_with_len, slice_get}
 use Rattle.std.proofs.lemmas.List.{length-set, length-map, length-take, get_or_default}
 use Rattle.std.proofs.lemmas.Option.{slice_get-get_or}
@@ -26,15 +26,15 @@ keeps-set transit after senders i s t inside is change keeps = record {
 }
 
 -- a packet is submitted to a sender, or refused
-pub keeps-submitted : {E U : Type 0} (transit channel mtu flags : ℕ) (body : List ℕ) (senders new : List SendingEnd) (result : Result U (E × List ℕ)) → channel < length senders
+pub keeps-submitted : {E U : Type 0} (transit channel mtu flags : ℕ) (body left : List ℕ) (senders new : List SendingEnd) (result : Result U E) → channel < length senders
     → ((s : SendingEnd) → slice_get senders channel ≡ Some s → OnOk result (new ≡ set senders channel (with_submitted mtu s flags body)))
-    → IfErr result (λ e. (new ≡ senders) × (e.1 ≡ body)) → KeepsOutbox transit senders → KeepsOutbox transit new
-keeps-submitted transit channel mtu flags body senders new (Ok x) inside queued refused keeps =
+    → OnErr result ((new ≡ senders) × (left ≡ body)) → KeepsOutbox transit senders → KeepsOutbox transit new
+keeps-submitted transit channel mtu flags body left senders new (Ok x) inside queued refused keeps =
     let s : SendingEnd = get_or senders channel (new_end 0) in
     let there : slice_get senders channel ≡ Some s = slice_get-get_or senders channel (new_end 0) inside in
     let is : s ≡ get_or senders channel s = get_or_default senders channel (new_end 0) s inside in
     subst (λ (ss : List SendingEnd). KeepsOutbox transit ss) (sym (queued s there)) (keeps-set transit transit senders channel s (with_submitted mtu s flags body) inside is refl keeps)
-keeps-submitted transit channel mtu flags body senders new (Err e) inside queued refused keeps = subst (λ (ss : List SendingEnd). KeepsOutbox transit ss) (sym refused.0) keeps
+keeps-submitted transit channel mtu flags body left senders new (Err e) inside queued refused keeps = subst (λ (ss : List SendingEnd). KeepsOutbox transit ss) (sym refused.0) keeps
 
 transit-map : (f : SendingEnd → SendingEnd) → ((s : SendingEnd) → transit_at (f s) ≡ transit_at s) → (senders : List SendingEnd) → transit_over (map f senders) ≡ transit_over senders
 transit-map f same [] = refl

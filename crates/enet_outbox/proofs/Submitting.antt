@@ -41,6 +41,6 @@ one_piece asks len mtu low goes many =
     not_true false e = refl
 
 -- want of memory isn't a packet that is too large
-pub other_refusal : {X B : Type 0} (r : Result X (Refusal × B)) → IfErr r (λ e. e.0 ≡ Memory) → IsErrAnd r (λ e. e.0 ≡ TooLarge) → ⊥
+pub other_refusal : {X : Type 0} (r : Result X Refusal) → IfErr r (λ why. why ≡ Memory) → IsErrAnd r (λ why. why ≡ TooLarge) → ⊥
 other_refusal (Ok x) memory large = large
 other_refusal (Err e) memory large = let h : Memory ≡ TooLarge = sym memory ∙ large in cc

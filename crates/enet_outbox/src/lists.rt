@@ -1,6 +1,6 @@
 //! What an outbox's lists do.
 
-ghost use Rattle.std.specs.Prelude.{◌≡◌, ℕ, ◌+◌, ◌-◌, ◌≤◌, ◌<◌, ◌⊎◌, ◌↔◌, Some, IsErrAnd, IsTrue, IfErr, OnOk, false, length, map, slice_get, slice_set};
+ghost use Rattle.std.specs.Prelude.{◌≡◌, ℕ, ◌+◌, ◌-◌, ◌≤◌, ◌<◌, ◌⊎◌, ◌↔◌, Some, IsErrAnd, IsTrue, IfErr, OnOk, OnErr, false, [], length, map, slice_get, slice_set};
 ghost use Rattle.std.specs.VecDeque.{deque_len, deque_capacity};
 ghost use Rattle.enet_sender.specs.Due.{SendingEnd, with_submitted};
 ghost use Rattle.enet_sender.specs.CommandChoice.{fragment_limit};
@@ -29,27 +29,25 @@ pub fn make_room(waiting: &mut VecDeque<Acknowledgement>) -> bool
     !is_full || waiting.reserve_exact(waiting.len() + 1).is_ok()
 }
 
-/// Submits a packet on a channel. Where it is refused, nothing changes and the body comes back.
+/// Submits a packet on a channel, as `Senders::submit` does. Where it is refused, nothing changes and the body is still there.
 pub fn submit_on(
     senders: &mut Senders,
     channel: u8,
     flags: u8,
-    body: Bytes,
+    body: &mut Bytes,
     mtu: u32,
-) -> Result<(), (Refusal, Bytes)>
+) -> Result<(), Refusal>
     requires mtu { (576 ≤ mtu) × (mtu ≤ 4096) }
     requires inside { channel < length senders.old }
     ensures queued { (s : SendingEnd) → slice_get senders.old channel ≡ Some s
-        → OnOk result (senders.new ≡ slice_set senders.old channel (with_submitted mtu s flags body)) }
-    ensures too_large { IsErrAnd result (λ e. e.0 ≡ Refusal.TooLarge) ↔ (fragment_limit < piece_count (length body) mtu) }
-    ensures refused { IfErr result (λ e. (senders.new ≡ senders.old) × (e.1 ≡ body)) }
-    ensures only { IfErr result (λ e. (e.0 ≡ Refusal.TooLarge) ⊎ (e.0 ≡ Refusal.Memory)) }
+        → OnOk result (senders.new ≡ slice_set senders.old channel (with_submitted mtu s flags body.old)) }
+    ensures too_large { IsErrAnd result (λ why. why ≡ Refusal.TooLarge) ↔ (fragment_limit < piece_count (length body.old) mtu) }
+    ensures refused { OnErr result ((senders.new ≡ senders.old) × (body.new ≡ body.old)) }
+    ensures taken { OnOk result (body.new ≡ []) }
+    ensures only { IfErr result (λ why. (why ≡ Refusal.TooLarge) ⊎ (why ≡ Refusal.Memory)) }
     ensures kept { (transit : ℕ) → KeepsOutbox transit senders.old → KeepsOutbox transit senders.new }
 {
-    if let Err(refused) = senders.submit(channel, flags, body, mtu) {
-        return Err(refused);
-    }
-    Ok(())
+    senders.submit(channel, flags, body, mtu)
 }
 
 /// An acknowledgement of a channel's command comes: the command that it matches goes, and its bytes are no longer in

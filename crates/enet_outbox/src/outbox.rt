@@ -1,6 +1,6 @@
 //! All that a peer has to send.
 
-ghost use Rattle.std.specs.Prelude.{◌≡◌, ◌+◌, ◌/◌, ◌%◌, ◌≤◌, ◌<◌, ◌⊎◌, ◌↔◌, ◌&&◌, ◌==◌, not, nat_lt, false, length, IsTrue, OnOk, OnErr, IfOk, IfErr, IsErrAnd};
+ghost use Rattle.std.specs.Prelude.{◌≡◌, ◌+◌, ◌/◌, ◌%◌, ◌≤◌, ◌<◌, ◌⊎◌, ◌↔◌, ◌&&◌, ◌==◌, not, nat_lt, false, [], length, IsTrue, OnOk, OnErr, IfOk, IfErr, IsErrAnd};
 ghost use Rattle.enet_throttle.specs.Throttle.{with_interval, limited};
 ghost use Rattle.enet_sender.specs.CommandChoice.{fragment_limit};
 ghost use Rattle.std.specs.List.{list_any};
@@ -21,6 +21,7 @@ use enet_throttle::Throttle;
 use std::alloc::Global;
 use std::collections::VecDeque;
 use std::marker::Model;
+use std::mem;
 
 /// How many acknowledgements of a peer wait to be put out at most (our profile): as many as a turn of a service can take in, 256 datagrams
 /// of 32 commands, and can put out.
@@ -112,52 +113,51 @@ impl Outbox {
     /// ignored) and `mtu` is the peer's, in bytes. It goes unsequenced where it asks for that, does not ask to be reliable,
     /// and has at most `mtu - 28` bytes: then it takes the next group, modulo 65536. Else it is the channel's (ENet 1.3).
     ///
-    /// E5 exactly where it would be cut into more than 16,384 pieces (our profile), then E1 where memory is refused. After
-    /// either nothing has changed, and the body comes back.
+    /// The body is taken, and an empty one left. E5 exactly where it would be cut into more than 16,384 pieces (our profile), then
+    /// E1 where memory is refused. After either nothing has changed, and the body is still there.
     pub fn submit(
         &mut self,
         mtu: u32,
         channel: u8,
         flags: u8,
-        body: Bytes,
-    ) -> Result<(), (Refusal, Bytes)>
+        body: &mut Bytes,
+    ) -> Result<(), Refusal>
         requires mtu { (576 ≤ mtu) × (mtu ≤ 4096) }
         requires channel { channel < length self.old.outbox.senders }
-        ensures submitted { OnOk result (self.new.outbox ≡ submitted self.old.outbox mtu channel (record { flags = flags; body = body })) }
-        ensures too_large { IsErrAnd result (λ e. e.0 ≡ Refusal.TooLarge) ↔ (fragment_limit < piece_count (length body) mtu) }
-        ensures refused { IfErr result (λ e. (self.new ≡ self.old) × (e.1 ≡ body)) }
-        ensures only { IfErr result (λ e. (e.0 ≡ Refusal.TooLarge) ⊎ (e.0 ≡ Refusal.Memory)) }
+        ensures submitted { OnOk result (self.new.outbox ≡ submitted self.old.outbox mtu channel (record { flags = flags; body = body.old })) }
+        ensures too_large { IsErrAnd result (λ why. why ≡ Refusal.TooLarge) ↔ (fragment_limit < piece_count (length body.old) mtu) }
+        ensures refused { OnErr result ((self.new ≡ self.old) × (body.new ≡ body.old)) }
+        ensures taken { OnOk result (body.new ≡ []) }
+        ensures only { IfErr result (λ why. (why ≡ Refusal.TooLarge) ⊎ (why ≡ Refusal.Memory)) }
         ensures acknowledgement_room { self.new.acknowledgement_room ≡ self.old.acknowledgement_room }
         ensures control_room { self.new.control_room ≡ self.old.control_room }
     {
         if !is_unsequenced(flags, body.len(), mtu) {
             self.idle = false;
-            if let Err(refused) = lists::submit_on(&mut self.senders, channel, flags, body, mtu) {
-                return Err(refused);
-            }
-            return Ok(());
+            return lists::submit_on(&mut self.senders, channel, flags, body, mtu);
         }
         self.submit_unsequenced(channel, body)
     }
 
-    /// Queues an unsequenced packet with the next group. E1 where memory is refused: nothing has changed then, and the body
-    /// comes back.
-    fn submit_unsequenced(&mut self, channel: u8, body: Bytes) -> Result<(), (Refusal, Bytes)>
-        ensures queued { OnOk result (self.new.outbox ≡ with_unsequenced self.old.outbox channel (record { flags = 2; body = body })) }
-        ensures refused { IfErr result (λ e. (self.new ≡ self.old) × (e.1 ≡ body)) }
-        ensures memory { IfErr result (λ e. e.0 ≡ Refusal.Memory) }
+    /// Queues an unsequenced packet with the next group. E1 where memory is refused: nothing has changed then, and the body is
+    /// still there.
+    fn submit_unsequenced(&mut self, channel: u8, body: &mut Bytes) -> Result<(), Refusal>
+        ensures queued { OnOk result (self.new.outbox ≡ with_unsequenced self.old.outbox channel (record { flags = 2; body = body.old })) }
+        ensures refused { OnErr result ((self.new ≡ self.old) × (body.new ≡ body.old)) }
+        ensures taken { OnOk result (body.new ≡ []) }
+        ensures memory { IfErr result (λ why. why ≡ Refusal.Memory) }
         ensures acknowledgement_room { self.new.acknowledgement_room ≡ self.old.acknowledgement_room }
         ensures control_room { self.new.control_room ≡ self.old.control_room }
     {
         if self.unsequenced.reserve(1).is_err() {
-            return Err((Refusal::Memory, body));
+            return Err(Refusal::Memory);
         }
         let group = after(self.group, 1);
         self.group = group;
         self.unsequenced.push_back_reserved(Unsequenced {
             channel,
             group,
-            body,
+            body: mem::replace(body, Bytes::new()),
         });
         Ok(())
     }

@@ -3,4 +3,4 @@ use Rattle.enet_outbox.proofs.lists.submit_on.Goals as goal
 
 pub returns-clause-kept : goal.returns-clause-kept
 returns-clause-kept c = λ transit keeps.
-    keeps-submitted transit c.args.channel c.args.mtu c.args.flags c.args.body c.args.senders.now c.submit.new.self c.submit.result c.requires.inside c.submit.ensures.queued c.submit.ensures.refused keeps
+    keeps-submitted transit c.args.channel c.args.mtu c.args.flags c.args.body.now c.submit.new.body c.args.senders.now c.submit.new.self c.submit.result c.requires.inside c.submit.ensures.queued c.submit.ensures.refused keeps
