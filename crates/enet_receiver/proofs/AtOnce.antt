@@ -6,8 +6,8 @@ use Rattle.std.proofs.lemmas.Bool.Decides.{nat_tests}
 use Rattle.std.proofs.lemmas.List.{length-append}
 use Rattle.enet_codec.specs.declared.command.Fragment.{Fragment}
 use Rattle.enet_seq.specs.Numbering.{wire, number_read, start_read}
-use Rattle.enet_seq.specs.Windows.{ahead, after, in_window}
-use Rattle.enet_seq.proofs.WindowsLemmas.{near_is_inside}
+use Rattle.enet_seq.specs.Windows.{ahead, after, in_window, acknowledges}
+use Rattle.enet_seq.proofs.WindowsLemmas.{near_is_inside, inside_is_acknowledged}
 use Rattle.enet_fragment.specs.Place.{is_sound, is_even, told_piece_len}
 use Rattle.enet_fragment.specs.DataCommand.{piece_or_only, fragment_place}
 use Rattle.enet_fragment.specs.declared.data.DataCommand.{DataCommand}
@@ -16,13 +16,13 @@ use Rattle.enet_packets.specs.Packets.{line_at, handed_out}
 use Rattle.enet_receiver.specs.declared.took.Took.{Took}
 use Rattle.enet_receiver.specs.declared.took.Took.TheVariants.{Held, Again, Waiting}
 use Rattle.enet_receiver.specs.Receiver.{Receiver}
+use Rattle.enet_receiver.specs.Invariant.{Keeps}
 use Rattle.enet_receiver.specs.DataOutcome.{outcome, place_read, came_at, came_before, is_piece, received_with, added_at, dispatch_count}
 use Rattle.enet_receiver.specs.Private.Admitted.{Admitted}
 use Rattle.enet_receiver.specs.Private.InPlace.{ComesAlone, GoesAtOnce}
 use Rattle.enet_receiver.specs.Private.Next.{only_packet}
 use Rattle.enet_receiver.proofs.LineLemmas.{Line}
 use Rattle.enet_receiver.proofs.Admission.{came_before-read, outcome-read, admitted, read_back}
-use Rattle.enet_receiver.proofs.Released.{nothing_held}
 use Rattle.enet_receiver.proofs.InPlace.{handed_out_is}
 
 only_sound : (n : ℕ) → is_sound (record { number = 0; count = 1; total = n; offset = 0; len = n }) ≡ true
@@ -58,15 +58,14 @@ read_is r c single wired small inside =
 
 nothing_came_of : (r : Receiver) (c : DataCommand) → ComesAlone r c → came_at r c c.number ≡ None
 nothing_came_of r c there =
-    let held : get r.held c.number ≡ None = nothing_held r.held c.number (omega (arith, there.nothing_held)) in
-    let absent : get r.waiting c.number ≡ None = nothing_held r.waiting c.number (omega (arith, there.nothing_waits)) in
     let line : get (line_at r.waiting c.number) c.unreliable ≡ None =
-    ap (λ (o : Option Line). get (unwrap_or o empty) c.unreliable) absent ∙ get-empty {X = IncomingPacket} nat_cmp c.unreliable in
-    elim c.reliable as (λ b. cond b (get r.held c.number) (get (line_at r.waiting c.number) c.unreliable) ≡ None) [ true ↦ held | false ↦ line ]
+    ap (λ (o : Option Line). get (unwrap_or o empty) c.unreliable) there.alone.none_waits ∙ get-empty {X = IncomingPacket} nat_cmp c.unreliable in
+    elim c.reliable as (λ b. c.reliable ≡ b → cond b (get r.held c.number) (get (line_at r.waiting c.number) c.unreliable) ≡ None) [ true ↦ λ t. there.alone.not_held t | false ↦ λ _. line ] refl
 
 -- it is taken in
 pub record IsDispatchedAtOnce (most : ℕ) (r : Receiver) (c : DataCommand) (full : Bool) : Type 0 where
   pub held : outcome wire most r c full ≡ Held
+  pub acknowledged : acknowledges r.front c.number ≡ true
   pub one : 1 ≡ dispatch_count wire most r c full
 
 held_at_once : (most : ℕ) (r : Receiver) (c : DataCommand) (full : Bool) → GoesAtOnce most r c → full ≡ false → place_read wire r c ≡ Some c.number → outcome wire most r c full ≡ Held
@@ -77,11 +76,11 @@ held_at_once most r c full at begins read =
     ∙ (λ i. cond (at.not_behind i || false) Again (cond (begins i && true) Waiting Held))
 
 -- and is all that it dispatches
-one_dispatched : (most : ℕ) (r : Receiver) (c : DataCommand) (full : Bool) → ComesAlone r c → outcome wire most r c full ≡ Held → place_read wire r c ≡ Some c.number → 1 ≡ dispatch_count wire most r c full
-one_dispatched most r c full there held read =
+one_dispatched : (most : ℕ) (r : Receiver) (c : DataCommand) (full : Bool) → Keeps most r → ComesAlone r c → outcome wire most r c full ≡ Held → place_read wire r c ≡ Some c.number → 1 ≡ dispatch_count wire most r c full
+one_dispatched most r c full k there held read =
     let a : Admitted most r c c.number = admitted most r c full c.number held read in
     let all : (r.dispatched ++ handed_out (only_packet c) ∷ []) ≡ (received_with (outcome wire most r c full) wire r c).dispatched =
-    ap (λ (s : Receiver). s.dispatched) (handed_out_is most r c a there)
+    ap (λ (s : Receiver). s.dispatched) (handed_out_is most r c k a there)
     ∙ sym (ap (λ (t : Took). (received_with t wire r c).dispatched) held ∙ ap (λ (o : Option ℕ). (added_at wire r c o).dispatched) read) in
     let long : length (r.dispatched ++ handed_out (only_packet c) ∷ []) ≡ length r.dispatched + 1 = length-append r.dispatched (handed_out (only_packet c) ∷ []) in
     let same : length (received_with (outcome wire most r c full) wire r c).dispatched ≡ length r.dispatched + 1 = sym (ap length all) ∙ long in
@@ -89,6 +88,8 @@ one_dispatched most r c full there held read =
 
 pub dispatched_at_once : (most : ℕ) (r : Receiver) (c : DataCommand) (full : Bool) → GoesAtOnce most r c → full ≡ false → IsDispatchedAtOnce most r c full
 dispatched_at_once most r c full at begins =
-    let read : place_read wire r c ≡ Some c.number = read_is r c at.alone.single at.front at.number (at_is r c at.front at.alone.at at.number) in
+    let read : place_read wire r c ≡ Some c.number = read_is r c at.alone.single at.kept.wire at.number (at_is r c at.kept.wire at.alone.at at.number) in
     let held : outcome wire most r c full ≡ Held = held_at_once most r c full at begins read in
-    record { held = held; one = one_dispatched most r c full at.alone held read }
+    let inside : in_window (r.front % 65536) c.number ≡ true = at_is r c at.kept.wire at.alone.at at.number in
+    let same : r.front % 65536 ≡ r.front = (let low = at.kept.wire in omega arith) in
+    record { held = held; acknowledged = inside_is_acknowledged r.front c.number at.kept.wire at.number (ap (λ n. in_window n c.number) (sym same) ∙ inside); one = one_dispatched most r c full at.kept at.alone held read }

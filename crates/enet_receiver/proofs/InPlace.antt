@@ -1,5 +1,5 @@
 -- A whole packet that comes in its place is dispatched as if it had been held, or had waited.
-use Rattle.std.proofs.Common.{◌≡◌, ℕ, ◌+◌, ◌<◌, ◌&&◌, ◌||◌, ltb, leb, eqb, true, false, cond, [], ◌∷◌, ◌++◌, refl, sym, ap, subst, ◌∙◌, arith, Option, Some, None, unwrap_or, append-nil}
+use Rattle.std.proofs.Common.{◌≡◌, ℕ, ◌+◌, ◌<◌, ◌&&◌, ◌||◌, ltb, leb, eqb, Bool, true, false, cond, [], ◌∷◌, ◌++◌, refl, sym, ap, subst, ◌∙◌, arith, Option, Some, None, unwrap_or, append-nil}
 use Rattle.std.specs.Prelude.{nat_lt}
 use Rattle.std.specs.Ordering.{nat_cmp}
 use Rattle.std.specs.Cmp.{nat_cmp_total}
@@ -18,17 +18,16 @@ use Rattle.enet_packets.specs.Packets.{Lines, handed_out, line_at, with_line, fr
 use Rattle.enet_packets.proofs.Maps.{entries-empty, retained, retained-empty, remove-insert, remove-absent}
 use Rattle.enet_packets.proofs.LineLemmas.{with_line-some, with_line-none, len-insert_some, len_nothing}
 use Rattle.enet_receiver.specs.Receiver.{Receiver, without, next_whole, flushed_from, flushed, with_passed, all_released}
-use Rattle.enet_receiver.specs.Laws.{HavePieces}
 use Rattle.enet_receiver.specs.Invariant.{Keeps}
 use Rattle.enet_receiver.specs.DataOutcome.{came_at, is_behind, flags_of, earlier_or_new, with_more, with_added}
 use Rattle.enet_receiver.specs.ReceiverParts.{receiver_of}
 use Rattle.enet_receiver.specs.Private.ReceiverParts.{with_stored}
 use Rattle.enet_receiver.specs.Private.Admitted.{Admitted, IsInside}
 use Rattle.enet_receiver.specs.Private.Next.{only_packet}
-use Rattle.enet_receiver.specs.Private.InPlace.{ComesAlone}
+use Rattle.enet_receiver.specs.Private.InPlace.{GoesAlone, ComesAlone}
 use Rattle.enet_receiver.proofs.LineLemmas.{Line, line_at-same}
 use Rattle.enet_receiver.proofs.Admission.{piece_sound, Keeps-stored}
-use Rattle.enet_receiver.proofs.Keeping.{Keeps-all_released}
+use Rattle.enet_receiver.proofs.Keeping.{pieces_of_kept, Keeps-all_released}
 use Rattle.enet_receiver.proofs.Released.{nothing_held, all_released-none}
 use Rattle.enet_receiver.proofs.Turns.{end_is}
 use Rattle.enet_receiver.proofs.Ordered.{only_whole, only_count, nothing_came, next_stored, released_at_once}
@@ -89,20 +88,28 @@ past_last r c place at unreliable not_behind =
     let above : leb c.unreliable r.unreliable ≡ false = sym is ∙ not_behind in
     grind (arith, nat_tests)
 
+-- where nothing is held and nothing waits, nothing goes with a packet
+pub nothing_there : (r : Receiver) (reliable : Bool) (number : ℕ) → len r.held ≡ 0 → len r.waiting ≡ 0 → GoesAlone r reliable number
+nothing_there r reliable number none_held none_waits = record {
+  next_not_held = nothing_held r.held (after number 1) (omega arith);
+  none_waits = nothing_held r.waiting number (omega arith);
+  not_held = λ _. nothing_held r.held number (omega arith);
+  none_passed = λ _. nothing_held r.waiting r.front (omega arith);
+}
+
 unreliable_out : (most : ℕ) (r : Receiver) (c : DataCommand) → Admitted most r c c.number → ComesAlone r c → c.reliable ≡ false → c.number ≡ r.front
     → receiver_of r.front c.unreliable r.held r.waiting (r.dispatched ++ handed_out (only_packet c) ∷ []) ≡ all_released wire (with_stored r c c.number)
 unreliable_out most r c a there unreliable at =
-    let absent : get r.waiting r.front ≡ None = nothing_held r.waiting r.front (omega (arith, there.nothing_waits)) in
-    let none : get r.held (after r.front 1) ≡ None = nothing_held r.held (after r.front 1) (omega (arith, there.nothing_held)) in
+    let absent : get r.waiting r.front ≡ None = ap (get r.waiting) (sym at) ∙ there.alone.none_waits in
+    let none : get r.held (after r.front 1) ≡ None = ap (λ n. get r.held (after n 1)) (sym at) ∙ there.alone.next_not_held in
     let stored : Receiver = record r { waiting = with_line r.waiting r.front (insert empty c.unreliable (only_packet c)) } in
     flushed_alone r c.unreliable (only_packet c) absent (only_whole c there.single (piece_sound most c a.piece).0) (past_last r c c.number at unreliable a.not_behind)
     ∙ sym (all_released-none wire stored (ap next_whole none))
     ∙ ap (all_released wire) (stored_alone most r c c.number a there.single unreliable at absent)
 
--- where nothing waits, no unreliable packet is dispatched
-flushed_nothing : (first : ℕ) (r : Receiver) → len r.waiting ≡ 0 → flushed_from first r ≡ r
-flushed_nothing first r nothing =
-    let absent : get r.waiting r.front ≡ None = nothing_held r.waiting r.front (omega arith) in
+-- where nothing waits for the front, no unreliable packet is dispatched
+flushed_nothing : (first : ℕ) (r : Receiver) → get r.waiting r.front ≡ None → flushed_from first r ≡ r
+flushed_nothing first r absent =
     let line : line_at r.waiting r.front ≡ empty = ap (λ (o : Option Line). unwrap_or o empty) absent in
     let none : entries (line_at r.waiting r.front) ≡ [] = ap (λ (l : Line). entries l) line ∙ entries-empty {X = IncomingPacket} in
     let last : last_fresh r.unreliable (entries (line_at r.waiting r.front)) ≡ r.unreliable = ap (last_fresh r.unreliable) none in
@@ -114,14 +121,17 @@ flushed_nothing first r nothing =
     ∙ remove-absent r.waiting r.front absent in
     λ i. receiver_of r.front (last i) r.held (lines i) (out i)
 
-without_one : {X : Type 0} (m : FinMap nat_cmp X) (k : ℕ) → len m ≡ 0 → without wire m k 1 ≡ m
+without_one : {X : Type 0} (m : FinMap nat_cmp X) (k : ℕ) → k < 65536 → get m k ≡ None → without wire m k 1 ≡ m
 unfolding without
-without_one m k nothing = remove-absent m (after k 0) (nothing_held m (after k 0) (omega arith))
+without_one m k low none = let same : after k 0 ≡ k = omega arith in remove-absent m (after k 0) (ap (get m) same ∙ none)
 
--- the front passes a packet of one piece, where nothing is held and nothing waits
-passed_alone : (r : Receiver) (c : DataCommand) → c.fragment ≡ None → len r.held ≡ 0 → len r.waiting ≡ 0
+after_fits : (n count : ℕ) → after n count < 65536
+after_fits n count = omega arith
+
+-- the front passes a packet of one piece, where nothing is held under its number and nothing waits for the front
+passed_alone : (r : Receiver) (c : DataCommand) → c.fragment ≡ None → r.front < 65536 → get r.held (after r.front 1) ≡ None → get r.waiting r.front ≡ None
     → with_passed wire r (only_packet c) ≡ receiver_of (after r.front 1) 0 r.held r.waiting (r.dispatched ++ handed_out (only_packet c) ∷ [])
-passed_alone r c single nothing_held nothing_waits =
+passed_alone r c single low not_held none_waits =
     ap {B = Receiver} (λ n. record {
       front = after r.front n;
       unreliable = 0;
@@ -129,29 +139,30 @@ passed_alone r c single nothing_held nothing_waits =
       waiting = without wire r.waiting r.front n;
       dispatched = r.dispatched ++ handed_out (only_packet c) ∷ [];
     }) (only_count c single)
-    ∙ (λ i. receiver_of (after r.front 1) 0 (without_one r.held (after r.front 1) nothing_held i) (without_one r.waiting r.front nothing_waits i) (r.dispatched ++ handed_out (only_packet c) ∷ []))
+    ∙ (λ i. receiver_of (after r.front 1) 0 (without_one r.held (after r.front 1) (after_fits r.front 1) not_held i) (without_one r.waiting r.front low none_waits i) (r.dispatched ++ handed_out (only_packet c) ∷ []))
 
-reliable_out : (most : ℕ) (r : Receiver) (c : DataCommand) → Admitted most r c c.number → ComesAlone r c → c.reliable ≡ true → c.number ≡ after r.front 1
+reliable_out : (most : ℕ) (r : Receiver) (c : DataCommand) → Keeps most r → Admitted most r c c.number → ComesAlone r c → c.reliable ≡ true → c.number ≡ after r.front 1
     → receiver_of (after r.front 1) 0 r.held r.waiting (r.dispatched ++ handed_out (only_packet c) ∷ []) ≡ all_released wire (with_stored r c c.number)
-reliable_out most r c a there reliable at =
+reliable_out most r c k a there reliable at =
     let out : Receiver = receiver_of (after r.front 1) 0 r.held r.waiting (r.dispatched ++ handed_out (only_packet c) ∷ []) in
-    let pieces : HavePieces r = λ q x e. absurd (let none : get r.held q ≡ None = nothing_held r.held q (omega (arith, there.nothing_held)) in cc) in
-    let due : next_whole (get r.held (after (after r.front 1) 1)) ≡ None = ap next_whole (nothing_held r.held (after (after r.front 1) 1) (omega (arith, there.nothing_held))) in
+    let not_held : get r.held (after r.front 1) ≡ None = ap (get r.held) (sym at) ∙ there.alone.not_held reliable in
+    let none_waits : get r.waiting (after r.front 1) ≡ None = ap (get r.waiting) (sym at) ∙ there.alone.none_waits in
+    let next : get r.held (after (after r.front 1) 1) ≡ None = ap (λ n. get r.held (after n 1)) (sym at) ∙ there.alone.next_not_held in
     sym (
     ap (all_released wire) (sym (next_stored most r c a there reliable))
-    ∙ sym (released_at_once r c there.single (piece_sound most c a.piece).0 pieces)
-    ∙ ap (λ (s : Receiver). all_released wire (flushed_from 0 s)) (passed_alone r c there.single there.nothing_held there.nothing_waits)
-    ∙ ap (all_released wire) (flushed_nothing 0 out there.nothing_waits)
-    ∙ all_released-none wire out due
-    ∙ flushed_nothing 1 out there.nothing_waits
+    ∙ sym (released_at_once r c there.single (piece_sound most c a.piece).0 (pieces_of_kept most r k))
+    ∙ ap (λ (s : Receiver). all_released wire (flushed_from 0 s)) (passed_alone r c there.single k.wire not_held (there.alone.none_passed reliable))
+    ∙ ap (all_released wire) (flushed_nothing 0 out none_waits)
+    ∙ all_released-none wire out (ap next_whole next)
+    ∙ flushed_nothing 1 out none_waits
     )
 
-pub handed_out_is : (most : ℕ) (r : Receiver) (c : DataCommand) → Admitted most r c c.number → ComesAlone r c
+pub handed_out_is : (most : ℕ) (r : Receiver) (c : DataCommand) → Keeps most r → Admitted most r c c.number → ComesAlone r c
     → receiver_of c.number (cond c.reliable 0 c.unreliable) r.held r.waiting (r.dispatched ++ handed_out (only_packet c) ∷ []) ≡ all_released wire (with_stored r c c.number)
-handed_out_is most r c a there =
+handed_out_is most r c k a there =
     elim c.reliable as (λ b. c.reliable ≡ b → c.number ≡ cond b (after r.front 1) r.front
     → receiver_of c.number (cond b 0 c.unreliable) r.held r.waiting (r.dispatched ++ handed_out (only_packet c) ∷ []) ≡ all_released wire (with_stored r c c.number)) [
-      | true ↦ λ t at. ap (λ p. receiver_of p 0 r.held r.waiting (r.dispatched ++ handed_out (only_packet c) ∷ [])) at ∙ reliable_out most r c a there t at
+      | true ↦ λ t at. ap (λ p. receiver_of p 0 r.held r.waiting (r.dispatched ++ handed_out (only_packet c) ∷ [])) at ∙ reliable_out most r c k a there t at
       | false ↦ λ t at. ap (λ p. receiver_of p c.unreliable r.held r.waiting (r.dispatched ++ handed_out (only_packet c) ∷ [])) at ∙ unreliable_out most r c a there t at
     ] refl there.at
 
@@ -159,7 +170,7 @@ handed_out_is most r c a there =
 pub in_place_keeps : (most : ℕ) (r : Receiver) (c : DataCommand) → Keeps most r → IsInside r.front c.number → c.unreliable < 65536 → Admitted most r c c.number → ComesAlone r c
     → Keeps most (receiver_of c.number (cond c.reliable 0 c.unreliable) r.held r.waiting (r.dispatched ++ handed_out (only_packet c) ∷ []))
 in_place_keeps most r c k inside count a there =
-    subst (Keeps most) (sym (handed_out_is most r c a there)) (Keeps-all_released most (with_stored r c c.number) (Keeps-stored most r c c.number k inside count a))
+    subst (Keeps most) (sym (handed_out_is most r c k a there)) (Keeps-all_released most (with_stored r c c.number) (Keeps-stored most r c c.number k inside count a))
 
 -- the bytes of a packet of one command
 pub only_body : (c : DataCommand) → c.fragment ≡ None → handed_out (only_packet c) ≡ record { flags = flags_of c; body = c.body }

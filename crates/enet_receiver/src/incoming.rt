@@ -2,16 +2,17 @@
 
 ghost use Rattle.std.specs.Prelude.{◌≡◌, ◌≢◌, ◌<◌, ◌^◌, ◌+◌, [], Bool, false, if◌then◌else◌, Ok, Some, None, IfOk, IfSome, IfNone, IfErr, IsTrue, MatchOption, length};
 ghost use Rattle.std.specs.Option.{option_copied};
+ghost use Rattle.std.specs.FinMap as map;
 ghost use Rattle.enet_codec.specs.Message.{view};
 ghost use Rattle.enet_seq.specs.Numbering.{wire};
-ghost use Rattle.enet_seq.specs.Windows.{after};
+ghost use Rattle.enet_seq.specs.Windows.{acknowledges, after};
 ghost use Rattle.enet_fragment.specs.DataCommand.{data_of};
 ghost use Rattle.enet_fragment.specs.Whole.{is_whole};
 ghost use Rattle.enet_receiver.specs.ArrivingData.{data_command};
 ghost use Rattle.enet_receiver.specs.Private.Admitted.{Admitted, IsInside};
 ghost use Rattle.enet_receiver.specs.ReceiverParts.{with_first};
 ghost use Rattle.enet_receiver.specs.Private.ReceiverParts.{with_kept, grown_at, answered_with};
-ghost use Rattle.enet_receiver.specs.Private.InPlace.{ComesAlone, GoesAtOnce, with_moved, only_packet_from};
+ghost use Rattle.enet_receiver.specs.Private.InPlace.{ComesAlone, GoesAlone, GoesAtOnce, with_moved, only_packet_from};
 ghost use Rattle.enet_receiver.specs.Private.Walk.{Completes};
 ghost use Rattle.enet_packets.specs.Packets.{bytes_in, packets_in};
 ghost use Rattle.enet_receiver.specs.Receiver.{held_bytes, held_packets, cleared};
@@ -250,9 +251,9 @@ impl Incoming {
     }
 
     /// Takes a command in of which `foresee_data` told that it would be held, and hands its packet out at once, where that comes
-    /// alone: the next one in order or an unreliable one of the front, whole, while nothing is held, waits or was dispatched and
-    /// not popped. It is the packet that `pop` would give after `take_in`, and none is left to pop. None, with nothing changed,
-    /// where it doesn't come alone or memory is refused. Its body is one of those of its peer's packets.
+    /// alone: the next one in order or an unreliable one of the front, whole, while nothing that is held or waits would go with it
+    /// and nothing was dispatched and not popped. It is the packet that `pop` would give after `take_in`, and none is left to pop.
+    /// None, with nothing changed, where it doesn't come alone or memory is refused. Its body is one of those of its peer's packets.
     pub fn take_in_at_once(
         &mut self,
         arriving: ArrivingData<'_>,
@@ -268,6 +269,31 @@ impl Incoming {
         ensures packets { held_packets self.new.receiver ≡ held_packets self.old.receiver }
     {
         if !self.dispatched.is_empty() || !self.comes_alone(arriving) {
+            return None;
+        }
+        self.hand_out(arriving, bodies)
+    }
+
+    /// Takes a command in that would be held while the peer isn't full, and that may be acknowledged, and hands its packet out at once,
+    /// where that comes alone, as `take_in_at_once` does: the caller needn't ask `foresee_data` before. None, with nothing changed,
+    /// where it wouldn't be held, its packet doesn't come alone or memory is refused. The contract says what holds where it gives a
+    /// packet, not when it must.
+    #[inline(always)]
+    pub fn take_at_once(
+        &mut self,
+        arriving: ArrivingData<'_>,
+        bodies: &mut Bodies,
+    ) -> Option<Packet>
+        ensures held { IfSome result (λ _. outcome_for self.old (Some (data_command arriving.entry)) false ≡ Took.Held) }
+        ensures acknowledged { IfSome result (λ _. IsTrue (acknowledges self.old.receiver.front arriving.entry.head.number)) }
+        ensures taken { IfSome result (λ packet. after_command self.old (Some (data_command arriving.entry)) false ≡ with_first self.new packet) }
+        ensures channel { IfSome result (λ packet. packet.channel ≡ self.old.channel) }
+        ensures none_left { IfSome result (λ _. self.new.receiver.dispatched ≡ []) }
+        ensures unchanged { IfNone result (self.new ≡ self.old) }
+        ensures bytes { held_bytes self.new.receiver ≡ held_bytes self.old.receiver }
+        ensures packets { held_packets self.new.receiver ≡ held_packets self.old.receiver }
+    {
+        if !self.dispatched.is_empty() || !self.goes_at_once(arriving) {
             return None;
         }
         self.hand_out(arriving, bodies)
@@ -432,15 +458,39 @@ impl Incoming {
         true
     }
 
-    /// Whether a command is a whole packet that is dispatched as it comes, while nothing is held and nothing waits: the next
-    /// reliable one in order, or an unreliable one that goes with the front.
+    /// Whether a command is a whole packet that is dispatched as it comes, and nothing else with it: the next reliable one in
+    /// order, or an unreliable one that goes with the front.
     fn comes_alone(&self, arriving: ArrivingData<'_>) -> bool
         ensures { IsTrue result → ComesAlone self.now.receiver (data_command arriving.entry) }
     {
         arriving.fragment.is_none()
             && arriving.head.number == self.place_in_order(arriving.reliable)
-            && self.held.len() == 0
-            && self.waiting.is_empty()
+            && self.goes_alone(arriving.reliable, arriving.head.number)
+    }
+
+    /// Whether nothing goes with a packet that is dispatched as it comes.
+    fn goes_alone(&self, reliable: bool, number: u16) -> bool
+        ensures { IsTrue result → GoesAlone self.now.receiver reliable number }
+    {
+        self.holds_nothing() || self.finds_none(reliable, number)
+    }
+
+    /// Whether nothing is held and nothing waits.
+    fn holds_nothing(&self) -> bool
+        ensures held { IsTrue result → map.len self.now.receiver.held ≡ 0 }
+        ensures waiting { IsTrue result → map.len self.now.receiver.waiting ≡ 0 }
+    {
+        self.held.len() == 0 && self.waiting.is_empty()
+    }
+
+    /// The same where something is held or waits. It stays a function of its own, since few commands come to it.
+    #[inline(never)]
+    fn finds_none(&self, reliable: bool, number: u16) -> bool
+        ensures { IsTrue result → GoesAlone self.now.receiver reliable number }
+    {
+        self.held.get(after(number, 1)).is_none()
+            && !self.waiting.has_line(number)
+            && (!reliable || self.held.get(number).is_none() && !self.waiting.has_line(self.front))
     }
 
     /// The number with which a packet goes that is dispatched as it comes.

@@ -6,7 +6,8 @@
 //! `held`; every other outcome changes nothing, `unchanged`; Memory comes only where the command would be held, `memory`),
 //! `foresee`, `foresee_data` (outcome, whether the window lets it be acknowledged, how many packets it dispatches), `take_in` (what
 //! was foreseen to be held is, and is not looked at again), `take_in_at_once` (the same, where it hands the one packet out that `take_in`
-//! would dispatch), `take_in_instead` and `dispatches_instead` (the same where the unreliable packets that wait are given up for it),
+//! would dispatch), `take_at_once` (the same of a command of which nothing was foreseen), `take_in_instead` and `dispatches_instead` (the
+//! same where the unreliable packets that wait are given up for it),
 //! `give_way`, `held`, `waiting`, `pop`, `clear`, `open`; and `ArrivingData::of` (which sequenced data command a command is). Laws: as
 //! many turns as packets are held are enough to dispatch all that is due (`turns_suffice`), and what was dispatched before makes
 //! no difference (`earlier_dispatches_do_not_matter`); what comes in sequence never has the flags 2 of an unsequenced packet
@@ -15,9 +16,10 @@
 //! Only tested, in `check_numbers` and `check_peer`: that calls succeed with ample memory, and the worked scripts of one
 //! channel; in check-memory.sh, that the room to dispatch packets goes back once it is for far more than are held or wait.
 //! Neither: that a block's marks go with the last number that is held of it, what look-ups the marks save, and when
-//! `take_in_at_once` gives a packet. It does so, with ample memory, exactly where one comes alone: the next one in order or an unreliable
-//! one of the front, whole, while nothing is held, waits or was dispatched and not popped. But no clause says that it ever gives
-//! one: a body that never does would pass. So would one that gives a packet elsewhere too, as where others are held that stay so.
+//! `take_in_at_once` and `take_at_once` give a packet. They do so, with ample memory, exactly where one comes alone: the next one in
+//! order or an unreliable one of the front, whole, while nothing was dispatched and not popped, nothing is held under the next number,
+//! and nothing waits for the front, or for the number that it becomes. But no clause says that they ever give one: a body that never
+//! does would pass. So would one that gives a packet elsewhere too, as where no more than a piece is held under the next number.
 #![tactic(auto)]
 
 mod arriving_data;
