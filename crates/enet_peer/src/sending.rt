@@ -1,9 +1,9 @@
 //! What a peer is given to send, and puts out.
 
-ghost use Rattle.std.specs.Prelude.{◌≡◌, ◌≤◌, nat_lt};
+ghost use Rattle.std.specs.Prelude.{◌≡◌, ◌≤◌, nat_lt, [], OnOk};
 ghost use Rattle.enet_fragment.specs.Cutting.{planned, piece_count};
 ghost use Rattle.enet_sender.specs.CommandChoice.{fragment_limit};
-ghost use Rattle.enet_peer.specs.Calls.{is_connected, submission_refusal, Submits, pace_of, destination_of, gone_on, PutsOut};
+ghost use Rattle.enet_peer.specs.Calls.{is_connected, submission_refusal, Submits, handed_back, pace_of, destination_of, gone_on, PutsOut};
 
 use crate::{Peer, PeerState};
 use bytes::Bytes;
@@ -17,18 +17,16 @@ impl Peer {
     ///
     /// A refusal is the first that applies: E3 where the peer is not connected; E4 where there is no such channel; E5 where
     /// the body is longer than the limits allow, or would be cut into more than 16,384 pieces; E1 where memory is refused (our
-    /// profile). After it nothing has changed, and the body comes back.
-    pub fn submit(&mut self, channel: u8, flags: u8, body: Bytes) -> Result<(), (Refusal, Bytes)>
-        ensures submits { Submits result self.old.peer self.new.peer channel (record { flags = flags; body = body }) }
+    /// profile). After it nothing has changed, and the body is still there; else it is taken, and an empty one left.
+    pub fn submit(&mut self, channel: u8, flags: u8, body: &mut Bytes) -> Result<(), Refusal>
+        ensures submits { Submits (handed_back result body.new) self.old.peer self.new.peer channel (record { flags = flags; body = body.old }) }
+        ensures taken { OnOk result (body.new ≡ []) }
         ensures room { self.new.room ≡ self.old.room }
     {
         if let Some(why) = self.submission_refusal(channel, body.len()) {
-            return Err((why, body));
+            return Err(why);
         }
-        if let Err(refused) = self.outbox.submit(self.terms.mtu, channel, flags, body) {
-            return Err(refused);
-        }
-        Ok(())
+        self.outbox.submit(self.terms.mtu, channel, flags, body)
     }
 
     /// The first refusal but want of memory that a packet of so many bytes meets on a channel, if there is one: E3, E4 or E5.
