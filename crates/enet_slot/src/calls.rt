@@ -1,6 +1,7 @@
 //! A user's calls on a slot. Each answers E2, with nothing changed, where the slot is free.
 
-ghost use Rattle.std.specs.Prelude.{◌≡◌, true, IfErr};
+ghost use Rattle.std.specs.Prelude.{◌≡◌, true, [], IfErr, OnOk};
+ghost use Rattle.enet_peer.specs.Calls.{handed_back};
 ghost use Rattle.enet_slot.specs.Sharing.{wants_room};
 ghost use Rattle.enet_slot.specs.Calls.{on_peer, Submits, Does, DoesWithMemory, submission, leaving, throttling, set_by};
 
@@ -24,16 +25,15 @@ pub enum Setting {
 
 impl Slot {
     /// Submits a packet to its peer on a channel. A refusal is the first that applies: E2, E3, E4, E5, E1. After it nothing has
-    /// changed, and the body comes back.
-    pub fn submit(&mut self, channel: u8, flags: u8, body: Bytes) -> Result<(), (Refusal, Bytes)>
-        ensures { Submits result (record { flags = flags; body = body }) (on_peer self.old.slot (submission channel (record { flags = flags; body = body }))) self.old.slot self.new.slot }
+    /// changed, and the body is still there; else it is taken, and an empty one left.
+    pub fn submit(&mut self, channel: u8, flags: u8, body: &mut Bytes) -> Result<(), Refusal>
+        ensures submits { Submits (handed_back result body.new) (record { flags = flags; body = body.old }) (on_peer self.old.slot (submission channel (record { flags = flags; body = body.old }))) self.old.slot self.new.slot }
+        ensures taken { OnOk result (body.new ≡ []) }
     {
         let Some(peer) = &mut self.peer else {
-            return Err((Refusal::NoSuchPeer, body));
+            return Err(Refusal::NoSuchPeer);
         };
-        if let Err(refused) = peer.submit(channel, flags, body) {
-            return Err(refused);
-        }
+        peer.submit(channel, flags, body)?;
         self.let_go();
         Ok(())
     }
