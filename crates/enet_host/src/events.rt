@@ -13,13 +13,23 @@ use enet_codec::{Event, Packet, PeerRef};
 use enet_sleepers::Sleepers;
 use enet_slot::Slot;
 
+/// The first slot in turn that has an event. The one whose turn it is is asked first, since a host of one slot has no other.
+pub(crate) fn teller(slots: &[Slot], sleepers: &Sleepers, peers: u16, from: u16) -> Option<u16>
+    requires within { from < peers }
+    requires all { peers ≡ length slots.now }
+    requires sleepers { (now : ℕ) × KeepsSleepers now sleepers.now (all_shown slots.now) }
+    ensures first { IfSome result (λ i. IsFirst tells (all_shown slots.now) from i) }
+    ensures none { IfNone result (HoldsNowhere tells (all_shown slots.now)) }
+    ensures within { IfSome result (λ i. i < peers) }
+{
+    if slots[usize::from(from)].tells() {
+        return Some(from);
+    }
+    first_telling(slots, sleepers, peers, from)
+}
+
 /// The first slot in turn that has an event. Those that sleep have none.
-pub(crate) fn first_telling(
-    slots: &[Slot],
-    sleepers: &Sleepers,
-    peers: u16,
-    from: u16,
-) -> Option<u16>
+fn first_telling(slots: &[Slot], sleepers: &Sleepers, peers: u16, from: u16) -> Option<u16>
     requires within { from < peers }
     requires all { peers ≡ length slots.now }
     requires sleepers { (now : ℕ) × KeepsSleepers now sleepers.now (all_shown slots.now) }

@@ -7,7 +7,7 @@ ghost use Rattle.enet_slot.specs.Calls.{tells};
 ghost use Rattle.enet_host.specs.Ticking.{IsDueIn};
 ghost use Rattle.enet_host.specs.Foretelling.{next_name, teller_of, packet_of, body_of, Foretells, IsTeller};
 
-use crate::events::{first_telling, name_at, packet_of};
+use crate::events::{name_at, packet_of, teller};
 use crate::host::HostCore;
 use crate::ticking::SHARING_INTERVAL;
 use bytes::Bytes;
@@ -43,7 +43,7 @@ impl HostCore {
         ensures none { IfNone result (HoldsNowhere tells self.now.slots) }
         ensures within { IfSome result (λ i. i < self.now.config.peers) }
     {
-        first_telling(
+        teller(
             &self.slots,
             &self.sleepers,
             self.start.config.peers,

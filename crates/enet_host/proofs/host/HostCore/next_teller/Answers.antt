@@ -9,10 +9,10 @@ use Rattle.enet_host.proofs.host.HostCore.next_teller.Goals as goal
 
 pub returns-clause-first : goal.returns-clause-first
 returns-clause-first c =
-    subst (λ (h : Host). IfSome c.first_telling.result (λ i. IsFirst tells h.slots h.event_from i)) c.self.view_is
-    (subst (λ (xs : List Slot). IfSome c.first_telling.result (λ i. IsFirst tells (all_shown xs) c.self.inside.event_from i)) c.deref.ensures.value c.first_telling.ensures.first)
+    subst (λ (h : Host). IfSome c.teller.result (λ i. IsFirst tells h.slots h.event_from i)) c.self.view_is
+    (subst (λ (xs : List Slot). IfSome c.teller.result (λ i. IsFirst tells (all_shown xs) c.self.inside.event_from i)) c.deref.ensures.value c.teller.ensures.first)
 
 pub returns-clause-none : goal.returns-clause-none
 returns-clause-none c =
-    subst (λ (h : Host). IfNone c.first_telling.result (HoldsNowhere tells h.slots)) c.self.view_is
-    (subst (λ (xs : List Slot). IfNone c.first_telling.result (HoldsNowhere tells (all_shown xs))) c.deref.ensures.value c.first_telling.ensures.none)
+    subst (λ (h : Host). IfNone c.teller.result (HoldsNowhere tells h.slots)) c.self.view_is
+    (subst (λ (xs : List Slot). IfNone c.teller.result (HoldsNowhere tells (all_shown xs))) c.deref.ensures.value c.teller.ensures.none)
