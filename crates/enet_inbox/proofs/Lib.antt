@@ -10,3 +10,4 @@ pub mod Bounding
 pub mod Weighing
 pub mod Limits
 pub mod Foresights
+pub mod AtOnce

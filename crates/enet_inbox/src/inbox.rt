@@ -9,7 +9,7 @@ ghost use Rattle.enet_receiver.specs.ArrivingData.{data_command};
 ghost use Rattle.enet_inbox.specs.Bounds.{most_places, most_bytes};
 ghost use Rattle.enet_inbox.specs.Invariant.{packets_in};
 ghost use Rattle.enet_inbox.specs.Inbox.{empty_inbox, place_limit, places_of, untaken_of, waiting_of, is_at_limit, is_full, is_full_for, cleared, forgotten, narrowed, given_way};
-ghost use Rattle.enet_inbox.specs.DataEffect.{plain_arrival, arrival, sequenced, unsequenced_taken, passed_over, passed_length, passed_sequenced, is_kept};
+ghost use Rattle.enet_inbox.specs.DataEffect.{handled, plain_arrival, arrival, sequenced, unsequenced_taken, passed_over, passed_length, passed_sequenced, is_kept};
 ghost use Rattle.enet_inbox.specs.InboxParts.{foresight_of, unsequenced_verdict, plain_foreseen, foreseen, foreseen_sequenced, with_room, told};
 ghost use Rattle.enet_inbox.specs.Private.InboxParts.{met_by, FindsRoom};
 
@@ -18,7 +18,7 @@ use crate::receivers::{
     clear_all, give_way, give_way_but, held_in, keep_first, open_all, packets_in, waiting_in,
     waiting_packets_in,
 };
-use crate::taking::{append, take_in, take_in_at_once, take_in_instead};
+use crate::taking::{append, take_at_once, take_in, take_in_at_once, take_in_instead};
 use enet_codec::{Command, Packet, Refusal, Stop};
 use enet_packets::{Bodies, look_at};
 use enet_receiver::{ArrivingData, Foresight, Incoming};
@@ -148,6 +148,31 @@ impl Inbox {
         } else {
             Err(Stop::Memory)
         }
+    }
+
+    /// Takes a sequenced data command in that may be acknowledged, and of which nothing was foreseen, where its packet waits to be taken
+    /// at once: that is all that `foresee` and `take_in` would do with it. False, with nothing changed, where there is no such channel,
+    /// so much waits that it may begin no packet, its packet doesn't come alone, as `take_at_once` of its receiver says, or memory is
+    /// refused; then it is to go to them. The contract says what holds where it is true, not when it must be.
+    #[inline(always)]
+    pub fn take_at_once(&mut self, arriving: ArrivingData<'_>) -> bool
+        ensures taken { IsTrue result → sequenced self.old arriving.entry.head.channel (Some (data_command arriving.entry)) ≡ handled self.new true }
+        ensures unchanged { result ≡ false → self.new ≡ self.old }
+    {
+        let channel = arriving.head.channel as usize;
+        if channel >= self.receivers.len() {
+            return false;
+        }
+        if self.is_full_for(&self.receivers[channel], arriving) {
+            return false;
+        }
+        let receiver = &mut self.receivers[channel];
+        let Some(bytes) = take_at_once(receiver, &mut self.untaken, arriving, &mut self.bodies)
+        else {
+            return false;
+        };
+        self.waiting += bytes;
+        true
     }
 
     /// Passes a data command over, as a peer does that dispatches nothing more: S6, S8 and S9 as in `foresee`, where only

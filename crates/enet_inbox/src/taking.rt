@@ -3,6 +3,7 @@
 ghost use Rattle.std.specs.Prelude.{◌≡◌, ◌+◌, ◌++◌, ◌≤◌, [], ◌∷◌, All, Bool, IsTrue, IfSome, IfNone, Some, false, length, map};
 ghost use Rattle.std.specs.VecDeque.{deque_len, deque_capacity};
 ghost use Rattle.enet_codec.specs.declared.packet.Packet.{Packet};
+ghost use Rattle.enet_seq.specs.Windows.{acknowledges};
 ghost use Rattle.enet_receiver.specs.ArrivingData.{data_command};
 ghost use Rattle.enet_receiver.specs.declared.took.Took.TheVariants.{Held};
 ghost use Rattle.enet_receiver.specs.Foresight.{outcome_for, after_command, alone, foreseen, WouldBeHeld};
@@ -117,6 +118,39 @@ pub(crate) fn take_in_at_once(
         return None;
     }
     let Some(packet) = receiver.take_in_at_once(arriving, bodies) else {
+        return None;
+    };
+    let bytes = packet.body.len() as u128;
+    untaken.push_back_reserved(packet);
+    Some(bytes)
+}
+
+/// Takes a command in that the receiver would take in while the inbox has room, where its packet comes alone, and puts that to the
+/// untaken ones at once. Answers how many bytes it has; None, with nothing changed, where it wouldn't, its packet doesn't come alone
+/// or memory is refused.
+pub(crate) fn take_at_once(
+    receiver: &mut Incoming,
+    untaken: &mut VecDeque<Packet>,
+    arriving: ArrivingData<'_>,
+    bodies: &mut Bodies,
+) -> Option<u128>
+    requires short { All IsShort untaken.old.items }
+    ensures held { IfSome result (λ _. outcome_for receiver.old (Some (data_command arriving.entry)) false ≡ Held) }
+    ensures acknowledged { IfSome result (λ _. IsTrue (acknowledges receiver.old.receiver.front arriving.entry.head.number)) }
+    ensures receiver { IfSome result (λ _. receiver.new ≡ emptied (after_command receiver.old (Some (data_command arriving.entry)) false)) }
+    ensures untaken { IfSome result (λ _. untaken.new.items
+        ≡ untaken.old.items ++ map (packet_of receiver.old.channel) (after_command receiver.old (Some (data_command arriving.entry)) false).receiver.dispatched) }
+    ensures bytes { IfSome result (λ bytes. bytes_in untaken.new.items ≡ bytes_in untaken.old.items + bytes) }
+    ensures short { All IsShort untaken.new.items }
+    ensures as_much_held { held_bytes receiver.new.receiver ≡ held_bytes receiver.old.receiver }
+    ensures as_many_held { held_packets receiver.new.receiver ≡ held_packets receiver.old.receiver }
+    ensures same_receiver { IfNone result (receiver.new ≡ receiver.old) }
+    ensures same_untaken { IfNone result (untaken.new.items ≡ untaken.old.items) }
+{
+    if untaken.len() == untaken.capacity() && untaken.reserve(1).is_err() {
+        return None;
+    }
+    let Some(packet) = receiver.take_at_once(arriving, bodies) else {
         return None;
     };
     let bytes = packet.body.len() as u128;
