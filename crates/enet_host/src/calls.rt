@@ -1,7 +1,8 @@
 //! Calls on the slot that a name means.
 
-ghost use Rattle.std.specs.Prelude.{◌≡◌, ◌<◌, length, is_some, true, IsTrue, IfSome, IfNone, IfErr, None, Some};
+ghost use Rattle.std.specs.Prelude.{◌≡◌, ◌<◌, length, is_some, true, IsTrue, IfSome, IfNone, IfErr, OnOk, None, Some, []};
 ghost use Rattle.std.specs.Option.{option_copied};
+ghost use Rattle.enet_peer.specs.Calls.{handed_back};
 ghost use Rattle.enet_slot.specs.Calls.{Submits, Does, DoesWithMemory, submission, leaving, throttling, set_by};
 ghost use Rattle.enet_slot.specs.Sharing.{wants_room_in};
 ghost use Rattle.enet_slot.specs.Slotted.{peer_shown, all_shown};
@@ -34,24 +35,22 @@ pub(crate) fn peer_of(slots: &[Slot], name: PeerRef) -> Option<&Peer>
     slots[place].peer()
 }
 
-/// Submits a packet to the peer of this name.
+/// Submits a packet to the peer of this name: its body is taken, and an empty one left, unless it is refused.
 pub(crate) fn submit(
     slots: &mut Vec<Slot>,
     name: PeerRef,
     channel: u8,
     flags: u8,
-    body: Bytes,
-) -> Result<(), (Refusal, Bytes)>
-    ensures does { Submits result (record { flags = flags; body = body }) (on_named (all_shown slots.old.items) name (submission channel (record { flags = flags; body = body }))) (all_shown slots.old.items) (all_shown slots.new.items) }
+    body: &mut Bytes,
+) -> Result<(), Refusal>
+    ensures does { Submits (handed_back result body.new) (record { flags = flags; body = body.old }) (on_named (all_shown slots.old.items) name (submission channel (record { flags = flags; body = body.old }))) (all_shown slots.old.items) (all_shown slots.new.items) }
+    ensures taken { OnOk result (body.new ≡ []) }
     ensures count { length slots.new.items ≡ length slots.old.items }
 {
     let Some(place) = position_of(slots, name) else {
-        return Err((Refusal::NoSuchPeer, body));
+        return Err(Refusal::NoSuchPeer);
     };
-    if let Err(refused) = slots[place].submit(channel, flags, body) {
-        return Err(refused);
-    }
-    Ok(())
+    slots[place].submit(channel, flags, body)
 }
 
 /// Ends the connection of the peer of this name in this way.

@@ -32,18 +32,18 @@ impl HostCore {
         peer: PeerRef,
         channel: u8,
         flags: u8,
-        body: Bytes,
+        mut body: Bytes,
     ) -> Result<(), (Refusal, Bytes)>
         ensures submits { Submits result (record { flags = flags; body = body }) (on_named self.old.slots peer (submission channel (record { flags = flags; body = body }))) self.old.slots self.new.slots }
         ensures rest { KeepsRest self.old self.new }
     {
         self.sleepers.wake(usize::from(peer.slot));
-        // From here to the sender of the channel each call hands up a refusal alone, and doesn't end in the call that it makes: a whole
-        // result, which has room for the body that comes back, would be copied at each step.
-        if let Err(refused) = calls::submit(&mut self.slots, peer, channel, flags, body) {
-            return Err(refused);
+        // The sender of the channel takes the body out of this place, once nothing can be refused any more: handed down by value and back
+        // by a refusal, it would be copied at each step between.
+        match calls::submit(&mut self.slots, peer, channel, flags, &mut body) {
+            Ok(()) => Ok(()),
+            Err(why) => Err((why, body)),
         }
-        Ok(())
     }
 
     /// The first refusal but want of memory that a packet of so many bytes meets on a channel of this peer: E2, E3, E4 or E5;

@@ -1,4 +1,5 @@
 use Rattle.enet_sender.specs.CommandChoice.{Packet}
+use Rattle.enet_peer.specs.Calls.{handed_back}
 use Rattle.enet_slot.specs.Calls.{submission}
 use Rattle.enet_slot.specs.Slotted.{all_shown}
 use Rattle.enet_host.proofs.Sleeping.{woken-awake}
@@ -12,16 +13,6 @@ invariant_of-self c =
     keeps-after c.self.inside.start.config.peers c.self.inside.start.clock c.self.inside.start.clock c.self.inside.start.config.generations c.self.inside.start.config.max_packet c.self.inside.start.config.max_waiting c.self.inside.service_from c.self.inside.event_from c.self.inside.service_from c.self.inside.event_from c.self.inside.sleepers c.wake.new.self
     c.self.inside.slots.items c.submit.new.slots.items c.self.invariant
     c.submit.ensures.count c.self.invariant.service c.self.invariant.event
-    (submits-kept c.self.inside.start.clock c.wake.new.self (all_shown c.self.inside.slots.items) (all_shown c.submit.new.slots.items) c.args.peer q (submission c.args.channel q) c.submit.result
+    (submits-kept c.self.inside.start.clock c.wake.new.self (all_shown c.self.inside.slots.items) (all_shown c.submit.new.slots.items) c.args.peer q (submission c.args.channel q) (handed_back c.submit.result c.submit.new.body)
     (woken-kept c.self.inside.start.config.peers c.self.inside.start.clock c.self.inside.start.config.generations c.self.inside.start.config.max_packet c.self.inside.start.config.max_waiting c.self.inside.service_from c.self.inside.event_from c.self.inside.sleepers c.wake.new.self c.self.inside.slots.items c.self.invariant c.wake.ensures.kept) (woken-awake c.self.inside.start.clock c.args.peer.slot c.from.result c.self.inside.sleepers c.wake.new.self (all_shown c.self.inside.slots.items) c.from.ensures c.self.invariant.sleeping c.wake.ensures.awake) c.submit.ensures.does)
-    (submits-limited _ _ (all_shown c.self.inside.slots.items) (all_shown c.submit.new.slots.items) c.args.peer q (submission c.args.channel q) c.submit.result c.self.invariant.limited (submission-keeps _ _ c.args.channel q) c.submit.ensures.does)
-
-pub invariant_of-self-2 : goal.invariant_of-self-2
-invariant_of-self-2 c =
-    let q : Packet = record { flags = c.args.flags; body = c.args.body } in
-    keeps-after c.self.inside.start.config.peers c.self.inside.start.clock c.self.inside.start.clock c.self.inside.start.config.generations c.self.inside.start.config.max_packet c.self.inside.start.config.max_waiting c.self.inside.service_from c.self.inside.event_from c.self.inside.service_from c.self.inside.event_from c.self.inside.sleepers c.wake.new.self
-    c.self.inside.slots.items c.submit.new.slots.items c.self.invariant
-    c.submit.ensures.count c.self.invariant.service c.self.invariant.event
-    (submits-kept c.self.inside.start.clock c.wake.new.self (all_shown c.self.inside.slots.items) (all_shown c.submit.new.slots.items) c.args.peer q (submission c.args.channel q) c.submit.result
-    (woken-kept c.self.inside.start.config.peers c.self.inside.start.clock c.self.inside.start.config.generations c.self.inside.start.config.max_packet c.self.inside.start.config.max_waiting c.self.inside.service_from c.self.inside.event_from c.self.inside.sleepers c.wake.new.self c.self.inside.slots.items c.self.invariant c.wake.ensures.kept) (woken-awake c.self.inside.start.clock c.args.peer.slot c.from.result c.self.inside.sleepers c.wake.new.self (all_shown c.self.inside.slots.items) c.from.ensures c.self.invariant.sleeping c.wake.ensures.awake) c.submit.ensures.does)
-    (submits-limited _ _ (all_shown c.self.inside.slots.items) (all_shown c.submit.new.slots.items) c.args.peer q (submission c.args.channel q) c.submit.result c.self.invariant.limited (submission-keeps _ _ c.args.channel q) c.submit.ensures.does)
+    (submits-limited _ _ (all_shown c.self.inside.slots.items) (all_shown c.submit.new.slots.items) c.args.peer q (submission c.args.channel q) (handed_back c.submit.result c.submit.new.body) c.self.invariant.limited (submission-keeps _ _ c.args.channel q) c.submit.ensures.does)
