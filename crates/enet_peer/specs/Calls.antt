@@ -45,15 +45,15 @@ submission_refusal p channel len =
 abbrev pub submitted : Peering → ℕ → Packet → Peering
 submitted p channel q = record p { outbox = outbox.submitted p.outbox p.terms.mtu channel q }
 
--- what a call of submit did: a refusal changes nothing and hands the body back
-abbrev pub Refuses : Refusal → Option Refusal → Type 0
-Refuses Memory first = first ≡ None
-Refuses why first = first ≡ Some why
-
 -- a call's answer with the body that it left where it was given: a refusal hands that back
 abbrev pub handed_back : {T : Type 0} → Result T Refusal → List ℕ → Result T (Refusal × List ℕ)
 handed_back (Ok done) left = Ok done
 handed_back (Err why) left = Err (why, left)
+
+-- what a call of submit did: a refusal changes nothing and hands the body back
+abbrev pub Refuses : Refusal → Option Refusal → Type 0
+Refuses Memory first = first ≡ None
+Refuses why first = first ≡ Some why
 
 abbrev pub Submits : {T : Type 0} → Result T (Refusal × List ℕ) → Peering → Peering → ℕ → Packet → Type 0
 Submits (Ok done) old new channel q = (submission_refusal old channel (length q.body) ≡ None) × (new ≡ submitted old channel q)

@@ -6,7 +6,7 @@
 //!
 //! Each exactly by the definitions of specs/Sender and specs/CommandChoice:
 //! - `Outgoing::submit`: how a packet goes, its commands and their numbers, all or none; E5 exactly above 16,384 pieces (`too_large`);
-//!   a refused body comes back and nothing has changed (`refused`).
+//!   a refused body is still there and nothing has changed (`refused`).
 //! - `next_due`: the first due resend, else the head of the queue exactly where the sender's span and the bytes in transit let it go,
 //!   written where it fits; NoRoom and Nothing change nothing. Where `has_to_wait` answers true, nothing goes, at whatever time
 //!   (`Waits`, specs/Waiting).
