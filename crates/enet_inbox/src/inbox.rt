@@ -6,6 +6,7 @@ ghost use Rattle.enet_codec.specs.Message.{view};
 ghost use Rattle.enet_fragment.specs.DataCommand.{data_of};
 ghost use Rattle.enet_unsequenced.specs.Groups.{dispatches};
 ghost use Rattle.enet_receiver.specs.ArrivingData.{data_command};
+ghost use Rattle.enet_receiver.specs.Foresight.{ReceivingEnd};
 ghost use Rattle.enet_inbox.specs.Bounds.{most_places, most_bytes};
 ghost use Rattle.enet_inbox.specs.Invariant.{packets_in};
 ghost use Rattle.enet_inbox.specs.Inbox.{empty_inbox, place_limit, places_of, untaken_of, waiting_of, is_at_limit, is_full, is_full_for, cleared, forgotten, narrowed, given_way};
@@ -159,14 +160,10 @@ impl Inbox {
         ensures taken { IsTrue result → sequenced self.old arriving.entry.head.channel (Some (data_command arriving.entry)) ≡ handled self.new true }
         ensures unchanged { result ≡ false → self.new ≡ self.old }
     {
-        let channel = arriving.head.channel as usize;
-        if channel >= self.receivers.len() {
+        if !self.has_room_for(arriving) {
             return false;
         }
-        if self.is_full_for(&self.receivers[channel], arriving) {
-            return false;
-        }
-        let receiver = &mut self.receivers[channel];
+        let receiver = &mut self.receivers[arriving.head.channel as usize];
         let Some(bytes) = take_at_once(receiver, &mut self.untaken, arriving, &mut self.bodies)
         else {
             return false;
@@ -307,6 +304,16 @@ impl Inbox {
         }
         let bytes = self.waiting - held_in(&self.receivers);
         is_at_limit(self.max_waiting, bytes, self.untaken.len())
+    }
+
+    /// Whether the channel of a command is there, and the command may begin a packet at its receiver.
+    #[inline(always)]
+    fn has_room_for(&self, arriving: ArrivingData<'_>) -> bool
+        ensures there { IsTrue result → arriving.entry.head.channel < length self.now.receivers }
+        ensures room { IsTrue result → ((r : ReceivingEnd) → slice_get self.now.receivers arriving.entry.head.channel ≡ Some r → is_full_for self.now r (data_command arriving.entry) ≡ false) }
+    {
+        let channel = arriving.head.channel as usize;
+        channel < self.receivers.len() && !self.is_full_for(&self.receivers[channel], arriving)
     }
 
     /// Whether so much would wait once the unreliable packets that wait had given way.

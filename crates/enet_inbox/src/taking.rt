@@ -128,6 +128,7 @@ pub(crate) fn take_in_at_once(
 /// Takes a command in that the receiver would take in while the inbox has room, where its packet comes alone, and puts that to the
 /// untaken ones at once. Answers how many bytes it has; None, with nothing changed, where it wouldn't, its packet doesn't come alone
 /// or memory is refused.
+#[inline(always)]
 pub(crate) fn take_at_once(
     receiver: &mut Incoming,
     untaken: &mut VecDeque<Packet>,

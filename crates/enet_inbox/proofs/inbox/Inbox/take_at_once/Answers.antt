@@ -2,13 +2,12 @@ use Rattle.std.proofs.Common.{◌≡◌, ◌<◌, ◌+◌, ◌^◌, true, false,
 use Rattle.std.specs.Prelude.{slice_get, slice_set}
 use Rattle.std.proofs.lemmas.Option.{slice_get_read}
 use Rattle.enet_receiver.specs.ArrivingData.{data_command}
-use Rattle.enet_receiver.specs.Foresight.{ReceivingEnd}
 use Rattle.enet_inbox.specs.Inbox.{Inbox, is_full_for}
 use Rattle.enet_inbox.specs.DataEffect.{DataEffect, handled, sequenced}
 use Rattle.enet_inbox.specs.Bounds.{IsBounded}
 use Rattle.enet_inbox.specs.Invariant.{IsInPlace, KeepsInbox}
 use Rattle.enet_inbox.specs.contracts.inbox.Inbox.{the_view}
-use Rattle.enet_inbox.proofs.Keeping.{in_place, looked_at_twice, kept_passed, bounded}
+use Rattle.enet_inbox.proofs.Keeping.{in_place, kept_passed, bounded}
 use Rattle.enet_inbox.proofs.Counting.{counts_passed}
 use Rattle.enet_inbox.proofs.Limits.{bounded_sequenced}
 use Rattle.enet_inbox.proofs.AtOnce.{GoesThrough, taken_at_once}
@@ -16,7 +15,7 @@ use Rattle.enet_inbox.proofs.inbox.Inbox.take_at_once.Goals.{In-Some}
 use Rattle.enet_inbox.proofs.inbox.Inbox.take_at_once.Goals as goal
 
 low : (c : In-Some) → c.args.arriving.head.channel < length c.self.inside.receivers.items
-low c = omega (arith, c.if-channel-len.false, c.len.ensures)
+low c = subst (λ (x : Inbox). c.args.arriving.head.channel < length x.receivers) (sym c.self.view_is) (c.has_room_for.ensures.there c.if-not-has_room_for.false)
 
 there : (c : In-Some) → slice_get c.self.inside.receivers.items c.args.arriving.head.channel ≡ Some c.index_mut-receiver.result.now
 there c = slice_get_read c.self.inside.receivers.items (length c.self.inside.receivers.items) c.args.arriving.head.channel c.index_mut-receiver.result.now refl (low c) c.index_mut-receiver.ensures.value
@@ -25,19 +24,15 @@ place : (c : In-Some) → IsInPlace c.self.inside.max_packet c.args.arriving.hea
 place c = in_place (the_view c.self.inside) c.self.inside.waiting c.args.arriving.head.channel c.index_mut-receiver.result.now c.self.invariant.inbox (there c)
 
 through : (c : In-Some) → GoesThrough (the_view c.self.inside) c.args.arriving.head.channel (data_command c.args.arriving) c.index_mut-receiver.result.now
-through c =
-    let same : c.index.result.now ≡ c.index_mut-receiver.result.now = looked_at_twice c.self.inside.receivers.items c.args.arriving.head.channel c.index.result.now c.index_mut-receiver.result.now (low c) c.index.ensures c.index_mut-receiver.ensures.value in
-    record {
-      there = there c;
-      own = (place c).channel;
-      room =
-          ap (λ (r : ReceivingEnd). is_full_for (the_view c.self.inside) r (data_command c.args.arriving)) (sym same)
-          ∙ ap (λ (x : Inbox). is_full_for x c.index.result.now (data_command c.args.arriving)) c.self.view_is
-          ∙ sym c.is_full_for.ensures
-          ∙ c.if-is_full_for.false;
-      held = c.in-Some.ensures.held;
-      acknowledged = c.in-Some.ensures.acknowledged;
-    }
+through c = record {
+  there = there c;
+  own = (place c).channel;
+  room =
+      subst (λ (x : Inbox). slice_get x.receivers c.args.arriving.head.channel ≡ Some c.index_mut-receiver.result.now → is_full_for x c.index_mut-receiver.result.now (data_command c.args.arriving) ≡ false) (sym c.self.view_is)
+      (c.has_room_for.ensures.room c.if-not-has_room_for.false c.index_mut-receiver.result.now) (there c);
+  held = c.in-Some.ensures.held;
+  acknowledged = c.in-Some.ensures.acknowledged;
+}
 
 -- the inbox after it
 after : (c : In-Some) → sequenced (the_view c.self.inside) c.args.arriving.head.channel (Some (data_command c.args.arriving))
