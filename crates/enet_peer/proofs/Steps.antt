@@ -1,12 +1,15 @@
 -- One command more of a datagram.
-use Rattle.std.proofs.Common.{◌≡◌, ℕ, List, [], ◌++◌, take, drop, Some, None, Ok, Err, sym, subst}
+use Rattle.std.proofs.Common.{◌≡◌, ◌≢◌, ℕ, ◌≤◌, Bool, true, false, IsTrue, IfSome, List, [], ◌++◌, length, take, drop, Some, None, Ok, Err, refl, sym, ap, subst, arith}
+use Rattle.std.specs.Bool.{then_some}
 use Rattle.std.proofs.lemmas.List.{take-append-drop}
 use Rattle.enet_codec.specs.declared.stop.Stop.{Stop}
+use Rattle.enet_codec.specs.declared.stop.Stop.TheVariants as stop
 use Rattle.enet_codec.specs.Message.{Message, Spells}
 use Rattle.enet_codec.specs.declared.event.Received.{Received}
 use Rattle.enet_peer.specs.Peering.{Peering}
-use Rattle.enet_peer.specs.CommandEffect.{obeyed, wants_memory, Obeys}
-use Rattle.enet_peer.specs.Handling.{Arrival, Handles, nothing_left, stops, goes_on, counted, one_more}
+use Rattle.enet_peer.specs.CommandEffect.{Outcome, obeyed, wants_memory, Obeys}
+use Rattle.enet_peer.specs.Handling.{Arrival, Handles, SpellsNone, nothing_left, no_command, stops, goes_on, counted}
+use Rattle.enet_peer.specs.Private.Handling.{GoesOn, StopsAt}
 
 pub ends : (arrival : Arrival) (handled : ℕ) (bytes : List ℕ) (p : Peering) → bytes ≡ []
     → Handles arrival (record { handled = handled; peer = p }) bytes (record { handled = handled; stop = None }) p
@@ -18,19 +21,34 @@ whole : (arrival : Arrival) (handled len : ℕ) (bytes : List ℕ) (p q : Peerin
     → Handles arrival (record { handled = handled; peer = p }) (take len bytes ++ drop len bytes) answer q → Handles arrival (record { handled = handled; peer = p }) bytes answer q
 whole arrival handled len bytes p q answer h = subst (λ (bs : List ℕ). Handles arrival (record { handled = handled; peer = p }) bs answer q) (take-append-drop len bytes) h
 
-pub stops-at : (arrival : Arrival) (handled len : ℕ) (bytes : List ℕ) (m : Message) (why : Stop) (p q : Peering) (n : ℕ)
-    → Spells (take len bytes) m → Obeys {T = Unit {0}} (Err why) (wants_memory p arrival.now arrival.sent m) (obeyed p arrival.now arrival.sent m) p q → n ≡ counted handled why
-    → Handles arrival (record { handled = handled; peer = p }) bytes (record { handled = n; stop = Some why }) q
-stops-at arrival handled len bytes m why p q n spelled obeys count =
-    whole arrival handled len bytes p q (record { handled = n; stop = Some why })
-    (subst (λ (k : ℕ). Handles arrival (record { handled = handled; peer = p }) (take len bytes ++ drop len bytes) (record { handled = k; stop = Some why }) q) (sym count)
-    (stops (record { handled = handled; peer = p }) (take len bytes) (drop len bytes) m why q spelled obeys))
+pub none-at : (arrival : Arrival) (bytes : List ℕ) (p : Peering) → 1 ≤ length bytes → SpellsNone bytes → StopsAt arrival bytes p p stop.BadCommand
+none-at arrival bytes p some none = λ handled.
+    let left : bytes ≢ [] = λ e. absurd (omega (arith, some, ap length e)) in
+    no_command (record { handled = handled; peer = p }) bytes left none
 
-pub goes-on-at : (arrival : Arrival) (handled len : ℕ) (bytes rest : List ℕ) (m : Message) (answer : Received) (p q r : Peering) (n : ℕ)
-    → Spells (take len bytes) m → Obeys {T = Unit {0}} (Ok tt) (wants_memory p arrival.now arrival.sent m) (obeyed p arrival.now arrival.sent m) p q → rest ≡ drop len bytes → n ≡ one_more handled
-    → Handles arrival (record { handled = n; peer = q }) rest answer r → Handles arrival (record { handled = handled; peer = p }) bytes answer r
-goes-on-at arrival handled len bytes rest m answer p q r n spelled obeys left count later =
-    whole arrival handled len bytes p r answer
-    (goes_on (record { handled = handled; peer = p }) (take len bytes) (drop len bytes) m answer q r spelled obeys
-    (subst (λ (k : ℕ). Handles arrival (record { handled = k; peer = q }) (drop len bytes) answer r) count
-    (subst (λ (bs : List ℕ). Handles arrival (record { handled = n; peer = q }) bs answer r) left later)))
+pub stops-at : (arrival : Arrival) (len : ℕ) (bytes : List ℕ) (m : Message) (why : Stop) (p q : Peering)
+    → Spells (take len bytes) m → Obeys {T = Unit {0}} (Err why) (wants_memory p arrival.now arrival.sent m) (obeyed p arrival.now arrival.sent m) p q → StopsAt arrival bytes p q why
+stops-at arrival len bytes m why p q spelled obeys = λ handled.
+    whole arrival handled len bytes p q (record { handled = counted handled why; stop = Some why })
+    (stops (record { handled = handled; peer = p }) (take len bytes) (drop len bytes) m why q spelled obeys)
+
+pub goes-on-at : (arrival : Arrival) (len : ℕ) (bytes : List ℕ) (m : Message) (p q : Peering) → 1 ≤ len → len ≤ length bytes
+    → Spells (take len bytes) m → Obeys {T = Unit {0}} (Ok tt) (wants_memory p arrival.now arrival.sent m) (obeyed p arrival.now arrival.sent m) p q → GoesOn arrival bytes p q len
+goes-on-at arrival len bytes m p q some within spelled obeys = (
+  some,
+  within,
+  λ handled answer last later.
+      whole arrival handled len bytes p last answer (goes_on (record { handled = handled; peer = p }) (take len bytes) (drop len bytes) m answer q last spelled obeys later),
+)
+
+-- the same where the command was taken in without a stop
+pub taken-at : (arrival : Arrival) (len : ℕ) (bytes : List ℕ) (m : Message) (p q : Peering) → 1 ≤ len → len ≤ length bytes
+    → Spells (take len bytes) m → obeyed p arrival.now arrival.sent m ≡ record { stop = None; after = q } → GoesOn arrival bytes p q len
+taken-at arrival len bytes m p q some within spelled e =
+    goes-on-at arrival len bytes m p q some within spelled (ap (λ (o : Outcome). o.stop) e, sym (ap (λ (o : Outcome). o.after) e))
+
+-- the same of a call that says whether it took the command in
+pub taken-if : (arrival : Arrival) (len : ℕ) (bytes : List ℕ) (m : Message) (p q : Peering) (is_taken : Bool) → 1 ≤ len → len ≤ length bytes → Spells (take len bytes) m
+    → (IsTrue is_taken → obeyed p arrival.now arrival.sent m ≡ record { stop = None; after = q }) → IfSome (then_some is_taken len) (GoesOn arrival bytes p q)
+taken-if arrival len bytes m p q true some within spelled done = taken-at arrival len bytes m p q some within spelled (done refl)
+taken-if arrival len bytes m p q false some within spelled done = tt

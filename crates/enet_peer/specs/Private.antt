@@ -1,3 +1,4 @@
 -- What only private functions and proofs speak of: no caller is promised anything by it.
 pub mod Acting
+pub mod Handling
 pub mod Peered

@@ -6,15 +6,16 @@
 //! `what_was_put_out_comes`: of bytes that spell a list of commands, just these come to the peer.
 //! Only tested, by `check_peer`: that commands find memory, and worked datagrams.
 
-ghost use Rattle.std.specs.Prelude.{◌≡◌, ℕ, ◌≤◌, List, Option, drop, length};
+ghost use Rattle.std.specs.Prelude.{◌≡◌, ℕ, ◌≤◌, List, Option, IfSome, IfNone, drop, length};
 ghost use Rattle.enet_codec.specs.declared.event.Received.{Received};
 ghost use Rattle.enet_codec.specs.Message.{Message};
 ghost use Rattle.enet_codec.specs.Datagram.{SpellsAll};
 ghost use Rattle.enet_peer.specs.Peering.{Peering};
 ghost use Rattle.enet_peer.specs.Handling.{Arrival, SoFar, Handles, HandlesEach, counted};
+ghost use Rattle.enet_peer.specs.Private.Handling.{Advances, GoesOn};
 
 use crate::Peer;
-use enet_codec::{Received, Stop, read_command};
+use enet_codec::{Received, Stop, read_acknowledged, read_command};
 
 /// The commands of a datagram come to a peer at the time `now`, in milliseconds, one after another, until none is left or
 /// one stops the datagram. `sent` is the sent time that the datagram's header tells, and `commands` is all that stands behind
@@ -29,25 +30,63 @@ pub fn receive(peer: &mut Peer, now: u32, sent: Option<u16>, commands: &[u8]) ->
     let mut handled: u32 = 0;
     let mut rest = commands;
     while !rest.is_empty() {
-        let Some((command, len)) = read_command(rest) else {
-            return Received {
-                handled,
-                stop: Some(Stop::BadCommand),
-            };
-        };
-        if let Err(stop) = peer.command(now, sent, &command) {
-            return Received {
-                handled: counted(handled, stop),
-                stop: Some(stop),
-            };
+        match next(peer, now, sent, rest) {
+            Ok(len) => {
+                rest = bytes_after(rest, len);
+                handled = handled.saturating_add(1);
+            }
+            Err(stop) => {
+                return Received {
+                    handled: counted(handled, stop),
+                    stop: Some(stop),
+                };
+            }
         }
-        rest = bytes_after(rest, len);
-        handled = handled.saturating_add(1);
     }
     Received {
         handled,
         stop: None,
     }
+}
+
+/// The command at the front of bytes comes to the peer: how many bytes it has, or why it stops the datagram.
+#[inline(always)]
+fn next(peer: &mut Peer, now: u32, sent: Option<u16>, bytes: &[u8]) -> Result<usize, Stop>
+    requires some { 1 ≤ length bytes.now }
+    ensures { Advances (record { now = now; sent = sent }) bytes.now peer.old.peer peer.new.peer result }
+{
+    if let Some(len) = next_frequent(peer, now, bytes) {
+        return Ok(len);
+    }
+    next_of_any(peer, now, sent, bytes)
+}
+
+/// The same where the command is of those that come most often, which are read without the enum of all. None, with nothing changed, where
+/// it is to be read as any other.
+#[inline(always)]
+fn next_frequent(peer: &mut Peer, now: u32, bytes: &[u8]) -> Option<usize>
+    ensures taken { (sent : Option ℕ) → IfSome result (GoesOn (record { now = now; sent = sent }) bytes.now peer.old.peer peer.new.peer) }
+    ensures same { IfNone result (peer.new.peer ≡ peer.old.peer) }
+{
+    if let Some(found) = read_acknowledged(bytes) {
+        return peer.takes_acknowledged(now, found).then_some(8);
+    }
+    None
+}
+
+/// The same of any command.
+#[inline(always)]
+fn next_of_any(peer: &mut Peer, now: u32, sent: Option<u16>, bytes: &[u8]) -> Result<usize, Stop>
+    requires some { 1 ≤ length bytes.now }
+    ensures { Advances (record { now = now; sent = sent }) bytes.now peer.old.peer peer.new.peer result }
+{
+    let Some((command, len)) = read_command(bytes) else {
+        return Err(Stop::BadCommand);
+    };
+    if let Err(stop) = peer.command(now, sent, &command) {
+        return Err(stop);
+    }
+    Ok(len)
 }
 
 /// A law, with no code: where bytes spell a list of commands, just these come to the peer, in their order.

@@ -1,7 +1,8 @@
 //! The commands that come to a peer.
 
-ghost use Rattle.std.specs.Prelude.{◌≡◌, ◌≤◌, ◌&&◌, false, IsTrue, OnOk, OnErr, IfOk, IfErr, Ok, Some, is_some, true};
+ghost use Rattle.std.specs.Prelude.{◌≡◌, ℕ, ◌≤◌, ◌&&◌, false, IsTrue, OnOk, OnErr, IfOk, IfErr, Ok, Option, Some, None, is_some, true};
 ghost use Rattle.enet_codec.specs.Message.{view};
+ghost use Rattle.enet_codec.specs.Frequent.{acknowledgement};
 ghost use Rattle.enet_inbox.specs.InboxParts.{told};
 ghost use Rattle.enet_inbox.specs.InboxParts as coming;
 ghost use Rattle.enet_peer.specs.Acting.{foreseen, foreseen_data};
@@ -11,7 +12,7 @@ ghost use Rattle.enet_outbox.specs.Outbox.{is_crowded};
 ghost use Rattle.enet_peer.specs.CommandEffect.{obeyed, wants_memory, is_kept, is_crowded_out, drops_acknowledgements, Obeys, answered, is_allowed, is_answered_in, accepted, on_acknowledge, on_verify_in, on_disconnect_in, on_bandwidth, on_throttle, sampled, with_answer};
 
 use crate::{Peer, PeerState};
-use enet_codec::{Command, Head, Stop, Verify};
+use enet_codec::{Acknowledged, Command, Head, Stop, Verify};
 use enet_connect::confirm;
 use enet_inbox::Foreseen;
 use enet_outbox::{Acknowledgement, Matched};
@@ -314,6 +315,29 @@ impl Peer {
             time,
         });
         Ok(())
+    }
+
+    /// Takes an ACKNOWLEDGE in that came at the time `now` and asks for none itself, as `command` does: whether the peer's state allows it.
+    /// Where it doesn't nothing has changed.
+    #[inline(always)]
+    pub(crate) fn takes_acknowledged(&mut self, now: u32, found: Acknowledged) -> bool
+        requires plain { found.head.acknowledge ≡ false }
+        ensures done { IsTrue result → (sent : Option ℕ) → obeyed self.old.peer now sent (acknowledgement found) ≡ record { stop = None; after = self.new.peer } }
+        ensures same { result ≡ false → self.new.peer ≡ self.old.peer }
+    {
+        if matches!(
+            self.state,
+            PeerState::Free | PeerState::Ended | PeerState::Parting
+        ) {
+            return false;
+        }
+        self.on_acknowledge(
+            now,
+            found.head.channel,
+            found.received_number,
+            found.received_time,
+        );
+        true
     }
 
     /// An acknowledgement comes. At a client that waits for its server's answer none has an effect: the answer alone stands for
