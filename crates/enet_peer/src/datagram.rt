@@ -15,7 +15,7 @@ ghost use Rattle.enet_peer.specs.Handling.{Arrival, SoFar, Handles, HandlesEach,
 ghost use Rattle.enet_peer.specs.Private.Handling.{Advances, GoesOn};
 
 use crate::Peer;
-use enet_codec::{Received, Stop, read_acknowledged, read_command};
+use enet_codec::{Received, Stop, read_acknowledged, read_command, read_whole_packet};
 
 /// The commands of a datagram come to a peer at the time `now`, in milliseconds, one after another, until none is left or
 /// one stops the datagram. `sent` is the sent time that the datagram's header tells, and `commands` is all that stands behind
@@ -55,7 +55,7 @@ fn next(peer: &mut Peer, now: u32, sent: Option<u16>, bytes: &[u8]) -> Result<us
     requires some { 1 ≤ length bytes.now }
     ensures { Advances (record { now = now; sent = sent }) bytes.now peer.old.peer peer.new.peer result }
 {
-    if let Some(len) = next_frequent(peer, now, bytes) {
+    if let Some(len) = next_frequent(peer, now, sent, bytes) {
         return Ok(len);
     }
     next_of_any(peer, now, sent, bytes)
@@ -64,12 +64,15 @@ fn next(peer: &mut Peer, now: u32, sent: Option<u16>, bytes: &[u8]) -> Result<us
 /// The same where the command is of those that come most often, which are read without the enum of all. None, with nothing changed, where
 /// it is to be read as any other.
 #[inline(always)]
-fn next_frequent(peer: &mut Peer, now: u32, bytes: &[u8]) -> Option<usize>
-    ensures taken { (sent : Option ℕ) → IfSome result (GoesOn (record { now = now; sent = sent }) bytes.now peer.old.peer peer.new.peer) }
+fn next_frequent(peer: &mut Peer, now: u32, sent: Option<u16>, bytes: &[u8]) -> Option<usize>
+    ensures taken { IfSome result (GoesOn (record { now = now; sent = sent }) bytes.now peer.old.peer peer.new.peer) }
     ensures same { IfNone result (peer.new.peer ≡ peer.old.peer) }
 {
     if let Some(found) = read_acknowledged(bytes) {
         return peer.takes_acknowledged(now, found).then_some(8);
+    }
+    if let Some((packet, len)) = read_whole_packet(bytes) {
+        return peer.takes_packet(sent, packet).then_some(len);
     }
     None
 }

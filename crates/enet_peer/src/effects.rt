@@ -109,29 +109,6 @@ impl Peer {
     ) -> Result<(), Stop>
         ensures { Obeys result (wants_memory self.old.peer now sent (view command.now)) (obeyed self.old.peer now sent (view command.now)) self.old.peer self.new.peer }
     {
-        if let Command::Acknowledge {
-            head,
-            received_number,
-            received_time,
-        } = *command
-        {
-            if !head.acknowledge && is_allowed(self.state, command) {
-                self.on_acknowledge(now, head.channel, received_number, received_time);
-                return Ok(());
-            }
-        }
-        self.command_in_steps(now, sent, command)
-    }
-
-    /// Does what `command` says, step by step, for any command; an ACKNOWLEDGE that asks for none is done before.
-    fn command_in_steps(
-        &mut self,
-        now: u32,
-        sent: Option<u16>,
-        command: &Command<'_>,
-    ) -> Result<(), Stop>
-        ensures { Obeys result (wants_memory self.old.peer now sent (view command.now)) (obeyed self.old.peer now sent (view command.now)) self.old.peer self.new.peer }
-    {
         let foreseen = self.foresee(command)?;
         let head = head_of(command);
         self.make_room(sent, head, command, foreseen.acknowledged)?;

@@ -29,6 +29,7 @@
 //! By `check_peer`: that calls succeed with ample memory, and worked trials with their bytes; through hosts, by `check_hosts`: captures.
 #![tactic(auto)]
 
+mod at_once;
 mod datagram;
 mod effects;
 mod endings;

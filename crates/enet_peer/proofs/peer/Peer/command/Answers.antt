@@ -8,7 +8,7 @@ use Rattle.enet_peer.specs.Peering.{Peering}
 use Rattle.enet_peer.proofs.Arriving.{obeyed_is, stopped_before, no_memory}
 use Rattle.enet_peer.proofs.Crowding.{has_few}
 use Rattle.enet_peer.proofs.Places.{has_place, kept_wanted, place_wanted, replied}
-use Rattle.enet_peer.proofs.peer.Peer.command_in_steps.Goals as goal
+use Rattle.enet_peer.proofs.peer.Peer.command.Goals as goal
 
 pub returns-in_err-foreseen : goal.returns-in_err-foreseen
 returns-in_err-foreseen c =
