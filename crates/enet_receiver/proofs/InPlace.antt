@@ -91,7 +91,7 @@ past_last r c place at unreliable not_behind =
 -- where nothing is held and nothing waits, nothing goes with a packet
 pub nothing_there : (r : Receiver) (reliable : Bool) (number : ℕ) → len r.held ≡ 0 → len r.waiting ≡ 0 → GoesAlone r reliable number
 nothing_there r reliable number none_held none_waits = record {
-  next_not_held = nothing_held r.held (after number 1) (omega arith);
+  next_not_whole = ap next_whole (nothing_held r.held (after number 1) (omega arith));
   none_waits = nothing_held r.waiting number (omega arith);
   not_held = λ _. nothing_held r.held number (omega arith);
   none_passed = λ _. nothing_held r.waiting r.front (omega arith);
@@ -101,10 +101,10 @@ unreliable_out : (most : ℕ) (r : Receiver) (c : DataCommand) → Admitted most
     → receiver_of r.front c.unreliable r.held r.waiting (r.dispatched ++ handed_out (only_packet c) ∷ []) ≡ all_released wire (with_stored r c c.number)
 unreliable_out most r c a there unreliable at =
     let absent : get r.waiting r.front ≡ None = ap (get r.waiting) (sym at) ∙ there.alone.none_waits in
-    let none : get r.held (after r.front 1) ≡ None = ap (λ n. get r.held (after n 1)) (sym at) ∙ there.alone.next_not_held in
+    let none : next_whole (get r.held (after r.front 1)) ≡ None = ap (λ n. next_whole (get r.held (after n 1))) (sym at) ∙ there.alone.next_not_whole in
     let stored : Receiver = record r { waiting = with_line r.waiting r.front (insert empty c.unreliable (only_packet c)) } in
     flushed_alone r c.unreliable (only_packet c) absent (only_whole c there.single (piece_sound most c a.piece).0) (past_last r c c.number at unreliable a.not_behind)
-    ∙ sym (all_released-none wire stored (ap next_whole none))
+    ∙ sym (all_released-none wire stored none)
     ∙ ap (all_released wire) (stored_alone most r c c.number a there.single unreliable at absent)
 
 -- where nothing waits for the front, no unreliable packet is dispatched
@@ -147,13 +147,13 @@ reliable_out most r c k a there reliable at =
     let out : Receiver = receiver_of (after r.front 1) 0 r.held r.waiting (r.dispatched ++ handed_out (only_packet c) ∷ []) in
     let not_held : get r.held (after r.front 1) ≡ None = ap (get r.held) (sym at) ∙ there.alone.not_held reliable in
     let none_waits : get r.waiting (after r.front 1) ≡ None = ap (get r.waiting) (sym at) ∙ there.alone.none_waits in
-    let next : get r.held (after (after r.front 1) 1) ≡ None = ap (λ n. get r.held (after n 1)) (sym at) ∙ there.alone.next_not_held in
+    let next : next_whole (get r.held (after (after r.front 1) 1)) ≡ None = ap (λ n. next_whole (get r.held (after n 1))) (sym at) ∙ there.alone.next_not_whole in
     sym (
     ap (all_released wire) (sym (next_stored most r c a there reliable))
     ∙ sym (released_at_once r c there.single (piece_sound most c a.piece).0 (pieces_of_kept most r k))
     ∙ ap (λ (s : Receiver). all_released wire (flushed_from 0 s)) (passed_alone r c there.single k.wire not_held (there.alone.none_passed reliable))
     ∙ ap (all_released wire) (flushed_nothing 0 out none_waits)
-    ∙ all_released-none wire out (ap next_whole next)
+    ∙ all_released-none wire out next
     ∙ flushed_nothing 1 out none_waits
     )
 

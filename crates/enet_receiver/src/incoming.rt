@@ -15,7 +15,7 @@ ghost use Rattle.enet_receiver.specs.Private.ReceiverParts.{with_kept, grown_at,
 ghost use Rattle.enet_receiver.specs.Private.InPlace.{ComesAlone, GoesAlone, GoesAtOnce, with_moved, only_packet_from};
 ghost use Rattle.enet_receiver.specs.Private.Walk.{Completes};
 ghost use Rattle.enet_packets.specs.Packets.{bytes_in, packets_in};
-ghost use Rattle.enet_receiver.specs.Receiver.{held_bytes, held_packets, cleared};
+ghost use Rattle.enet_receiver.specs.Receiver.{held_bytes, held_packets, cleared, next_whole};
 ghost use Rattle.enet_receiver.specs.DataOutcome.{outcome, outcome_of, place_read, came_at, came_before, is_behind, is_next, is_handled, dispatch_count};
 ghost use Rattle.enet_receiver.specs.Foresight.{new_end, data_if, is_reliable, is_unreliable, is_fragment, is_unreliable_fragment, outcome_for, after_command, WouldBeHeld, Receives, foreseen, alone};
 
@@ -488,9 +488,19 @@ impl Incoming {
     fn finds_none(&self, reliable: bool, number: u16) -> bool
         ensures { IsTrue result → GoesAlone self.now.receiver reliable number }
     {
-        self.held.get(after(number, 1)).is_none()
+        !self.has_whole(after(number, 1))
             && !self.waiting.has_line(number)
             && (!reliable || self.held.get(number).is_none() && !self.waiting.has_line(self.front))
+    }
+
+    /// Whether a whole packet is held under this number.
+    fn has_whole(&self, number: u16) -> bool
+        ensures { result ≡ false → next_whole (map.get self.now.receiver.held number) ≡ None }
+    {
+        match self.held.get(number) {
+            None => false,
+            Some(coming) => coming.making.is_whole(),
+        }
     }
 
     /// The number with which a packet goes that is dispatched as it comes.

@@ -17,9 +17,9 @@
 //! channel; in check-memory.sh, that the room to dispatch packets goes back once it is for far more than are held or wait.
 //! Neither: that a block's marks go with the last number that is held of it, what look-ups the marks save, and when
 //! `take_in_at_once` and `take_at_once` give a packet. They do so, with ample memory, exactly where one comes alone: the next one in
-//! order or an unreliable one of the front, whole, while nothing was dispatched and not popped, nothing is held under the next number,
+//! order or an unreliable one of the front, whole, while nothing was dispatched and not popped, none is held whole under the next number,
 //! and nothing waits for the front, or for the number that it becomes. But no clause says that they ever give one: a body that never
-//! does would pass. So would one that gives a packet elsewhere too, as where no more than a piece is held under the next number.
+//! does would pass. So would one that gives a packet elsewhere too, as where what waits for the front isn't whole.
 #![tactic(auto)]
 
 mod arriving_data;

@@ -4,15 +4,15 @@ use Rattle.std.specs.FinMap.{get}
 use Rattle.enet_codec.specs.declared.packet.Packet.{Packet}
 use Rattle.enet_seq.specs.Windows.{after}
 use Rattle.enet_fragment.specs.declared.data.DataCommand.{DataCommand}
-use Rattle.enet_receiver.specs.Receiver.{Receiver}
+use Rattle.enet_receiver.specs.Receiver.{Receiver, next_whole}
 use Rattle.enet_receiver.specs.Invariant.{Keeps}
 use Rattle.enet_receiver.specs.DataOutcome.{is_behind, flags_of}
 use Rattle.enet_receiver.specs.Foresight.{ReceivingEnd}
 
--- nothing goes with a packet that is dispatched as it comes: nothing is held under the number past its own, and nothing waits for
+-- nothing goes with a packet that is dispatched as it comes: none is held whole under the number past its own, and nothing waits for
 -- its own; of a reliable one, nothing is held under its own either, and nothing waits for the front that it passes
 pub record GoesAlone (r : Receiver) (reliable : Bool) (number : ℕ) : Type 0 where
-  pub next_not_held : get r.held (after number 1) ≡ None
+  pub next_not_whole : next_whole (get r.held (after number 1)) ≡ None
   pub none_waits : get r.waiting number ≡ None
   pub not_held : reliable ≡ true → get r.held number ≡ None
   pub none_passed : reliable ≡ true → get r.waiting r.front ≡ None
