@@ -460,6 +460,7 @@ impl Incoming {
 
     /// Whether a command is a whole packet that is dispatched as it comes, and nothing else with it: the next reliable one in
     /// order, or an unreliable one that goes with the front.
+    #[inline(always)]
     fn comes_alone(&self, arriving: ArrivingData<'_>) -> bool
         ensures { IsTrue result → ComesAlone self.now.receiver (data_command arriving.entry) }
     {
@@ -515,6 +516,7 @@ impl Incoming {
     }
 
     /// Whether a command is taken in and is all that this dispatches, so that no more has to be looked at.
+    #[inline(always)]
     fn goes_at_once(&self, arriving: ArrivingData<'_>) -> bool
         ensures { IsTrue result → GoesAtOnce self.now.max_packet self.now.receiver (data_command arriving.entry) }
     {
@@ -524,6 +526,7 @@ impl Incoming {
     }
 
     /// Hands a packet of one command out that comes in its place. None, with nothing changed, where memory is refused.
+    #[inline(always)]
     fn hand_out(&mut self, arriving: ArrivingData<'_>, bodies: &mut Bodies) -> Option<Packet>
         requires admitted { Admitted self.old.max_packet self.old.receiver (data_command arriving) arriving.head.number }
         requires inside { IsInside self.old.receiver.front arriving.head.number }
