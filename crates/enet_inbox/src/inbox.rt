@@ -151,6 +151,18 @@ impl Inbox {
         }
     }
 
+    /// Whether the number of a sequenced data command is in its place on its channel, as `is_in_place` of its receiver says: where it isn't,
+    /// `take_at_once` wouldn't take it.
+    #[inline(always)]
+    pub fn is_in_place(&self, arriving: ArrivingData<'_>) -> bool
+        ensures { IsTrue result → arriving.entry.head.channel < length self.now.receivers }
+    {
+        match self.receivers.get(arriving.head.channel as usize) {
+            Some(receiver) => receiver.is_in_place(arriving),
+            None => false,
+        }
+    }
+
     /// Takes a sequenced data command in that may be acknowledged, and of which nothing was foreseen, where its packet waits to be taken
     /// at once: that is all that `foresee` and `take_in` would do with it. False, with nothing changed, where there is no such channel,
     /// so much waits that it may begin no packet, its packet doesn't come alone, as `take_at_once` of its receiver says, or memory is
@@ -313,7 +325,7 @@ impl Inbox {
         ensures room { IsTrue result → ((r : ReceivingEnd) → slice_get self.now.receivers arriving.entry.head.channel ≡ Some r → is_full_for self.now r (data_command arriving.entry) ≡ false) }
     {
         let channel = arriving.head.channel as usize;
-        channel < self.receivers.len() && !self.is_full_for(&self.receivers[channel], arriving)
+        channel < self.receivers.len() && !self.is_full()
     }
 
     /// Whether so much would wait once the unreliable packets that wait had given way.

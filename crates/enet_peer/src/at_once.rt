@@ -39,10 +39,15 @@ impl Peer {
         ensures done { IsTrue result → (now : ℕ) → obeyed self.old.peer now sent (whole_packet found.entry) ≡ record { stop = None; after = self.new.peer } }
         ensures same { result ≡ false → self.new.peer ≡ self.old.peer }
     {
-        if !self.may_acknowledge(found.head.acknowledge, sent) {
+        let arriving = arriving(found);
+        // Most others are told apart by their numbers, before anything is made room for.
+        if !self.is_connected()
+            || !self.inbox.is_in_place(arriving)
+            || !self.may_acknowledge(found.head.acknowledge, sent)
+        {
             return false;
         }
-        if !self.inbox.take_at_once(arriving(found)) {
+        if !self.inbox.take_at_once(arriving) {
             return false;
         }
         self.acknowledge_packet(sent, found);

@@ -334,6 +334,16 @@ impl Incoming {
         self.give_room_back();
     }
 
+    /// Whether the number of a command is the next one in order, of a reliable command, or that of the front, of an unreliable one past the
+    /// last that was dispatched. No packet of another is handed out at once, so this is asked before all else of it.
+    #[inline(always)]
+    pub fn is_in_place(&self, arriving: ArrivingData<'_>) -> bool
+        ensures { IsTrue result → arriving.entry.head.number ≡ (if arriving.entry.reliable then after self.now.receiver.front 1 else self.now.receiver.front) }
+    {
+        arriving.head.number == self.place_in_order(arriving.reliable)
+            && !self.is_behind(arriving, arriving.head.number)
+    }
+
     /// Whether a command is of the packet just past the front, the next that is dispatched.
     pub fn is_next(&self, arriving: ArrivingData<'_>) -> bool
         ensures { result ≡ is_next self.now.receiver (data_command arriving.entry) }
@@ -489,8 +499,8 @@ impl Incoming {
     fn finds_none(&self, reliable: bool, number: u16) -> bool
         ensures { IsTrue result → GoesAlone self.now.receiver reliable number }
     {
-        !self.has_whole(after(number, 1))
-            && !self.waiting.has_line(number)
+        !self.waiting.has_line(number)
+            && !self.has_whole(after(number, 1))
             && (!reliable || self.held.get(number).is_none() && !self.waiting.has_line(self.front))
     }
 
@@ -521,8 +531,8 @@ impl Incoming {
         ensures { IsTrue result → GoesAtOnce self.now.max_packet self.now.receiver (data_command arriving.entry) }
     {
         arriving.payload.len() <= self.max_packet as usize
-            && self.comes_alone(arriving)
             && !self.is_behind(arriving, arriving.head.number)
+            && self.comes_alone(arriving)
     }
 
     /// Hands a packet of one command out that comes in its place. None, with nothing changed, where memory is refused.
