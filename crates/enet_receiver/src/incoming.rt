@@ -338,7 +338,8 @@ impl Incoming {
     /// last that was dispatched. No packet of another is handed out at once, so this is asked before all else of it.
     #[inline(always)]
     pub fn is_in_place(&self, arriving: ArrivingData<'_>) -> bool
-        ensures { IsTrue result → arriving.entry.head.number ≡ (if arriving.entry.reliable then after self.now.receiver.front 1 else self.now.receiver.front) }
+        ensures at { IsTrue result → arriving.entry.head.number ≡ (if arriving.entry.reliable then after self.now.receiver.front 1 else self.now.receiver.front) }
+        ensures not_behind { IsTrue result → is_behind self.now.receiver (data_command arriving.entry) arriving.entry.head.number ≡ false }
     {
         arriving.head.number == self.place_in_order(arriving.reliable)
             && !self.is_behind(arriving, arriving.head.number)
@@ -531,7 +532,7 @@ impl Incoming {
         ensures { IsTrue result → GoesAtOnce self.now.max_packet self.now.receiver (data_command arriving.entry) }
     {
         arriving.payload.len() <= self.max_packet as usize
-            && !self.is_behind(arriving, arriving.head.number)
+            && self.is_in_place(arriving)
             && self.comes_alone(arriving)
     }
 
