@@ -8,6 +8,7 @@
 - README's commands name files that are there, and its command for all tests is the one that .ci/run runs;
 - the code that docs/USING.md shows stands in an example or in a trial, which the tests compile and run;
 - the counts of definitions that docs/HEADLINE.md and docs/PROOFS.md tell are those of scripts/trusted.py;
+- docs/PERF.md begins with the line that names the start, which never changes;
 - the plots are what measure/draw.py makes of measure/results.
 
 The last line is 'N passed, M failed'; the status is 1 where one fails.
@@ -29,6 +30,8 @@ ELSEWHERE = re.compile(
 # Parts of a name that stand for any: `crate/specs/File`, `on_*`, `Sound-EVENT`, `example_..`.
 STANDS_FOR = re.compile(r"\*|\.\.|\b(crate|CRATE|NAME|FILE|File|EVENT|FOLDER|COMMIT)\b")
 WORD = re.compile(r"[A-Za-z_][A-Za-z0-9_'-]*")
+# The first line of docs/PERF.md: the commit to which all its ratios go back.
+START = "The start: da651a18bcd2843b7b451577cdc4f47cd6cc9a6e"
 
 
 class Counts:
@@ -193,6 +196,12 @@ def trusted(counts):
         counts.check(words in read(document), f"{document} hasn't '{words}'")
 
 
+def start(counts):
+    """What docs/PERF.md measures from: its first line says it, for good."""
+    first = read("docs/PERF.md").split("\n", 1)[0]
+    counts.check(first == START, f"docs/PERF.md: the first line is '{first}', not '{START}'")
+
+
 def plots(counts):
     drawn = subprocess.run([sys.executable, "measure/draw.py", "--check"], capture_output=True, text=True, check=False)
     counts.check(drawn.returncode == 0, drawn.stdout.strip())
@@ -201,7 +210,7 @@ def plots(counts):
 def main():
     os.chdir(os.path.join(os.path.dirname(os.path.abspath(__file__)), ".."))
     counts = Counts()
-    for check in (stated, names, links, commits, commands, shown, trusted, plots):
+    for check in (stated, names, links, commits, commands, shown, trusted, start, plots):
         check(counts)
     print(f"{counts.passed} passed, {counts.failed} failed")
     return 1 if counts.failed else 0
