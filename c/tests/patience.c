@@ -13,7 +13,7 @@ static const unsigned trips[TRIPS] = {20, 100, 300, 1100};
 static const struct {
     enet_uint32 limit, minimum, maximum;
 } settings[] = {{32, 5000, 30000}, {32, 2000, 30000}, {32, 1000, 30000}, {8, 1000, 30000}, {1, 1, 30000}, {32, 10000, 30000},
-                {32, 20000, 60000}, {32, 5000, 5000}, {32, 5000, 3000}};
+                {32, 20000, 60000}, {32, 5000, 5000}, {32, 5000, 3000}, {1, 1, 100}};
 
 static ENetHost *server, *client;
 static ENetPeer *guest; /* the server's peer */
