@@ -22,8 +22,9 @@
 # - what waits at a receiver never keeps the next packet out for good: the reference library or the layer sends, the layer receives
 #   (progress);
 # - over a network and a clock in memory (c/tests/memory_net.h): the fuzzer's inputs, those of c/tests/fuzz.corpus and drawn ones, with
-#   sanitizers (fuzz); how long a dead peer takes to be noticed, by settings, beside the reference library (patience); and bad lines with
-#   both ends ours, on which no connection is lost (lines);
+#   sanitizers (fuzz); how long a dead peer takes to be noticed, by settings, beside the reference library (patience); bad lines with
+#   both ends ours, on which no connection is lost (lines); and datagrams from port 0, sends that fail to one destination, compressed
+#   datagrams of strangers and connect ids (strangers);
 # - installed below a prefix, it is found by pkg-config under libenet's name, and each header stands alone; and it is taken away.
 # Prints what failed, and as last line 'N passed, M failed'; the status is 1 where one failed or nothing was tried. It ends within 4
 # minutes. As root it installs what is missing of gcc, libenet-dev, valgrind, python3-enet and pkg-config.
@@ -97,6 +98,7 @@ build_memory_tests() {
     local made=$room/made checked=(-fsanitize=address,undefined -fno-sanitize-recover=all)
     build_in_memory "$room/fuzz" fuzz cc "$made" "${checked[@]}" && build_in_memory "$room/patience-checked" patience cc "$made" "${checked[@]}" &&
         build_in_memory "$room/patience" patience cc "$made" && build_in_memory "$room/lines" lines cc "$made" &&
+        build_in_memory "$room/strangers" strangers cc "$made" && build_in_memory "$room/strangers-checked" strangers cc "$made" "${checked[@]}" &&
         cc -std=gnu11 -O1 -Wall -Wextra -DREFERENCE c/tests/patience.c c/tests/memory_net.c -rdynamic -o "$room/patience-theirs" -lenet
 }
 
@@ -325,7 +327,7 @@ else
     "$room/fuzz" draw 1 300 > "$room/drawn"
     try fuzz "$room/fuzz" play c/tests/fuzz.corpus
     try fuzz-drawn "$room/fuzz" play "$room/drawn"
-    for name in patience patience-checked patience-theirs lines; do
+    for name in patience patience-checked patience-theirs lines strangers strangers-checked; do
         try "$name" "$room/$name"
     done
     try fields "$room/fields"

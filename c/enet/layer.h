@@ -19,6 +19,10 @@ enum { GATHERED = 256, GATHERED_BYTES = 1 << 18, TRAIN = 64, TRAIN_BYTES = 65000
 #define UDP_SEGMENT 103
 #endif
 
+/* A compressed datagram that names no slot is opened into so many bytes at most: a CONNECT has 48, and the core takes nothing else from who
+ * has no slot. And so many of them are opened in a second, whoever sends them. */
+enum { OFFER = 64, OPENED = 1000, SECOND_MS = 1000 };
+
 /* A datagram that the core gave and that isn't sent yet. */
 typedef struct {
     gofnjerta_address to;
@@ -71,6 +75,7 @@ typedef struct {
     bool sends;          /* some of its datagrams are gathered, up to the parcel `last` */
     bool is_in_line;     /* it stands in line for its kept events, before the slot `behind` where it isn't the last */
     bool is_counted, is_limited; /* in the host's numbers of connected and of limited peers */
+    bool goes_alone;     /* the system refused a train to its last peer */
     Kept *first, *newest; /* its events that were passed over */
     gofnjerta_address at;
     uint32_t connect_id; /* as it stands on the wire */
@@ -93,7 +98,8 @@ typedef struct {
     bool begun;                /* they stand */
     bool releases;             /* callbacks of packets that are let go are being called */
     bool ends;                 /* the program destroys it */
-    bool has_failed;           /* the system refused to send a datagram since the service began */
+    bool puts_out;             /* what the core gives is being sent */
+    bool has_failed;           /* the socket failed to send since the service began */
     Slot *slots;
     uint64_t clock, refreshed; /* milliseconds */
     uint64_t full_at;          /* when no slot was free for a peer that came; UINT64_MAX where one may be */
@@ -110,6 +116,8 @@ typedef struct {
     size_t ended, lingering;   /* how many slots' peers have ended so, and linger */
     Arrival arrival;
     bool has_trains;           /* the system cuts a train into datagrams (UDP_SEGMENT) */
+    uint64_t opens_at[OPENED]; /* a place for each compressed datagram of a second that names no slot: when it may be used again, by `clock` */
+    size_t next_place;         /* the one that was used first */
     size_t parcel_count, gathered_bytes;
     Parcel parcels[GATHERED];
     uint8_t gathered[GATHERED_BYTES + DATAGRAM + 16]; /* a datagram may get a checksum */
@@ -142,7 +150,7 @@ int layer_tell(Layer *layer, ENetEvent *event);          /* the next event: 1, 0
 void layer_release(Layer *layer, enet_uint32 flag);        /* gives back the references to packets that were submitted; the last gets the flag */
 void layer_release_of(Layer *layer, const ENetPeer *peer); /* the same of one peer, at its reset */
 void layer_go_on(Layer *layer);                            /* the clock goes on to now */
-void layer_put_out(Layer *layer);                          /* sends all that the core gives; has_failed where the system refused one */
+void layer_put_out(Layer *layer);                          /* sends all that the core gives; has_failed where the socket failed */
 void layer_count(Layer *layer, ENetPeer *peer);            /* whether it is among the host's connected and limited peers */
 
 /* Takes in what came. How many datagrams it was goes to `came`; 1 where the program made an event of one, -1 for a fault. */

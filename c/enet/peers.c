@@ -1,5 +1,6 @@
 /* Peers: what the program reads of them, how they come and go, and what may be set. */
 #include "layer.h"
+#include <sys/random.h>
 
 static ENetPeerState state_shown(uint32_t state, const Slot *slot) {
     switch (state) {
@@ -126,9 +127,16 @@ void layer_meet(Layer *layer, gofnjerta_peer name, bool answers) {
     layer_show_peer(layer, peer);
 }
 
+/* The id of a new connection, which nobody can guess. Where the system has none to give, the next number after the host's seed, which was
+ * drawn when the host was made and no other id tells. */
+static uint32_t draw_id(ENetHost *host) {
+    uint32_t id;
+    return getrandom(&id, sizeof id, 0) == sizeof id ? id : ++host->randomSeed;
+}
+
 /* Asks the core for a connection, from a slot that the program has done with. */
-static bool ask(Layer *layer, gofnjerta_address to, uint8_t channels, uint32_t data, gofnjerta_peer *name) {
-    return layer_make_way(layer) && gofnjerta_connect(&layer->core, to, channels, data, layer->host.randomSeed, name) == GOFNJERTA_OK;
+static bool ask(Layer *layer, gofnjerta_address to, uint8_t channels, uint32_t data, uint32_t id, gofnjerta_peer *name) {
+    return layer_make_way(layer) && gofnjerta_connect(&layer->core, to, channels, data, id, name) == GOFNJERTA_OK;
 }
 
 ENetPeer *enet_host_connect(ENetHost *host, const ENetAddress *address, size_t channels, enet_uint32 data) {
@@ -138,12 +146,12 @@ ENetPeer *enet_host_connect(ENetHost *host, const ENetAddress *address, size_t c
     if (!layer_is_ready(layer) || address->host == ENET_HOST_BROADCAST) return NULL;
     gofnjerta_address to = {ntohl(address->host), address->port};
     gofnjerta_peer name;
-    host->randomSeed++;
-    if (!ask(layer, to, (uint8_t)channels, data, &name)) {
+    uint32_t id = draw_id(host);
+    if (!ask(layer, to, (uint8_t)channels, data, id, &name)) {
         /* Slots of peers that the program let go may get free. */
         if (!layer->lingering) return NULL;
         layer_drain(layer);
-        if (!ask(layer, to, (uint8_t)channels, data, &name)) return NULL;
+        if (!ask(layer, to, (uint8_t)channels, data, id, &name)) return NULL;
     }
     layer_meet(layer, name, false);
     return &host->peers[name.slot];

@@ -43,9 +43,44 @@ static bool find_receiver(Layer *layer, const gofnjerta_address *from, const uin
     uint32_t id = (data[0] & 0xFu) << 8 | data[1];
     *receiver = NULL;
     if (id == ENET_PROTOCOL_MAXIMUM_PEER_ID) return true;
-    if (id >= layer->host.peerCount) return false;
+    if (id >= slots_in_use(layer)) return false;
     *receiver = &layer->slots[id];
     return (*receiver)->seen.generation != UINT32_MAX && (*receiver)->at.ip == from->ip && (*receiver)->at.port == from->port;
+}
+
+/* Whether the core takes in what comes to a slot's peer with this header: the peer is there, and the session is its own, once the other end's
+ * slot is known. */
+static bool is_taken_in(Layer *layer, const Slot *receiver, const uint8_t *data) {
+    gofnjerta_reading read;
+    if (gofnjerta_read_peer(&layer->core, receiver->seen, &read)) return false;
+    if (read.state == GOFNJERTA_FREE || read.state == GOFNJERTA_ENDED || read.state == GOFNJERTA_PARTING) return false;
+    return read.slot == ENET_PROTOCOL_MAXIMUM_PEER_ID || read.incoming_session == (data[0] >> 4 & 3);
+}
+
+/* Takes a place for a datagram that names no slot; false where as many were opened within the last second as may be. */
+static bool take_place(Layer *layer) {
+    uint64_t *place = &layer->opens_at[layer->next_place];
+    if (layer->clock < *place) return false;
+    *place = layer->clock + SECOND_MS;
+    layer->next_place = (layer->next_place + 1) % OPENED;
+    return true;
+}
+
+/* Into how many bytes a datagram's code of `size` bytes is opened, which stands behind `front` bytes; 0 where it isn't opened. What names no
+ * slot is a stranger's: a CONNECT alone, whose code is shorter than what it opens to. */
+static size_t room_of(Layer *layer, const Slot *receiver, const uint8_t *data, size_t front, size_t size) {
+    if (receiver) return is_taken_in(layer, receiver, data) ? DATAGRAM - front : 0;
+    return size < OFFER && take_place(layer) ? OFFER : 0;
+}
+
+/* Opens a datagram's code of `size` bytes, which stands behind `front` bytes, to behind as many bytes of `plain`, of DATAGRAM bytes. How many
+ * bytes it opens to; 0 where it isn't opened. */
+static size_t open_code(Layer *layer, const Slot *receiver, const uint8_t *data, size_t front, size_t size, uint8_t *plain) {
+    const ENetCompressor *own = &layer->host.compressor;
+    if (!own->context || !own->decompress) return 0;
+    size_t room = room_of(layer, receiver, data, front, size);
+    size_t opened = room ? own->decompress(own->context, data + front, size, plain + front, room) : 0;
+    return opened <= room ? opened : 0;
 }
 
 bool layer_undress(Layer *layer, const gofnjerta_address *from, uint8_t **data, size_t *length) {
@@ -57,9 +92,8 @@ bool layer_undress(Layer *layer, const gofnjerta_address *from, uint8_t **data, 
     if (*length < front) return false;
     size_t size = *length - front;
     if ((*data)[0] & COMPRESSED >> 8) {
-        if (!host->compressor.context || !host->compressor.decompress) return false;
-        size = host->compressor.decompress(host->compressor.context, *data + front, size, plain + front, DATAGRAM - front);
-        if (size == 0 || size > DATAGRAM - front) return false;
+        size = open_code(layer, receiver, *data, front, size, plain);
+        if (size == 0) return false;
         memcpy(plain, *data, front);
         *data = plain;
     }

@@ -22,6 +22,7 @@ static void see(Layer *layer, Slot *slot, const gofnjerta_datagram *gave, const 
     }
     slot->seen = gave->peer;
     slot->at = gave->to;
+    slot->goes_alone = false;
     slot->connect_id = gofnjerta_read_peer(&layer->core, gave->peer, &read) ? 0 : htonl(read.connect_id);
     slot->incoming = slot->outgoing = 0;
     if (slot->highest) memset(slot->highest, 0, NUMBERED * sizeof *slot->highest);
@@ -118,12 +119,33 @@ static struct sockaddr_in system_address(gofnjerta_address to) {
     return (struct sockaddr_in){.sin_family = AF_INET, .sin_port = htons(to.port), .sin_addr.s_addr = htonl(to.ip)};
 }
 
-/* Sends a parcel. What the socket has no room for is lost, as by the network; an answer to an earlier datagram is no fault either. */
+/* Whether only this datagram is lost, as by the network: the socket has no room at the moment, or the error is of the destination or of the
+ * length. Any other error is the socket's own. The same list as in crates/enet_wire (why_unsent). */
+static bool is_loss(int error) {
+    switch (error) {
+    case EAGAIN:
+    case EINTR:
+    case ENOBUFS:
+    case ENOMEM:
+    case EMSGSIZE:
+    case EINVAL:
+    case EPERM:
+    case EACCES:
+    case EADDRNOTAVAIL:
+    case ECONNREFUSED:
+    case EHOSTUNREACH:
+    case ENETUNREACH:
+    case ENETDOWN: return true;
+    default: return false;
+    }
+}
+
+/* Sends a parcel. */
 static void send_one(Layer *layer, const Parcel *parcel) {
     struct sockaddr_in to = system_address(parcel->to);
     const uint8_t *at = layer->gathered + parcel->at;
     if (sendto(layer->host.socket, at, parcel->length, MSG_NOSIGNAL, (struct sockaddr *)&to, sizeof to) >= 0) return;
-    if (errno != EWOULDBLOCK && errno != EAGAIN && errno != ECONNREFUSED) layer->has_failed = true;
+    if (!is_loss(errno)) layer->has_failed = true;
 }
 
 /* Sends some parts of one length, of which the last may be shorter, as a datagram each. */
@@ -142,8 +164,15 @@ static bool send_parts(const Layer *layer, gofnjerta_address to, struct iovec *p
 
 /* Whether the parcel may follow so many others of so many bytes in a train that this one leads. */
 static bool may_follow(const Layer *layer, const Parcel *lead, const Parcel *next, size_t count, size_t bytes) {
-    return layer->has_trains && count < TRAIN && bytes + next->length <= TRAIN_BYTES && next->length <= lead->length &&
+    return layer->has_trains && !layer->slots[lead->slot].goes_alone && count < TRAIN && bytes + next->length <= TRAIN_BYTES && next->length <= lead->length &&
            next->to.ip == lead->to.ip && next->to.port == lead->to.port;
+}
+
+/* The system refused a train. One that has none isn't asked for one again. EINVAL is of the destination: its port is 0, or the way to it takes
+ * no datagram of this length whole. So no train goes to this slot's peer any more, and to others as before. Any other error is the moment's. */
+static void note_refused_train(Layer *layer, Slot *slot, int error) {
+    if (error == EIO || error == EOPNOTSUPP || error == ENOPROTOOPT) layer->has_trains = false;
+    if (error == EINVAL) slot->goes_alone = true;
 }
 
 /* Sends a train, from this parcel on, and tells which parcel of its slot comes after it, 0 where none does. Where the system refuses a train,
@@ -161,9 +190,10 @@ __attribute__((noinline)) static size_t send_train(Layer *layer, size_t first) {
     } while (i && may_follow(layer, lead, next, count, bytes));
     if (count == 1) send_one(layer, lead);
     if (count == 1 || send_parts(layer, lead->to, parts, count)) return i;
-    /* Any other error is this destination's or this moment's. */
-    layer->has_trains = errno != EIO && errno != EINVAL && errno != EOPNOTSUPP;
-    for (size_t k = first; k != i; k = layer->parcels[k].next) send_one(layer, &layer->parcels[k]);
+    note_refused_train(layer, &layer->slots[lead->slot], errno);
+    size_t alone = first;
+    do send_one(layer, &layer->parcels[alone]);
+    while ((alone = layer->parcels[alone].next) != i);
     return i;
 }
 
@@ -184,15 +214,18 @@ static void send_gathered(Layer *layer) {
     layer->parcel_count = layer->gathered_bytes = 0;
 }
 
-/* Sends all that the core gives. */
+/* Sends all that the core gives. Where a callback of the program's asks for it in the middle, the rest goes once that has returned. */
 void layer_put_out(Layer *layer) {
     gofnjerta_datagram gave;
+    if (layer->puts_out) return;
+    layer->puts_out = true;
     while (gofnjerta_core_service(&layer->core, layer->gathered + layer->gathered_bytes, DATAGRAM, &gave) == GOFNJERTA_OK && gave.length) {
         layer->may_tell = true;
         gather(layer, &gave);
         if (layer->parcel_count == GATHERED || layer->gathered_bytes > GATHERED_BYTES) send_gathered(layer);
     }
     send_gathered(layer);
+    layer->puts_out = false;
 }
 
 /* Whether another peer may come from an address: there are fewer than duplicatePeers, those that connect there from here apart, and with those
@@ -315,6 +348,29 @@ static void hand_in(Layer *layer, const gofnjerta_address *from, uint8_t *data, 
     } else if (layer->slots[id].known) note_handled(layer, (uint16_t)id, data, taken, got.handled);
 }
 
+/* Whether a reception that failed so need not fail again: it was interrupted, memory was missing, or the network said that a datagram that
+ * was sent before didn't arrive. The same list as in crates/enet_wire (can_be_repeated). */
+static bool can_be_repeated(int error) {
+    switch (error) {
+    case EINTR:
+    case ENOMEM:
+    case ENOBUFS:
+    case EMSGSIZE:
+    case ENONET:
+    case EPROTO:
+    case ENOPROTOOPT:
+    case EHOSTDOWN:
+    case ETIMEDOUT:
+    case ECONNREFUSED:
+    case ECONNRESET:
+    case ECONNABORTED:
+    case EHOSTUNREACH:
+    case ENETUNREACH:
+    case ENETDOWN: return true;
+    default: return false;
+    }
+}
+
 int layer_take_in(Layer *layer, ENetEvent *event, int *came) {
     ENetHost *host = &layer->host;
     for (*came = 0; *came < BATCH; ++*came) {
@@ -323,10 +379,10 @@ int layer_take_in(Layer *layer, ENetEvent *event, int *came) {
         ssize_t length = recvfrom(host->socket, host->packetData[0], DATAGRAM, MSG_TRUNC, (struct sockaddr *)&at, &size);
         if (length < 0) {
             if (errno == EWOULDBLOCK || errno == EAGAIN) break;
-            if (errno == EINTR || errno == ECONNREFUSED) continue;
+            if (can_be_repeated(errno)) continue;
             return -1;
         }
-        if (length > DATAGRAM) continue;
+        if (!at.sin_port || length > DATAGRAM) continue; /* nobody can be answered at port 0 */
         host->totalReceivedData += (enet_uint32)length;
         host->totalReceivedPackets++;
         host->receivedAddress = (ENetAddress){at.sin_addr.s_addr, ntohs(at.sin_port)};

@@ -29,13 +29,17 @@ typedef struct {
 static Socket sockets[SOCKETS];
 static NetDatagram flying[FLYING];
 static size_t flying_count;
-static uint64_t clock_ms, sent, drawn;
+static uint64_t clock_ms, sent, drawn, trains_sent;
 static bool trains;
 static unsigned spins; /* how often a host was woken in a row, and neither took nor sent anything */
 static struct {
     unsigned calls;
     int number;
 } faults[NET_FAULTS];
+static struct {
+    uint16_t port;
+    int one, train;
+} unreachable;
 static long memory_after, memory_calls;
 
 /* The functions that stand in the system's places. */
@@ -78,14 +82,16 @@ void net_begin(uint64_t clock, bool has_trains) {
     }
     clock_ms = clock;
     trains = has_trains;
-    sent = drawn = spins = 0;
+    sent = drawn = trains_sent = spins = 0;
     memset(faults, 0, sizeof faults);
+    net_fail_to(0, 0, 0);
     net_fail_memory(0, 0);
 }
 
 void net_go_on(uint64_t ms) { clock_ms += ms; }
 uint64_t net_clock(void) { return clock_ms; }
 uint64_t net_moment(void) { return sent; }
+uint64_t net_trains(void) { return trains_sent; }
 size_t net_flying(void) { return flying_count; }
 NetDatagram *net_flight(size_t i) { return &flying[i]; }
 void net_drop(size_t i) { forget(flying, &flying_count, i); }
@@ -93,6 +99,12 @@ void net_drop(size_t i) { forget(flying, &flying_count, i); }
 void net_fail(NetFault what, unsigned calls, int number) {
     faults[what].calls = calls;
     faults[what].number = number;
+}
+
+void net_fail_to(uint16_t port, int one, int train) {
+    unreachable.port = port;
+    unreachable.one = one;
+    unreachable.train = train;
 }
 
 void net_fail_memory(long after, long calls) {
@@ -104,6 +116,13 @@ static bool fails(NetFault what) {
     if (!faults[what].calls) return false;
     faults[what].calls--;
     errno = faults[what].number;
+    return true;
+}
+
+/* Whether what goes there fails: with this number, where it isn't 0. */
+static bool fails_to(const struct sockaddr_in *to, int number) {
+    if (!number || ntohs(to->sin_port) != unreachable.port) return false;
+    errno = number;
     return true;
 }
 
@@ -206,7 +225,7 @@ static void fly(uint16_t from, const struct sockaddr_in *to, const uint8_t *byte
 ssize_t net_sendto(int fd, const void *bytes, size_t length, int flags, const struct sockaddr *to, socklen_t size) {
     (void)flags;
     if (size < sizeof(struct sockaddr_in)) abort();
-    if (fails(NET_SEND)) return -1;
+    if (fails(NET_SEND) || fails_to((const struct sockaddr_in *)to, unreachable.one)) return -1;
     fly(socket_of(fd)->port, (const struct sockaddr_in *)to, bytes, length);
     return (ssize_t)length;
 }
@@ -215,7 +234,7 @@ ssize_t net_sendto(int fd, const void *bytes, size_t length, int flags, const st
 ssize_t net_sendmsg(int fd, const struct msghdr *message, int flags) {
     ssize_t whole = 0;
     (void)flags;
-    if (fails(NET_TRAIN)) return -1;
+    if (fails(NET_TRAIN) || fails_to(message->msg_name, unreachable.train)) return -1;
     const struct cmsghdr *head = CMSG_FIRSTHDR(message);
     uint16_t length;
     if (!head || head->cmsg_type != UDP_SEGMENT || !message->msg_iovlen || message->msg_iovlen > 64) abort();
@@ -227,6 +246,7 @@ ssize_t net_sendmsg(int fd, const struct msghdr *message, int flags) {
         whole += (ssize_t)part->iov_len;
     }
     if (whole > 65507) abort();
+    trains_sent++;
     return whole;
 }
 
@@ -248,6 +268,7 @@ int net_clock_gettime(clockid_t which, struct timespec *t) {
 
 ssize_t net_getrandom(void *bytes, size_t length, unsigned flags) {
     (void)flags;
+    if (fails(NET_DRAW)) return -1;
     for (size_t i = 0; i < length; i++) ((uint8_t *)bytes)[i] = (uint8_t)(++drawn * 0x9E3779B97F4A7C15u >> 40);
     return (ssize_t)length;
 }
