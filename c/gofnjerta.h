@@ -167,8 +167,9 @@ uint32_t gofnjerta_open(gofnjerta_host *host, const gofnjerta_config *config);
 uint32_t gofnjerta_close(gofnjerta_host *host);
 
 /* Asks the host at an address for a connection with so many channels, 1 to 255, from the lowest slot that is free. `info` is a word
- * for its user, `word` names the connection: choose it at random, so that a datagram of an earlier connection is never taken for one
- * of this. The peer's name goes to `peer`; its CONNECT or DISCONNECT event tells what came of it. BAD_CONFIG for no channels,
+ * for its user, `word` names the connection: draw it from the system (getentropy), for each connection anew. A stranger who can guess it
+ * can be taken for the server: he forges its address and answers first. Nor is a datagram of an earlier connection taken for one of this
+ * then. The peer's name goes to `peer`; its CONNECT or DISCONNECT event tells what came of it. BAD_CONFIG for no channels,
  * NO_SLOT, MEMORY. */
 uint32_t gofnjerta_connect(gofnjerta_host *host, gofnjerta_address to, uint8_t channels, uint32_t info, uint32_t word, gofnjerta_peer *peer);
 
@@ -190,7 +191,8 @@ uint32_t gofnjerta_stage(gofnjerta_host *host, const void *body, size_t length);
 uint32_t gofnjerta_submit_staged(gofnjerta_host *host, gofnjerta_peer peer, uint8_t channel, uint8_t flags);
 
 /* A datagram came from an address. What the host makes of it goes to `received`, if that isn't NULL; a stop is nothing that the
- * caller has to see to, whatever the datagram is: where it is 11 (no memory), the other end sends again what was reliable. */
+ * caller has to see to, whatever the datagram is: where it is 11 (no memory), the other end sends again what was reliable. What comes from
+ * port 0 can't be answered, since no datagram can be sent there: a program drops it. */
 uint32_t gofnjerta_receive(gofnjerta_host *host, gofnjerta_address from, const void *datagram, size_t length, gofnjerta_received *received);
 
 /* Puts the next datagram that is to be sent at the front of a buffer of at least GOFNJERTA_ROOM bytes, and says in `datagram` where it

@@ -108,6 +108,25 @@ __attribute__((noinline)) static void let_go(const Shelf *shelf, void *block, vo
     free(at);
 }
 
+#ifdef GOFNJERTA_DEBUG
+/* A block is let go: it doesn't lie on the shelf. */
+static void test_shelf(const Shelf *shelf, const void *at) {
+    for (const Block *each = shelf->first; each; each = each->next)
+        if (each == at) abort();
+}
+
+static void test_block(void *at) {
+    if (head_of(at)->steps > LONGEST / STEP) abort(); /* no head of the pool's */
+    test_shelf(&shelves[head_of(at)->steps], at);
+}
+
+void pool_test_packet(const void *head) {
+    for (size_t i = 0; i <= LONGEST / STEP; i++) test_shelf(&packets[i], head);
+}
+#else
+static void test_block(void *at) { (void)at; }
+#endif
+
 static void lay(Shelf *shelf, void *at) {
     Block *block = at;
     block->next = shelf->first;
@@ -116,6 +135,7 @@ static void lay(Shelf *shelf, void *at) {
 }
 
 void rattle_dealloc(void *at) {
+    test_block(at);
     Shelf *shelf = &shelves[head_of(at)->steps];
     if (shelf->count >= most || shelf == shelves || at == shelf->first) let_go(shelf, at, head_of(at));
     else lay(shelf, at);

@@ -21,4 +21,12 @@ enum { POOL_HEAD = 64 };
 void *pool_take_packet(size_t size, void **bytes);
 void pool_give_packet(void *head, void *bytes);
 
+/* Built with -DGOFNJERTA_DEBUG, it ends the program (abort) where a packet's head is let go that the thread keeps already, and the pool does
+ * so where a block is. */
+#ifdef GOFNJERTA_DEBUG
+void pool_test_packet(const void *head);
+#else
+static inline void pool_test_packet(const void *head) { (void)head; }
+#endif
+
 #endif

@@ -67,7 +67,8 @@ build_tests() {
     local made=$room/made wrap=-Wl,--wrap=malloc,--wrap=realloc,--wrap=free checked=(-fsanitize=address,undefined -fno-sanitize-recover=all)
     compile border border "$made/lib/libgofnjerta.a" && compile lossy lossy "$made/lib/libgofnjerta.a" &&
         compile memory memory "$wrap" "$made/lib/libgofnjerta.a" && compile pool pool -pthread "$wrap" c/pool.c &&
-        compile pool pool-checked -pthread "$wrap" "${checked[@]}" c/pool.c && compile lossy lossy-shared -L"$made/lib" -lgofnjerta &&
+        compile pool pool-checked -pthread "$wrap" "${checked[@]}" c/pool.c &&
+        compile pool pool-debug -pthread "$wrap" -DGOFNJERTA_DEBUG c/pool.c && compile lossy lossy-shared -L"$made/lib" -lgofnjerta &&
         compile layout layout-ours && cc c/tests/layout.c -o "$room/layout-theirs" && build_layer_tests &&
         compile tutorial our-tutorial "$made/lib/libgofnjerta_enet.a" && cc -Wall -Wextra c/tests/tutorial.c -o "$room/tutorial" -lenet &&
         compile progress our-progress "$made/lib/libgofnjerta_enet.a" && cc -O1 -Wall -Wextra c/tests/progress.c -o "$room/progress" -lenet &&
@@ -313,7 +314,7 @@ elif ! build_all > "$room/said" 2>&1; then
     fail build "$room/said"
 else
     grind=(valgrind -q --error-exitcode=9 --leak-check=full --errors-for-leak-kinds=definite)
-    for name in border lossy memory pool border-checked lossy-checked pool-checked threads threads-checked; do
+    for name in border lossy memory pool border-checked lossy-checked pool-checked pool-debug threads threads-checked; do
         try "$name" "$room/$name"
     done
     for name in "${layer_tests[@]}"; do

@@ -36,6 +36,7 @@ ENetPacket *enet_packet_create(const void *data, size_t length, enet_uint32 flag
 
 void enet_packet_destroy(ENetPacket *packet) {
     if (!packet) return;
+    if (KEEPS_PACKETS) pool_test_packet(packet);
     if (packet->freeCallback) packet->freeCallback(packet);
     enet_uint8 *bytes = packet->flags & ENET_PACKET_FLAG_NO_ALLOCATE ? NULL : packet->data;
     if (KEEPS_PACKETS) pool_give_packet(packet, bytes);

@@ -1,14 +1,18 @@
 /* c/pool.c, blocks of the core's and packets with their bytes: of every size, in bursts, let go by the thread that had them or by another, hold what is written to them, none is
  * handed out twice, a thread keeps no more of a size than it may, and gives all of them back when it ends; want of memory is told. malloc
- * and free are counted, and malloc is refused once (--wrap). Says what failed; the status is 1 then. */
+ * and free are counted, and malloc is refused once (--wrap). With -DGOFNJERTA_DEBUG what is let go twice ends the program, also where
+ * others were let go in between. Says what failed; the status is 1 then. */
 #include "../pool.h"
 #include <pthread.h>
+#include <signal.h>
 #include <stdatomic.h>
 #include <stdbool.h>
 #include <stdint.h>
 #include <stdio.h>
 #include <stdlib.h>
 #include <string.h>
+#include <sys/wait.h>
+#include <unistd.h>
 
 enum { BURST = 2000, LONGEST = 200, KEPT = 512 };
 
@@ -119,7 +123,44 @@ static void strangers(void) {
     }
 }
 
+#ifdef GOFNJERTA_DEBUG
+/* Lets a block go twice, with another one in between. */
+static void twice(void) {
+    Tried first = rattle_alloc(40, 8), second = rattle_alloc(40, 8);
+    rattle_dealloc(first.at);
+    rattle_dealloc(second.at);
+    rattle_dealloc(first.at);
+}
+
+/* The same of a packet, as enet_packet_destroy does. */
+static void packet_twice(void) {
+    void *bytes[2], *first = pool_take_packet(40, &bytes[0]), *second = pool_take_packet(3, &bytes[1]);
+    pool_test_packet(first);
+    pool_give_packet(first, bytes[0]);
+    pool_test_packet(second);
+    pool_give_packet(second, bytes[1]);
+    pool_test_packet(first);
+}
+
+/* A process that does so ends by abort. */
+static void is_noticed(void (*fault)(void)) {
+    int status;
+    pid_t child = fork();
+    expect(child >= 0, "no process");
+    if (child == 0) {
+        fault();
+        _exit(0);
+    }
+    expect(waitpid(child, &status, 0) == child && WIFSIGNALED(status) && WTERMSIG(status) == SIGABRT, "what was let go twice wasn't noticed");
+}
+#endif
+
 int main(void) {
+#ifdef GOFNJERTA_DEBUG
+    rattle_dealloc(rattle_alloc(40, 8).at); /* blocks are kept from now on */
+    is_noticed(twice);
+    is_noticed(packet_twice);
+#endif
     bursts();
     are_packets = true;
     bursts();
