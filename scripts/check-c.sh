@@ -2,8 +2,8 @@
 # The library for C and libenet's API over it: `check-c.sh [ARCHIVE]`. ARCHIVE is the proved part, by default crates/enet_c/out/libenet_c.a,
 # which `rt lib` makes there, or after `rt ci` scripts/archive-c.sh. Builds both (scripts/build-c.sh) and runs
 # - the tests of c/tests: the header against the library and bad use (border), two hosts in memory over a lossy net (lossy), each
-#   allocation failing in turn (memory), and the blocks that the layer keeps (pool); plain, with AddressSanitizer and
-#   UndefinedBehaviorSanitizer, and under valgrind;
+#   allocation failing in turn (memory), and the blocks that the layer keeps (pool, also as it is built for debugging); plain, with
+#   AddressSanitizer and UndefinedBehaviorSanitizer, and under valgrind;
 # - the layer: its structures lie as the reference library's header says (layout), what isn't offered is refused, and packets that are sent
 #   while others are let go come as they are (refusals); the reference library and ours do the same with packets of any length and their
 #   bytes (packets), with ten thousand calls drawn from a seed, of which all ways to end (calls), where packets are taken peer by peer

@@ -119,8 +119,8 @@ static struct sockaddr_in system_address(gofnjerta_address to) {
     return (struct sockaddr_in){.sin_family = AF_INET, .sin_port = htons(to.port), .sin_addr.s_addr = htonl(to.ip)};
 }
 
-/* Whether only this datagram is lost, as by the network: the socket has no room at the moment, or the error is of the destination or of the
- * length. Any other error is the socket's own. The same list as in crates/enet_wire (why_unsent). */
+/* Whether a datagram that the system didn't send is lost, as by the network: the socket has no room at the moment, or the error is of the
+ * destination or of the length. Any other error is the socket's own. The same list as in crates/enet_wire (why_unsent). */
 static bool is_loss(int error) {
     switch (error) {
     case EAGAIN:
@@ -164,8 +164,8 @@ static bool send_parts(const Layer *layer, gofnjerta_address to, struct iovec *p
 
 /* Whether the parcel may follow so many others of so many bytes in a train that this one leads. */
 static bool may_follow(const Layer *layer, const Parcel *lead, const Parcel *next, size_t count, size_t bytes) {
-    return layer->has_trains && !layer->slots[lead->slot].goes_alone && count < TRAIN && bytes + next->length <= TRAIN_BYTES && next->length <= lead->length &&
-           next->to.ip == lead->to.ip && next->to.port == lead->to.port;
+    return layer->has_trains && !layer->slots[lead->slot].goes_alone && count < TRAIN && bytes + next->length <= TRAIN_BYTES &&
+           next->length <= lead->length && next->to.ip == lead->to.ip && next->to.port == lead->to.port;
 }
 
 /* The system refused a train. One that has none isn't asked for one again. EINVAL is of the destination: its port is 0, or the way to it takes
