@@ -21,6 +21,7 @@ import collections
 import concurrent.futures
 import dataclasses
 import glob
+import itertools
 import os
 import random
 import re
@@ -30,6 +31,7 @@ import subprocess
 import sys
 import tempfile
 
+sys.dont_write_bytecode = True
 sys.path.insert(0, os.path.dirname(os.path.abspath(__file__)))
 import timeline  # noqa: E402
 
@@ -425,12 +427,12 @@ class Talk:
         self.capture.append((1000000000 + self.now * self.STEP * 1000 + len(self.capture) % 1000, source, target, payload))
 
 
-def lossy(program, talks, datagrams):
-    """So many talks of so many datagrams each, one behind another, and a compressed datagram of a stranger."""
+def lossy(program, seeds, datagrams):
+    """Talks of so many datagrams each, drawn from seeds, at once, and a compressed datagram of a stranger."""
     with concurrent.futures.ThreadPoolExecutor() as pool:
-        for part in pool.map(lambda seed: Talk(program, seed).talk(datagrams), range(1, talks + 1)):
-            yield from part
-    yield 1900000000, '10.2.0.1:5000', Talk.SERVER, bytes.fromhex('4fff00010203')
+        talks = list(pool.map(lambda seed: Talk(program, seed).talk(datagrams), seeds))
+    stranger = (1900000000, '10.2.0.1:5000', Talk.SERVER, bytes.fromhex('4fff00010203'))
+    return sorted(itertools.chain(*talks)) + [stranger]
 
 
 ENDS = ('10.3.0.1:4660', '10.3.0.2:47001')
@@ -515,87 +517,71 @@ def malformed(captured):
         yield 4000000000 + number, *ENDS, payload
 
 
-# The cases ---------------------------------------------------------------------------------------------------------------------------------
+# The cases. Each is what is to be counted: of each thing that is tried whether it holds, and its name with what differs ---------------------
 
 
-def read_by_both(program, dissector, path, options):
-    """The datagrams of a capture, with what belongs together, and what is to be counted of each."""
+def read_by_both(program, dissector, path, *options):
+    """A capture."""
     datagrams = told(program, path)
-    return datagrams, list(compare(os.path.basename(path), datagrams, shown(dissector, path, *options)))
+    yield from compare(os.path.basename(path), datagrams, shown(dissector, path, *options))
 
 
-def read_named(counts, program, dissector, captures):
-    for capture in captures:
-        for holds, what in read_by_both(program, dissector, capture, ('-o', 'enet.ports:1-65535'))[1]:
-            counts.check(holds, what)
+def read_made(tools, name, made, *options):
+    """A capture that is made of datagrams."""
+    program, dissector, room = tools
+    timeline.write(f'{room}/{name}.pcap', made)
+    yield from read_by_both(program, dissector, f'{room}/{name}.pcap', *options)
 
 
-def read_drawn(counts, program, dissector, room):
-    """Reads the captures that are made here; the datagrams of each by its name."""
-    ports, decode_as = ('-o', 'enet.ports:1-4659,4660,47000-47010'), ('-d', 'udp.port==47001,enet')
-    kept = list(captured())
-    counts.check(len(kept) == 446, f'trials/captured has {len(kept)} datagrams where 446 are wanted')
-    captures = {
-        'captured': (kept, ports),
-        'lossy': (lossy(program, 4, 2500), decode_as),
-        'drawn': (drawn(1, 1000), ports),
-        'far-apart': (far_apart(), ports),
-        'malformed': (malformed(kept), decode_as),
-    }
-    runs, found = {}, {}
-    with concurrent.futures.ThreadPoolExecutor() as pool:
-        for name, (made, options) in captures.items():
-            timeline.write(f'{room}/{name}.pcap', made)
-            runs[name] = pool.submit(read_by_both, program, dissector, f'{room}/{name}.pcap', options)
-        for name, run in runs.items():
-            found[name], results = run.result()
-            for holds, what in results:
-                counts.check(holds, what)
-    return found
+def read_lossy(tools, *options):
+    yield from read_made(tools, 'lossy', lossy(tools[0], range(1, 5), 2500), *options)
 
 
-def frames(counts, name, dissector, path, wanted_rows, fields, *options):
+def rows_shown(name, dissector, path, wanted_rows, fields, *options):
     """Whether tshark shows these rows of fields of a capture."""
     asked = [word for field in fields.split() for word in ('-e', field)]
     rows = tshark(dissector, path, '-2', '-T', 'fields', '-E', 'separator= ', *asked, *options).splitlines()
-    counts.check(rows == wanted_rows, f'{name}: {rows} where {wanted_rows} is wanted')
+    return rows == wanted_rows, f'{name}: {rows[:SHOWN]} where {wanted_rows[:SHOWN]} is wanted'
 
 
-def which_ports(counts, dissector, room):
+def which_ports(tools):
     """Nothing is ENet's until it is said so, and what was said to be is."""
+    _, dissector, room = tools
     path = f'{room}/ports.pcap'
-    timeline.write(path, [(at, '10.0.0.1:4660', f'10.0.0.2:{port}', bytes.fromhex('000005ff0001')) for at, port in enumerate((47001, 47002, 50000))])
-    shows = ('-Y', 'enet')
-    frames(counts, 'no port', dissector, path, [], 'frame.number', *shows)
-    frames(counts, 'ports', dissector, path, ['1', '3'], 'frame.number', *shows, '-o', 'enet.ports:47001,49999-50001')
-    frames(counts, 'Decode As', dissector, path, ['2'], 'frame.number', *shows, '-d', 'udp.port==47002,enet')
+    ping = bytes.fromhex('000005ff0001')
+    timeline.write(path, [(at, '10.0.0.1:4660', f'10.0.0.2:{port}', ping) for at, port in enumerate((47001, 47002, 50000))])
+    shows = ('frame.number', '-Y', 'enet')
+    yield rows_shown('no port', dissector, path, [], *shows)
+    yield rows_shown('ports', dissector, path, ['1', '3'], *shows, '-o', 'enet.ports:47001,49999-50001')
+    yield rows_shown('Decode As', dissector, path, ['2'], *shows, '-d', 'udp.port==47002,enet')
 
 
-def quoted_by_icmp(counts, dissector, room):
+def record(whole, kept=None):
+    """A packet in a capture, of which so many bytes were kept."""
+    part = whole[:kept]
+    return struct.pack('<IIII', 0, 0, len(part), len(whole)) + part
+
+
+def quoted_by_icmp(tools):
     """A datagram that an error message quotes wasn't sent again."""
-    ping, answer = bytes.fromhex('800000648500 0001'), bytes.fromhex('0000010000010001 0064')
-    there, back = ('10.0.0.1:4660', '10.0.0.2:47001'), ('10.0.0.2:47001', '10.0.0.1:4660')
-    path = f'{room}/icmp.pcap'
-    quoted = timeline.packet(*there, ping)
-    error = struct.pack('>BBHHHBBH4s4s', 0x45, 0, 28 + len(quoted), 1, 0, 64, 1, 0, bytes([10, 0, 0, 2]), bytes([10, 0, 0, 1]))
-    frame = error + struct.pack('>BBHI', 3, 3, 0, 0) + quoted
-    timeline.write(path, [(1, *there, ping)], struct.pack('<IIII', 0, 2, len(frame), len(frame)) + frame)
-    with open(path, 'ab') as out:
-        whole = timeline.packet(*back, answer)
-        out.write(struct.pack('<IIII', 0, 3, len(whole), len(whole)) + whole)
-    frames(counts, 'quoted by ICMP', dissector, path, ['1 5 3 ', '2 5  ', '3 1  1'],
-           'frame.number enet.command enet.acked_by enet.acks', '-o', 'enet.ports:47001')
+    _, dissector, room = tools
+    path, (client, server) = f'{room}/icmp.pcap', ENDS
+    ping = timeline.packet(client, server, bytes.fromhex('8000 0064 85000001'))
+    answer = timeline.packet(server, client, bytes.fromhex('0000 01000001 0001 0064'))
+    error = struct.pack('>BBHHHBBH4s4s', 0x45, 0, 28 + len(ping), 1, 0, 64, 1, 0, ping[16:20], ping[12:16]) + struct.pack('>BBHI', 3, 3, 0, 0)
+    timeline.write(path, [], record(ping) + record(error + ping) + record(answer))
+    yield rows_shown('quoted by ICMP', dissector, path, ['1 5 3 ', '2 5  ', '3 1  1'],
+                     'frame.number enet.command enet.acked_by enet.acks', '-o', 'enet.ports:47001')
 
 
-def short_capture(counts, dissector, room):
-    """What the capture lacks isn't missing in the datagram."""
-    path = f'{room}/short.pcap'
-    payload = bytes.fromhex('0000' '05ff0001' '860000020004') + b'body'
-    for kept in (1, 2, 3, 9, 12, 13):
-        whole = timeline.packet(*ENDS, payload)
-        timeline.write(path, [], struct.pack('<IIII', 0, 0, 28 + kept, len(whole)) + whole[:28 + kept])
-        frames(counts, f'{kept} bytes kept', dissector, path, [f'The capture has {kept} of the datagram\'s 16 bytes '],
-               '_ws.expert.message enet.stop', '-o', 'enet.ports:47001')
+def short_capture(tools):
+    """What a capture lacks isn't missing in the datagram."""
+    _, dissector, room = tools
+    path, all_kept = f'{room}/short.pcap', (1, 2, 3, 9, 12, 13)
+    whole = timeline.packet(*ENDS, bytes.fromhex('0000 05ff0001 860000020004') + b'body')
+    timeline.write(path, [], b''.join(record(whole, 28 + kept) for kept in all_kept))
+    yield rows_shown('cut by the capture', dissector, path, [f"The capture has {kept} of the datagram's 16 bytes " for kept in all_kept],
+                     '_ws.expert.message enet.stop', '-o', 'enet.ports:47001')
 
 
 def has_resent(datagram):
@@ -616,24 +602,42 @@ FILTERS = {
 }
 
 
-def documents(counts, dissector, room, datagrams):
-    """The command that docs/OPERATING.md shows, run over the lossy capture, and its filters."""
+def documents(tools):
+    """The command that docs/OPERATING.md shows, and its filters."""
+    program, dissector, room = tools
     with open('docs/OPERATING.md', encoding='utf-8') as file:
         text = file.read()
     path = f'{room}/game.pcap'
-    os.rename(f'{room}/lossy.pcap', path)
+    timeline.write(path, lossy(program, [9], 1000))
+    datagrams = told(program, path)
+    reckon(range(1, len(datagrams) + 1), datagrams)
     lines = re.findall(r'^    (tshark .*)$', text, re.M)
-    counts.check(len(lines) == 1, f'docs/OPERATING.md has {len(lines)} commands of tshark where 1 is wanted')
+    yield len(lines) == 1, f'docs/OPERATING.md has {len(lines)} commands of tshark where 1 is wanted'
     for line in lines:
-        done = subprocess.run(['bash', '-c', line.replace('tools/enet.lua', dissector)], cwd=room, capture_output=True, text=True, check=False)
+        done = subprocess.run(['bash', '-c', line.replace(DISSECTOR, dissector)], cwd=room, capture_output=True, text=True, check=False)
         rows, right = len(done.stdout.splitlines()), len(list(filter(FILTERS['enet.command == 6 && enet.resent'], datagrams)))
-        counts.check(done.returncode == 0 and rows == right > 0, f'{line} shows {rows} rows where {right} are wanted: {done.stderr}')
-    shown_filters = re.findall(r'^\| `(enet\.[^`]*)` \|', text, re.M)
-    counts.check(shown_filters == list(FILTERS), f'docs/OPERATING.md shows the filters {shown_filters} where {list(FILTERS)} are wanted')
+        yield done.returncode == 0 and rows == right, f'{line} shows {rows} rows where {right} are wanted: {done.stderr}'
+    filters = re.findall(r'^\| `(enet\.[^`]*)` \|', text, re.M)
+    yield filters == list(FILTERS), f'docs/OPERATING.md shows the filters {filters} where {list(FILTERS)} are wanted'
     for words, lets_through in FILTERS.items():
         right = [str(frame) for frame, datagram in enumerate(datagrams, 1) if lets_through(datagram)]
-        counts.check(right, f'{words} lets nothing through')
-        frames(counts, words, dissector, path, right, 'frame.number', '-Y', words, '-o', 'enet.ports:47001')
+        yield right, f'{words} lets nothing through'
+        yield rows_shown(words, dissector, path, right, 'frame.number', '-Y', words, '-o', 'enet.ports:47001')
+
+
+def cases(tools):
+    ports, decode_as = ('-o', 'enet.ports:1-4659,4660,47000-47010'), ('-d', 'udp.port==47001,enet')
+    kept = list(captured())
+    yield [(len(kept) == 446, f'trials/captured has {len(kept)} datagrams where 446 are wanted')]
+    yield read_lossy(tools, *decode_as)
+    yield documents(tools)
+    yield read_made(tools, 'captured', kept, *ports)
+    yield read_made(tools, 'drawn', drawn(1, 1000), *ports)
+    yield read_made(tools, 'far-apart', far_apart(), *ports)
+    yield read_made(tools, 'malformed', malformed(kept), *decode_as)
+    yield which_ports(tools)
+    yield quoted_by_icmp(tools)
+    yield short_capture(tools)
 
 
 def has_tshark():
@@ -644,14 +648,22 @@ def has_tshark():
     return shutil.which('tshark') is not None
 
 
+def check_all(counts, program, dissector, captures):
+    """Runs the cases side by side."""
+    with tempfile.TemporaryDirectory() as room, concurrent.futures.ThreadPoolExecutor() as pool:
+        named = [read_by_both(program, dissector, capture, '-o', 'enet.ports:1-65535') for capture in captures]
+        for results in pool.map(list, named or cases((program, dissector, room))):
+            for holds, what in results:
+                counts.check(holds, what)
+
+
 def main():
     words, dissector = sys.argv[1:], os.path.join(os.path.dirname(__file__), '..', DISSECTOR)
     if words[:1] == ['--dissector']:
         dissector, words = words[1], words[2:]
-    words = [os.path.realpath(word) for word in words]
-    dissector = os.path.realpath(dissector)
+    dissector, words = os.path.realpath(dissector), [os.path.realpath(word) for word in words]
     os.chdir(os.path.join(os.path.dirname(os.path.abspath(__file__)), '..'))
-    program, *captures = words or [PROGRAM]
+    program, *captures = words or [os.path.realpath(PROGRAM)]
     counts = Counts()
     if not has_tshark():
         print('SKIPPED: tshark is missing')
@@ -661,17 +673,6 @@ def main():
         check_all(counts, program, dissector, captures)
     print(f'{counts.passed} passed, {counts.failed} failed')
     return 1 if counts.failed else 0
-
-
-def check_all(counts, program, dissector, captures):
-    with tempfile.TemporaryDirectory() as room:
-        if captures:
-            read_named(counts, program, dissector, captures)
-            return
-        found = read_drawn(counts, program, dissector, room)
-        documents(counts, dissector, room, found['lossy'])
-        for case in (which_ports, quoted_by_icmp, short_capture):
-            case(counts, dissector, room)
 
 
 if __name__ == '__main__':
