@@ -133,7 +133,7 @@ def told(program, capture):
 
 
 def tshark(dissector, capture, *options):
-    """What tshark writes, read over a capture; an error stands in it as a line of its own."""
+    """What tshark writes when it reads a capture, and then what it complains of."""
     done = subprocess.run(['tshark', '-X', f'lua_script:{dissector}', '-r', capture, *options], capture_output=True, text=True, check=False)
     faults = [line for line in done.stderr.splitlines() if not line.startswith('Running as user')]
     return done.stdout + ''.join(f'{fault}\n' for fault in faults)
@@ -154,7 +154,7 @@ def shown(dissector, capture, *options):
     for line in text.splitlines():
         number, *values = line.split('\t')
         if len(values) != len(FIELDS):
-            raise SystemExit(f'tshark: {line}')
+            raise ValueError(f'tshark: {line}')
         yield int(number), {field: [shown_value(field, value) for value in each.split('|')] for field, each in zip(FIELDS, values) if each}
 
 
@@ -289,7 +289,8 @@ def difference(datagram, values):
     right = wanted(datagram)
     for field in FIELDS:
         if values.get(field) != right.get(field):
-            return f'{field} is {",".join(values.get(field, ["nothing"]))[:200]} where {",".join(right.get(field, ["nothing"]))[:200]} is wanted'
+            is_shown, is_right = (','.join(each.get(field, ['nothing']))[:200] for each in (values, right))
+            return f'{field} is {is_shown} where {is_right} is wanted'
     return None
 
 
@@ -324,7 +325,7 @@ class Lab:
         self.run.stdin.flush()
         answers = [self.run.stdout.readline() for _ in lines]
         if '' in answers:
-            raise SystemExit(f'the lab ended at {lines[answers.index("")]}')
+            raise ValueError(f'the lab ended at {lines[answers.index("")]}')
         return [answer.rstrip('\n') for answer in answers]
 
     def end(self):
@@ -517,7 +518,8 @@ def malformed(captured):
         yield 4000000000 + number, *ENDS, payload
 
 
-# The cases. Each is what is to be counted: of each thing that is tried whether it holds, and its name with what differs ---------------------
+# The cases -------------------------------------------------------------------------------------------------------------------------------
+# Each is what is to be counted: of each thing that is tried whether it holds, and what is to be said if it doesn't.
 
 
 def read_by_both(program, dissector, path, *options):
@@ -568,7 +570,8 @@ def quoted_by_icmp(tools):
     path, (client, server) = f'{room}/icmp.pcap', ENDS
     ping = timeline.packet(client, server, bytes.fromhex('8000 0064 85000001'))
     answer = timeline.packet(server, client, bytes.fromhex('0000 01000001 0001 0064'))
-    error = struct.pack('>BBHHHBBH4s4s', 0x45, 0, 28 + len(ping), 1, 0, 64, 1, 0, ping[16:20], ping[12:16]) + struct.pack('>BBHI', 3, 3, 0, 0)
+    error = struct.pack('>BBHHHBBH4s4s', 0x45, 0, 28 + len(ping), 1, 0, 64, 1, 0, ping[16:20], ping[12:16])
+    error += struct.pack('>BBHI', 3, 3, 0, 0)
     timeline.write(path, [], record(ping) + record(error + ping) + record(answer))
     yield rows_shown('quoted by ICMP', dissector, path, ['1 5 3 ', '2 5  ', '3 1  1'],
                      'frame.number enet.command enet.acked_by enet.acks', '-o', 'enet.ports:47001')
@@ -648,11 +651,19 @@ def has_tshark():
     return shutil.which('tshark') is not None
 
 
+def results_of(case):
+    """What is to be counted of a case, which may end early."""
+    try:
+        yield from case
+    except (OSError, ValueError, subprocess.SubprocessError) as error:
+        yield False, f'a case ended early: {error}'
+
+
 def check_all(counts, program, dissector, captures):
     """Runs the cases side by side."""
     with tempfile.TemporaryDirectory() as room, concurrent.futures.ThreadPoolExecutor() as pool:
         named = [read_by_both(program, dissector, capture, '-o', 'enet.ports:1-65535') for capture in captures]
-        for results in pool.map(list, named or cases((program, dissector, room))):
+        for results in pool.map(lambda case: list(results_of(case)), named or cases((program, dissector, room))):
             for holds, what in results:
                 counts.check(holds, what)
 

@@ -11,9 +11,9 @@
 --
 -- A *send* is a command that asks for an acknowledgement, in one datagram. An ACKNOWLEDGE belongs to the last send before it that went the
 -- other way with its channel, number and sent time; a VERIFY_CONNECT to the last CONNECT with its connect id. A command is *sent again*
--- (`enet.resent`) if one of the last 4,096 sends that go its way has its channel and number. If one of these has its sent time, too, it is no
--- new send but the same datagram seen twice (`enet.repeated`). A *connection* is what goes between two addresses from a CONNECT on, up to
--- one with another connect id.
+-- (`enet.resent`) if one of the last 4,096 sends that go its way has its channel and number. If one of these has its sent time, too, it is
+-- no new send but the same datagram seen twice (`enet.repeated`). A *connection* is what goes between two addresses from a CONNECT on, up
+-- to one with another connect id.
 
 local protocol = Proto("enet", "ENet 1.3")
 
@@ -55,10 +55,16 @@ local fields = {
 local resent = ProtoExpert.new("enet.resent", "Sent again", expert.group.SEQUENCE, expert.severity.NOTE)
 local repeated = ProtoExpert.new("enet.repeated", "Seen before, with the same sent time", expert.group.SEQUENCE, expert.severity.NOTE)
 local cut_short = ProtoExpert.new("enet.cut_short", "The capture has less than the datagram", expert.group.UNDECODED, expert.severity.WARN)
+
+-- Why a datagram can't be read to its end, as `inspect` says it, and how it is marked.
+local function stop(label, name, group)
+    return { label = label, mark = ProtoExpert.new("enet.stop." .. name, label, group, expert.severity.ERROR) }
+end
+
 local stops = {
-    [1] = { label = "S1 Short", mark = ProtoExpert.new("enet.stop.short", "S1 Short", expert.group.MALFORMED, expert.severity.ERROR) },
-    [2] = { label = "S2 Compressed", mark = ProtoExpert.new("enet.stop.compressed", "S2 Compressed", expert.group.UNDECODED, expert.severity.ERROR) },
-    [6] = { label = "S6 BadCommand", mark = ProtoExpert.new("enet.stop.bad_command", "S6 BadCommand", expert.group.MALFORMED, expert.severity.ERROR) },
+    [1] = stop("S1 Short", "short", expert.group.MALFORMED),
+    [2] = stop("S2 Compressed", "compressed", expert.group.UNDECODED),
+    [6] = stop("S6 BadCommand", "bad_command", expert.group.MALFORMED),
 }
 
 -- Commands --------------------------------------------------------------------------------------------------------------------------------
@@ -222,8 +228,8 @@ end
 
 -- What belongs together -------------------------------------------------------------------------------------------------------------------
 
--- The last connection between two addresses, by these; how many connections there are; and what is known of datagrams, by frame and by their
--- place in it.
+-- The last connection between two addresses, by these; how many connections there are; and what is known of datagrams, by frame and by
+-- their place in it.
 local connections, connection_count, known
 
 function protocol.init()
