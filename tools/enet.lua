@@ -207,7 +207,7 @@ end
 
 -- What is read of a datagram: the size of its header (0 if that isn't whole), its sent time if it has one, its commands in order, and
 -- where reading stopped and why, if it did.
-local function read(tvb)
+local function read_datagram(tvb)
     local datagram = { header = 0 }
     if tvb:len() < 2 then
         return stop_at(tvb, datagram, 1, 0, true)
@@ -468,7 +468,7 @@ local function summary(datagram, notes)
 end
 
 function protocol.dissector(tvb, pinfo, root)
-    local datagram = read(tvb)
+    local datagram = read_datagram(tvb)
     local notes = notes_of(tvb, pinfo, datagram)
     pinfo.cols.protocol:set("ENet")
     pinfo.cols.info:set(summary(datagram, notes))
