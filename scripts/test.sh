@@ -1,10 +1,10 @@
 #!/usr/bin/env bash
 # All tests: the gate (every proof from nothing, the must-fail edits, the programs), whether the edits that the gate leaves alone still fit
-# the text, the definitions that documents quote, the names, files and commits that they cite, the trials of the crates, the worked
-# scripts and captured datagrams through the built program, each growth of memory of worked rows refused in turn, the instructions of the
-# benchmark's jobs, clients of the reference library that talk through the program, what its operator's lines do, whom it lets in and what
-# it tells of itself, what deploy/ has, the dissector for Wireshark, and the library for C. Each test but the gate ends with a line 'N passed, M failed'; the status is
-# other than 0 where anything failed.
+# the text, the definitions that documents quote, the names, files and commits that they cite, the trials of the crates, the worked scripts
+# and captured datagrams through the built program, each growth of memory of worked rows refused in turn, the instructions of the
+# benchmark's jobs, clients of the reference library that talk through the program, what its operator's lines do, whom it lets in, what
+# strangers may make it do, what it tells of itself, what deploy/ has, the dissector for Wireshark, and the library for C. Each test but the
+# gate ends with a line 'N passed, M failed'; the status is other than 0 where anything failed.
 # They run side by side, in rows, so that two processors have something to do to the end: what needs no program runs beside the gate; once
 # that passed, what counts runs beside what talks through sockets. A row's output is shown once all of it ended.
 set -u
@@ -85,6 +85,7 @@ row talks << 'END'
 bash scripts/check-clients.sh
 bash scripts/check-operator.sh
 bash scripts/check-admission.sh
+python3 scripts/check-hostile-server.py
 bash scripts/check-metrics.sh
 bash scripts/check-deploy.sh
 python3 scripts/check-dissector.py
