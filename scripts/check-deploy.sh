@@ -1,11 +1,12 @@
 #!/usr/bin/env bash
-# What deploy/ has, tried: `check-deploy.sh [PROGRAM]`. systemd-analyze verifies the units and finds the service exposed by at most 1.2 of
-# 10. The entrypoint of the container is process 1 of a namespace of its own: SIGTERM comes while four clients of the reference library talk
-# (clients/guests.c), all are told, and it ends with status 0. The wrapper for Agones runs beside a stub of the SDK's sidecar: it is ready,
-# healthy, allocated with the first client, and shut down, once by SIGTERM and once since the last client has left; and it isn't called healthy
-# while one of its threads is stopped (clients/hold.c), the service's or the one that answers. PROGRAM is the built `enet_relay`, by default the
-# one that `rt ci`, or `rt run` in crates/enet_relay, leaves. Installs, as root, what is missing. Prints what failed, and as last line 'N
-# passed, M failed'; the status is 1 where one failed.
+# What deploy/ has, tried: `check-deploy.sh [PROGRAM]`. systemd-analyze verifies the unit and finds it exposed by at most 1.2 of 10. What the
+# unit starts runs as a user without rights: who isn't root can't write to its control FIFO, root says `peers` there and it answers, and where
+# SIGTERM comes to its first process while four clients of the reference library talk (clients/guests.c), all are told, and it ends with status
+# 0. The entrypoint of the container is process 1 of a namespace of its own, with the same end. The wrapper for Agones runs beside a stub of the
+# SDK's sidecar: it is ready, healthy, allocated with the first client, and shut down, once by SIGTERM and once since the last client has left;
+# and it isn't called healthy while one of its threads is stopped (clients/hold.c), the service's or the one that answers. PROGRAM is the built
+# `enet_relay`, by default the one that `rt ci`, or `rt run` in crates/enet_relay, leaves. It wants root, and installs what is missing. Prints
+# what failed, and as last line 'N passed, M failed'; the status is 1 where one failed.
 cd "$(dirname "$0")/.." || exit 1
 . scripts/clients.sh
 . scripts/tally.sh
@@ -32,14 +33,15 @@ install_tools() {
     [ ${#missing[@]} -eq 0 ] || install_packages "${missing[@]}" > "$room/install" 2>&1
 }
 
-# The units, with the program at the place that they name.
-units() {
+# The unit, with what it starts at the places that it names.
+unit() {
     local unit=$room/root/etc/systemd/system
-    mkdir -p "$unit" "$room/root/usr/local/bin" "$room/root/bin"
-    cp deploy/systemd/* "$unit"
+    mkdir -p "$unit" "$room/root/usr/local/bin" "$room/root/usr/local/lib/enet-relay" "$room/root/bin"
+    cp deploy/systemd/enet-relay.service "$unit"
     cp "$program" "$room/root/usr/local/bin/enet_relay"
+    cp deploy/relay_run.sh "$room/root/usr/local/lib/enet-relay/"
     cp /bin/sh "$room/root/bin/sh"
-    systemd-analyze --root="$room/root" --recursive-errors=no verify "$unit/enet-relay.service" "$unit/enet-relay.socket" > "$room/why" 2>&1 || return 1
+    systemd-analyze --root="$room/root" --recursive-errors=no --man=no verify "$unit/enet-relay.service" > "$room/why" 2>&1 || return 1
     [ ! -s "$room/why" ] || return 1
     systemd-analyze --root="$room/root" --offline=true --threshold=12 security "$unit/enet-relay.service" > "$room/why" 2>&1
 }
@@ -74,19 +76,42 @@ guests_fared() {
     done
 }
 
+# SIGTERM to the process $2 of what was started as $1, while guests talk: they are told, and it ends well within four seconds.
+terminate() {
+    local begun=$SECONDS
+    kill -TERM "$2"
+    guests_fared || return 1
+    wait "$1" || { echo "status $?" > "$room/why"; return 1; }
+    [ $((SECONDS - begun)) -le 4 ] || { echo "it took $((SECONDS - begun)) seconds" > "$room/why"; return 1; }
+}
+
+# What the unit starts, by its own words, with another port and other places.
+service() {
+    local text=deploy/systemd/enet-relay.service there=$room/root/usr/local control=$room/run/control options words outer
+    free_port
+    options=$(sed -n "s/^Environment=\"OPTIONS=\(.*\)\"\$/\1/p" "$text" | sed "s/47001/$port/")
+    words=$(sed -n 's/^ExecStart=//p' "$text" | sed "s|/usr/local|$there|g; s|\$OPTIONS|$options|")
+    install -d -o 65534 -g 65534 -m 700 "$room/run"
+    # shellcheck disable=SC2086
+    CONTROL=$control setpriv --reuid 65534 --regid 65534 --clear-groups $words > "$room/service.out" 2> "$room/service.err" &
+    outer=$!
+    started+=("$outer")
+    wait_for "$room/service.err" 'listening at' && receive_guests "$port" || return 1
+    echo peers > "$control"
+    wait_for "$room/service.out" 'peers 4' || return 1
+    [ "$(stat -c '%A %u' "$control")" = 'prw------- 65534' ] || { stat -c '%A %u' "$control" > "$room/why"; return 1; }
+    terminate "$outer" "$outer" || return 1
+    grep -q '^stopping$' "$room/service.out" || { cat "$room/service.out" > "$room/why"; return 1; }
+}
+
 container() {
     free_port
-    unshare --pid --fork --kill-child -- env PATH="$room:$PATH" sh deploy/container/entrypoint.sh \
-        serve --port "$port" --forever --log > "$room/container.out" 2> "$room/container.err" &
-    local outer=$! first begun
+    unshare --pid --fork --kill-child -- sh deploy/relay_run.sh "$program" serve --port "$port" --forever --log \
+        > "$room/container.out" 2> "$room/container.err" &
+    local outer=$!
     started+=("$outer")
     wait_for "$room/container.err" 'listening at' && receive_guests "$port" || return 1
-    first=$(pgrep -P "$outer")
-    begun=$SECONDS
-    kill -TERM "$first"
-    guests_fared || return 1
-    wait "$outer" || { echo "status $?" > "$room/why"; return 1; }
-    [ $((SECONDS - begun)) -le 4 ] || { echo "it took $((SECONDS - begun)) seconds" > "$room/why"; return 1; }
+    terminate "$outer" "$(pgrep -P "$outer")"
 }
 
 # The wrapper, ended by SIGTERM where $1 is `term`, else once its clients have left.
@@ -145,9 +170,11 @@ if ! build_clients "$room"; then
     echo '0 passed, 1 failed'
     exit 1
 fi
-ln -s "$program" "$room/enet_relay"
-units
-judge units $?
+chmod 711 "$room"
+unit
+judge unit $?
+service
+judge service $?
 container
 judge container $?
 agones term
