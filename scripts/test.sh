@@ -6,7 +6,8 @@
 # strangers may make it do, what it tells of itself, what deploy/ has, the dissector for Wireshark, and the library for C. Each test but the
 # gate ends with a line 'N passed, M failed'; the status is other than 0 where anything failed.
 # They run side by side, in rows, so that two processors have something to do to the end: what needs no program runs beside the gate; once
-# that passed, what counts runs beside what talks through sockets. A row's output is shown once all of it ended.
+# that passed, what counts runs beside what talks through sockets. A row's output is shown once all of it ended. At the end out/tests.txt has the
+# commit, the kit and what each test counted.
 set -u
 cd "$(dirname "$0")/.." || exit 1
 begun=$SECONDS
@@ -34,7 +35,7 @@ library() {
 }
 
 # What the crates' folders have of built libraries goes first, so that those that stand there afterwards are the gate's; out/probe, too.
-rm -rf crates/*/out/rlib crates/enet_c/out/libenet_c.a out/probe
+rm -rf crates/*/out/rlib crates/enet_c/out/libenet_c.a out/probe out/tests.txt
 row texts << 'END'
 bash scripts/build-probe.sh
 bash scripts/check-edits.sh --read
@@ -46,10 +47,10 @@ END
 # and `was_full` to 1 where it says that the disk was full.
 prove() {
     local statuses
-    RT_JOBS=${RT_JOBS:-$(nproc)} rt ci 2>&1 | awk '
-        { print; fflush() }
+    RT_JOBS=${RT_JOBS:-$(nproc)} rt ci 2>&1 | awk -v last="$room/gate" '
+        { print; fflush(); line = $0 }
         /could not write its statements|the disk is full|No space left on device/ { full = 1 }
-        END { exit full }'
+        END { print line > last; exit full }'
     statuses=("${PIPESTATUS[@]}")
     gate=${statuses[0]}
     was_full=${statuses[1]}
@@ -90,8 +91,22 @@ bash scripts/check-metrics.sh
 bash scripts/check-deploy.sh
 python3 scripts/check-dissector.py
 END
+# What out/tests.txt says: of a test that counts nothing whether it ended well.
+tell_counts() {
+    echo "commit $(git rev-parse HEAD)$([ -z "$(git status --porcelain)" ] || echo ', with changes that no commit has')"
+    echo "kit $(rt version)"
+    echo "rt ci: $(<"$room/gate")"
+    awk 'FILENAME == failed { lost[$0] = 1; next }
+        /^== / { test = substr($0, 4); counts = "" }
+        /^[0-9]+ passed, [0-9]+ failed$/ { counts = $0 }
+        /^   after [0-9]+ seconds$/ { print test ": " (test in lost ? "FAILED " : "") (counts == "" ? "ended" : counts) }' \
+        failed="$room/failed" "$room/failed" "$room/texts" "$room/counts" "$room/talks"
+}
 show texts
 show counts
 show talks
+mkdir -p out
+touch "$room/failed"
+tell_counts > out/tests.txt
 echo "all tests ended after $((SECONDS - begun)) seconds"
 [ ! -s "$room/failed" ] || { echo 'failed:' >&2; cat "$room/failed" >&2; exit 1; }
