@@ -91,3 +91,10 @@ manual_name() {
         *) echo 'a proved host for ENet 1.3' ;;
     esac
 }
+
+# The examples that docs/C.md shows, as files in the folder $1.
+write_examples() {
+    mkdir -p "$1"
+    awk '/^```c$/ { on = !seen; seen = 1; next } /^```$/ { on = 0 } on' docs/C.md > "$1/echo.c"
+    awk '/^```python$/ { on = !seen; seen = 1; next } /^```$/ { on = 0 } on' docs/C.md > "$1/echo.py"
+}

@@ -1,6 +1,6 @@
 #!/usr/bin/env bash
 # A release: `release.sh [--after-tests] FOLDER` makes of the commit that is checked out, in FOLDER,
-#   gofnjerta-VERSION-linux-x86_64.tar.gz   the program, the libraries for C, manual, completion, deploy/ and docs/, to unpack anywhere
+#   gofnjerta-VERSION-linux-x86_64.tar.gz   the program, the libraries for C, manual, completion, examples, deploy/ and docs/, to unpack anywhere
 #   *.deb                                   the five packages of package-relay.sh and package-c.sh
 #   PROVED.txt                              commit, kit, how many functions were proved of each crate, what was tested, what is trusted
 #   THIRD-PARTY.txt                         what of others is linked into them, and its licences
@@ -109,6 +109,7 @@ pack_archive() {
     for file in "$there"/lib/*.a "$there/lib/libgofnjerta.so.0" "$there/lib/gofnjerta/libenet.so.7" "$there/bin/enet_relay"; do strip_file "$file"; done
     write_manuals "$there/bin/enet_relay" "$there/share/man/man1"
     install -m 644 deploy/bash/enet_relay "$there/share/bash-completion/completions/"
+    write_examples "$there/examples"
     git archive HEAD deploy docs README.md CHANGELOG.md | tar -xf - -C "$there"
     write_copyright > "$there/COPYRIGHT.txt"
     cp "$room/PROVED.txt" "$room/THIRD-PARTY.txt" "$there/"
