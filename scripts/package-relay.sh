@@ -26,7 +26,7 @@ install -m 644 deploy/bash/enet_relay "$root/usr/share/bash-completion/completio
 write_manuals "$root/usr/bin/enet_relay" "$root/usr/share/man/man1"
 gzip -9n "$root"/usr/share/man/man1/*.1
 install -m 644 docs/OPERATING.md docs/LAB.md docs/PROTOCOL.md "$doc/"
-cp -r deploy/agones deploy/container deploy/grafana deploy/prometheus "$doc/examples/"
+cp -r deploy/grafana deploy/prometheus deploy/agones/agones_run.sh deploy/agones/fleet.yaml "$doc/examples/"
 echo /etc/default/enet-relay > "$root/DEBIAN/conffiles"
 cat > "$root/DEBIAN/postinst" << 'END'
 #!/bin/sh
