@@ -38,6 +38,9 @@ stop() {
     echo "release.sh: $1" >&2
     exit 1
 }
+for tool in dpkg-deb help2man objdump strip; do
+    command -v "$tool" > "$room/found" || stop "$tool isn't here: it takes Debian's dpkg, help2man and binutils"
+done
 
 # Whether out/tests.txt is of this commit and kit, and tells of no failure.
 tests_passed() {
