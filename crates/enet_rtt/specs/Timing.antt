@@ -29,9 +29,13 @@ after_sample e r = record {
   sampled = true;
 }
 
--- How long a command that is sent now waits for its acknowledgement. The sum stops at the greatest number of 32 bits.
+-- The longest that a command waits for its acknowledgement after its first send.
+abbrev pub longest_timeout : ℕ
+longest_timeout = 5000
+
+-- How long a command that is sent now waits for its acknowledgement.
 abbrev pub timeout : Estimate → ℕ
-timeout e = min (e.round_trip + 4 * e.variance) 4294967295
+timeout e = min (e.round_trip + 4 * e.variance) longest_timeout
 
 -- Round trip and variance are at most so many milliseconds.
 pub record IsWithin (e : Estimate) (most : ℕ) : Type 0 where

@@ -5,6 +5,9 @@ ghost use Rattle.enet_rtt.specs.Timing.{fresh, after_sample, timeout, StaysWithi
 
 use std::marker::Model;
 
+/// The longest that a command waits for its acknowledgement after its first send, in milliseconds.
+const LONGEST_TIMEOUT: u32 = 5_000;
+
 /// The estimate of a peer's round trip: its time and its variance, in milliseconds. It begins at 500 and 0.
 #[derive(Clone, Copy)]
 pub struct Timing {
@@ -78,18 +81,18 @@ impl Timing {
     }
 
     /// After how many milliseconds a command that is sent now is due for resending: the round trip and four times
-    /// the variance, at most 4,294,967,295 (our profile).
+    /// the variance, but no more than 5,000 (our profile).
     pub fn timeout_of(&self) -> u32
         ensures { result ≡ timeout self.now }
     {
         self.variance
             .saturating_mul(4)
             .saturating_add(self.round_trip)
+            .min(LONGEST_TIMEOUT)
     }
 }
 
-/// A law of the definitions: round trip and variance stay within what bounds them and the samples. So where samples
-/// are at most 65,535 ms, the timeout is at most 327,675 ms.
+/// A law of the definitions: round trip and variance stay within what bounds them and the samples.
 pub fn estimate_stays_within()
     ensures { StaysWithin }
 {}

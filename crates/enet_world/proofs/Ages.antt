@@ -33,7 +33,7 @@ at-named s x p h = by (end_of x s.ends) h
     by None k = absurd (let z : ◌≡◌ {A = Option Peering} None (Some p) = k in cc)
     by (Some e) k = (e.name, k)
 
-over-in : (joined : Bool) (w : World) (passed rounds ms : ℕ) → IsReachedIn passed joined w → 0 < rounds → 327675 ≤ rounds * min ms 60000 → passed + rounds * min ms 60000 < 4294967295 → AreOverIn rounds ms w
+over-in : (joined : Bool) (w : World) (passed rounds ms : ℕ) → IsReachedIn passed joined w → 0 < rounds → 60000 ≤ rounds * min ms 60000 → passed + rounds * min ms 60000 < 4294967295 → AreOverIn rounds ms w
 over-in joined w passed rounds ms r some long near = record {
   some = some;
   over = λ side x p is.
@@ -49,12 +49,12 @@ over-in joined w passed rounds ms r some long near = record {
     all = habits-in passed joined w r (omega arith)
 
 -- as many rounds as the longest wait takes
-some-of : (n m : ℕ) → 327675 ≤ n * m → 0 < n
+some-of : (n m : ℕ) → 60000 ≤ n * m → 0 < n
 some-of zero m h = absurd (omega arith)
 some-of (suc n) m h = omega arith
 
-sum-low : (a b : ℕ) → a < 4294500000 → b ≤ 387675 → a + b < 4294967295
+sum-low : (a b : ℕ) → a < 4294500000 → b ≤ 120000 → a + b < 4294967295
 sum-low a b h k = omega arith
 
-pub over-wait : (joined : Bool) (w : World) (passed rounds ms : ℕ) → IsReachedIn passed joined w → 327675 ≤ rounds * min ms 60000 → rounds * min ms 60000 ≤ 387675 → passed < 4294500000 → AreOverIn rounds ms w
+pub over-wait : (joined : Bool) (w : World) (passed rounds ms : ℕ) → IsReachedIn passed joined w → 60000 ≤ rounds * min ms 60000 → rounds * min ms 60000 ≤ 120000 → passed < 4294500000 → AreOverIn rounds ms w
 over-wait joined w passed rounds ms r long brief early = over-in joined w passed rounds ms r (some-of rounds (min ms 60000) long) long (sum-low passed (rounds * min ms 60000) early brief)

@@ -149,7 +149,7 @@ record Awaits (d n passed c : ℕ) (p : Peering) : Type 0 where
 abbrev Stage : (d n passed c : ℕ) → Peering → Type 0
 Stage d n passed c p = (n ≡ 0) ⊎ (Idle d n c p ⊎ Awaits d n passed c p)
 
-stage-brief : (d n passed c : ℕ) (p : Peering) → 0 < d → Stage d n passed c p → n * d < 358175 + 3 * d
+stage-brief : (d n passed c : ℕ) (p : Peering) → 0 < d → Stage d n passed c p → n * d < 90500 + 3 * d
 stage-brief d n passed c p some (inl none) = let z : n * d ≡ 0 * d = ap (λ m. m * d) none in omega arith
 stage-brief d n passed c p some (inr (inl k)) = elim k.short [
   | inl one ↦ (let z : n * d ≡ 1 * d = ap (λ m. m * d) one in omega arith)
@@ -190,7 +190,7 @@ later c now d e = ap (λ m. (m + d) % 2 ^ 32) e ∙ clock-sum now d
 elapsed-later : (c h d : ℕ) → h < 2 ^ 32 → d ≤ 60000 → elapsed_time c h < 500 → elapsed_time ((c + d) % 2 ^ 32) h ≡ elapsed_time c h + d
 elapsed-later c h d low small short = omega arith
 
-low-of : (n ms passed d : ℕ) → d ≡ min ms 60000 → passed < 4293000000 → n * d < 358175 + 4 * d → passed_by_rounds n ms passed < 4294967295
+low-of : (n ms passed d : ℕ) → d ≡ min ms 60000 → passed < 4293000000 → n * d < 90500 + 4 * d → passed_by_rounds n ms passed < 4294967295
 low-of n ms passed d is early few = (let m : passed_by_rounds n ms passed ≤ passed + 2 * (n * d) = subst (λ k. passed_by_rounds n ms passed ≤ passed + 2 * (n * k)) (sym is) (passed-most n ms passed) in let small : d ≤ 60000 = at-most ms d is in omega arith)
   where
     at-most : (a b : ℕ) → b ≡ min a 60000 → b ≤ 60000
@@ -228,7 +228,7 @@ stage-round joined n ms passed x side told w v some early round uncut r r_v k = 
     more : suc n * d ≡ n * d + d
     more = more-rounds n d
 
-    brief : n * d < 358175 + 3 * d
+    brief : n * d < 90500 + 3 * d
     brief = stage-brief d n passed (clock_at w side) k.p some k.holds
 
     low : passed_by_rounds n ms passed < 4294967295
@@ -310,8 +310,8 @@ stage-round joined n ms passed x side told w v some early round uncut r r_v k = 
         near : u.time + d < 2 ^ 32
         near = (let b = brief in let t = u.within in let s = small in omega arith)
 
-        goes : Goes c (λ p. Waits u.since u.now u.time p × (p.patience.maximum ≡ 30000)) (λ p. StillWaits (Old u.since (u.now + d) (u.time + d)) p.outbox × (u.now + d < u.since + 357675)) (Waits u.since (u.now + d) (u.time + d))
-        goes = subst (λ m. Goes m (λ p. Waits u.since u.now u.time p × (p.patience.maximum ≡ 30000)) (λ p. StillWaits (Old u.since (u.now + d) (u.time + d)) p.outbox × (u.now + d < u.since + 357675)) (Waits u.since (u.now + d) (u.time + d)))
+        goes : Goes c (λ p. Waits u.since u.now u.time p × (p.patience.maximum ≡ 30000)) (λ p. StillWaits (Old u.since (u.now + d) (u.time + d)) p.outbox × (u.now + d < u.since + 90000)) (Waits u.since (u.now + d) (u.time + d))
+        goes = subst (λ m. Goes m (λ p. Waits u.since u.now u.time p × (p.patience.maximum ≡ 30000)) (λ p. StillWaits (Old u.since (u.now + d) (u.time + d)) p.outbox × (u.now + d < u.since + 90000)) (Waits u.since (u.now + d) (u.time + d)))
             (sym (later (clock_at w side) u.now d u.clock)) (still-waits u.since u.now u.time d near)
 
     by : Stage d n passed (clock_at w side) k.p → After
@@ -467,19 +467,19 @@ ends-past joined was w x side r d (inl k) = inl (record { e = k.e; there = k.the
     past : is_past k.p.state ≡ true
     past = ap (λ (p : Peering). is_past p.state) (same-some k.p d.past.0 (sym own ∙ d.past.1)) ∙ d.past.2
 
-long-enough : (d m : ℕ) → 0 < d → 358175 / d + 4 ≤ m → 358175 + 3 * d ≤ m * d
+long-enough : (d m : ℕ) → 0 < d → 90500 / d + 4 ≤ m → 90500 + 3 * d ≤ m * d
 long-enough d m some few =
-    let whole : 358175 / d * d + 358175 % d ≡ 358175 = div-add-mod' 358175 d in
-    let inside : 358175 % d < d = mod-lt 358175 some in
-    let most : (358175 / d + 4) * d ≤ m * d = mul-le-mul_right d few in
-    let parts : (358175 / d + 4) * d ≡ 358175 / d * d + 4 * d = spread (358175 / d) d in
+    let whole : 90500 / d * d + 90500 % d ≡ 90500 = div-add-mod' 90500 d in
+    let inside : 90500 % d < d = mod-lt 90500 some in
+    let most : (90500 / d + 4) * d ≤ m * d = mul-le-mul_right d few in
+    let parts : (90500 / d + 4) * d ≡ 90500 / d * d + 4 * d = spread (90500 / d) d in
     omega arith
   where
     spread : (q k : ℕ) → (q + 4) * k ≡ q * k + 4 * k
     spread q k = omega arith
 
 is-past-then : (joined : Bool) (n ms passed x : ℕ) (side : Side) (told : Calm) (w v : World) → 0 < min ms 60000 → passed < 4293000000 → Rounds ms n told w v → (share_of told side).cut_short ≡ 0 → IsReachedIn passed joined w → Lone (λ p. Unit {0}) w x side
-    → 358175 + 3 * min ms 60000 ≤ n * min ms 60000 → Past v x side
+    → 90500 + 3 * min ms 60000 ≤ n * min ms 60000 → Past v x side
 is-past-then joined n ms passed x side told w v some early d uncut r k long = (let h = after-rounds joined n ms passed x side told w v some early d uncut r k in elim h.1 [
   | inl l ↦ absurd (let b = stage-brief (min ms 60000) n passed (clock_at v side) l.p some l.holds in omega arith)
   | inr past ↦ past
@@ -523,13 +523,13 @@ tells-alone joined ms (suc m) passed told old new r d x side alone uncut some ea
     a = begins (site_of old side) x state.Connected alone.connected
 
     past : Past d.2 x side
-    past = is-past-then joined m ms passed x side d.0 old d.2 (lesser ms some) early d.3 cuts.0 r (lone-first joined old x side r.reached alone) (long-enough (min ms 60000) m (lesser ms some) (few (358175 / min ms 60000) m long))
+    past = is-past-then joined m ms passed x side d.0 old d.2 (lesser ms some) early d.3 cuts.0 r (lone-first joined old x side r.reached alone) (long-enough (min ms 60000) m (lesser ms some) (few (90500 / min ms 60000) m long))
 
     start : IsHere joined is_up a.was x side old
     start = (r.reached, inl (record { e = a.was; there = a.there; more = []; called = refl; took = sym (append-nil a.was.events); p = a.p; is = a.is; up = ap is_up a.in_it }))
 
     first : IsHere joined is_up a.was x side d.2
-    first = first-rounds joined a.was m ms x side d.0 old d.2 (some_rounds (358175 / min ms 60000) m long) d.3 cuts.0 start
+    first = first-rounds joined a.was m ms x side d.0 old d.2 (some_rounds (90500 / min ms 60000) m long) d.3 cuts.0 start
 
     last : IsHere joined is_none a.was x side new
     last = last-round joined a.was ms x side d.1 d.2 new d.4 cuts.1 (first.0, ends-past joined a.was d.2 x side first.0 past first.1)

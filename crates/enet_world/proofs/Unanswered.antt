@@ -235,7 +235,7 @@ old-marked since now time d bound pt heard t c = by (leb t.timeout (elapsed_time
     grows = record t { timeout = transmission.grown_time bound t.timeout; due = true }
 
     -- with another timeout, perhaps, and due to go again or not
-    later : (wait : ℕ) (due : Bool) → wait ≤ 327675 → (due ≡ true) ⊎ (now + d ≤ a.last + wait) → Aged (now + d) (time + d) (record t { timeout = wait; due = due })
+    later : (wait : ℕ) (due : Bool) → wait ≤ 60000 → (due ≡ true) ⊎ (now + d ≤ a.last + wait) → Aged (now + d) (time + d) (record t { timeout = wait; due = due })
     later wait due brief waits = record {
       first = a.first;
       last = a.last;
@@ -276,7 +276,7 @@ old-marked since now time d bound pt heard t c = by (leb t.timeout (elapsed_time
         soon = lasts since now time d pt heard t c is_late
 
 -- and not for longer than that
-old-over : (since now time d : ℕ) (pt : Patience) (heard : ℕ) (t : Transmission) → Comes since now time d pt heard t → since + 357675 ≤ now + d → ⊥
+old-over : (since now time d : ℕ) (pt : Patience) (heard : ℕ) (t : Transmission) → Comes since now time d pt heard t → since + 90000 ≤ now + d → ⊥
 old-over since now time d pt heard t c over = (let x = lasts since now time d pt heard t c is_late in let y = c.old.early in omega arith)
   where
     n : ℕ
@@ -335,10 +335,10 @@ less-or a b never = by (leb b a) refl
     by false e = lt-of b a e
 
 still-ticked : (since now time d : ℕ) (p : Peering) → p.state ≡ state.Connected → (ticked p ((now + d) % 2 ^ 32)).state ≡ state.Connected → p.patience.maximum ≡ 30000 → time + d < 2 ^ 32 → AllRest p → StillWaits (Old since now time) p.outbox
-    → StillWaits (Old since (now + d) (time + d)) (ticked p ((now + d) % 2 ^ 32)).outbox × (now + d < since + 357675)
+    → StillWaits (Old since (now + d) (time + d)) (ticked p ((now + d) % 2 ^ 32)).outbox × (now + d < since + 90000)
 still-ticked since now time d p on stays patient near rests waits = (
   subst (λ (q : Peering). StillWaits Later q.outbox) (sym (after-tick p n (no-end p n on stays))) (pinged-still Later (after_timeouts_by (cond (has_late p.outbox n) Resend No) p n) n (by (has_late p.outbox n) refl)),
-  less-or (now + d) (since + 357675) (λ over. none-waits Now p.outbox (λ t c. old-over since now time d p.patience p.heard t c over) comes),
+  less-or (now + d) (since + 90000) (λ over. none-waits Now p.outbox (λ t c. old-over since now time d p.patience p.heard t c over) comes),
 )
   where
     n : ℕ
@@ -398,7 +398,7 @@ pub record Asks (p : Peering) : Type 0 where
 pub record Waits (since now time : ℕ) (p : Peering) : Type 0 where
   pub rests : AllRest p
   pub waits : StillWaits (Old since now time) p.outbox
-  pub brief : now < since + 357675
+  pub brief : now < since + 90000
 
 pub stays-quiet : (n heard : ℕ) → Goes n (λ p. p.heard ≡ heard) (λ p. p.heard ≡ heard) (Quiet heard)
 stays-quiet n heard = record {
@@ -430,7 +430,7 @@ is-asked n = record {
     some q h (inl done) = absurd (not-idle q.outbox.control h (and-left (controlling.is_idle q.outbox.control) (list_all has_no_reliable q.outbox.senders) (done-nothing q.outbox done)))
     some q h (inr w) = w
 
-pub still-waits : (since now time d : ℕ) → time + d < 2 ^ 32 → Goes ((now + d) % 2 ^ 32) (λ p. Waits since now time p × (p.patience.maximum ≡ 30000)) (λ p. StillWaits (Old since (now + d) (time + d)) p.outbox × (now + d < since + 357675)) (Waits since (now + d) (time + d))
+pub still-waits : (since now time d : ℕ) → time + d < 2 ^ 32 → Goes ((now + d) % 2 ^ 32) (λ p. Waits since now time p × (p.patience.maximum ≡ 30000)) (λ p. StillWaits (Old since (now + d) (time + d)) p.outbox × (now + d < since + 90000)) (Waits since (now + d) (time + d))
 still-waits since now time d near = record {
   ticks = λ p on h stays. still-ticked since now time d p on stays h.1 near h.0.rests h.0.waits;
   limits = λ p limit h. h;

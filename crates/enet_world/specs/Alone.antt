@@ -17,10 +17,10 @@ pub record IsLeftAlone (w : World) (x : ℕ) (side : Side) : Type 0 where
   pub connected : state_at (site_of w side) x ≡ Some state.Connected
   pub left : HasLeft w x (other side)
 
--- four more rounds than take longer, each of at most a minute, than 358,175 ms: the interval of a ping (500), the greatest patience (30,000) and
--- the longest timeout (327,675) together
+-- four more rounds than take longer, each of at most a minute, than 90,500 ms: the interval of a ping (500), the greatest patience (30,000) and
+-- the longest timeout (60,000) together
 abbrev pub rounds_until_told : ℕ → ℕ
-rounds_until_told ms = 358175 / min ms 60000 + 5
+rounds_until_told ms = 90500 / min ms 60000 + 5
 
 -- so its user is told, by so many rounds in which time passes and its side isn't cut short; `passed` says for how long both clocks together went on
 -- before, which is less than some 49 days, else the 32 bits of a clock may not tell a wait

@@ -21,9 +21,9 @@ unfoldable pub pieces_below : World → ℕ → Side → ℕ → ℕ
 pieces_below w x side zero = 0
 pieces_below w x side (suc n) = pieces_below w x side n + pieces_of (submitted_at n (end_at w x side))
 
--- so many rounds, each of at most a minute, take longer than any timeout, of which none is over 327,675 ms
+-- so many rounds, each of at most a minute, take longer than any timeout, of which none is over 60,000 ms
 abbrev pub rounds_of_a_wait : ℕ → ℕ
-rounds_of_a_wait ms = 327675 / min ms 60000 + 1
+rounds_of_a_wait ms = 60000 / min ms 60000 + 1
 
 -- these, and two for each command of what both users submitted, on 255 channels
 abbrev pub rounds_for : ℕ → World → ℕ → ℕ

@@ -170,9 +170,9 @@ impl World {
     /// the way and the rounds were enough. Where something did, nothing is said of what comes.
     ///
     /// `alone`: who is left alone is told. Of each connection whose peer is connected at a side before the rounds, while the other side's
-    /// has Ended or is gone: its user has taken its Disconnect in the rounds, where its side wasn't cut short and there are 358,175 /
+    /// has Ended or is gone: its user has taken its Disconnect in the rounds, where its side wasn't cut short and there are 90,500 /
     /// min(`ms`, 60,000) + 5 rounds or more, rounded down: four more than take longer than a ping's interval (500 ms), the greatest
-    /// patience (30,000) and the longest timeout (327,675) together. `ms` isn't 0, and both clocks together had gone on by less than
+    /// patience (30,000) and the longest timeout (60,000) together. `ms` isn't 0, and both clocks together had gone on by less than
     /// 4,293,000,000 ms (49 days) before. Of one whose other end is only about to end this says nothing before that has.
     ///
     /// `delivered`: what a side has nothing left of has arrived. Where the peer of an end stands, still sends, and has no reliable command

@@ -11,9 +11,9 @@ use enet_codec::Packet;
 use enet_host::PeerState;
 use law_network::Side;
 
-/// No command waits for its acknowledgement for longer than so many milliseconds: a round trip and its variance are less than 2^16 each, and a
-/// timeout is the one and four times the other, or twice what passed since the first send, which is less than 30,000.
-const LONGEST_WAIT: u32 = 327_675;
+/// No command waits for its acknowledgement for longer than so many milliseconds: a timeout is 5,000 at most at a first send, and later at most
+/// twice what passed since then, which is less than 30,000.
+const LONGEST_WAIT: u32 = 60_000;
 
 /// How many channels have sequenced data.
 const CHANNELS: u8 = 255;
@@ -37,8 +37,8 @@ fn pieces_of(packets: &[Packet]) -> u64
 pub(crate) fn rounds_of_a_wait(ms: u32) -> u64
     requires { 0 < ms }
     ensures exact { result ≡ rounds_of_a_wait ms }
-    ensures long { 327675 ≤ result * min ms 60000 }
-    ensures brief { result * min ms 60000 ≤ 387675 }
+    ensures long { 60000 ≤ result * min ms 60000 }
+    ensures brief { result * min ms 60000 ≤ 120000 }
 {
     u64::from(LONGEST_WAIT / ms.min(60_000) + 1)
 }
@@ -55,7 +55,7 @@ impl World {
     /// How many rounds are enough for a connection, each of so many milliseconds: as many as bring all through by `progress` of `calm`, where
     /// nothing stands in the way and the connection stands. There may be fewer that are enough.
     ///
-    /// `exact`: as many as take longer than 327,675 ms, the longest timeout that there is, and two for each command of what both users have
+    /// `exact`: as many as take longer than 60,000 ms, the longest timeout that there is, and two for each command of what both users have
     /// submitted so far, taken or not, cut as in datagrams of 576 bytes. None where the connection isn't one whose peers are connected at both
     /// sides, `ms` is 0, both clocks together have gone on by 4,294,500,000 ms (49 days) since the world's beginning, or 64 bits don't hold the
     /// number. `enough`: these are enough.

@@ -1,5 +1,6 @@
 -- What was sent, however rarely time comes and datagrams go: nothing waits for longer than its timeout but what is due to go again, and no
--- timeout is above 327,675 ms, as long as the clock hasn't wrapped since the first send. Of a peer with ENet's patience.
+-- timeout is above 60,000 ms, as long as the clock hasn't wrapped since the first send: it is 5,000 at most at first, and later at most twice
+-- what had passed since the first send, less than the greatest patience. Of a peer with ENet's patience.
 use Rattle.std.proofs.Common.{◌≡◌, ℕ, ◌+◌, ◌-◌, ◌*◌, ◌%◌, ◌^◌, ◌<◌, ◌≤◌, ◌&&◌, not, leb, Bool, true, false, cond, List, map, refl, sym, ap, subst, ◌∙◌, inl, inr, ◌⊎◌, arith}
 use Rattle.std.proofs.lemmas.Bool.Decides.{nat_tests}
 use Rattle.std.specs.List.{list_any}
@@ -38,7 +39,7 @@ pub record Aged (now time : ℕ) (t : Transmission) : Type 0 where
   pub after : first ≤ last
   pub by : last ≤ now
   pub since : now ≤ first + time
-  pub brief : t.timeout ≤ 327675
+  pub brief : t.timeout ≤ 60000
   pub waits : (t.due ≡ true) ⊎ (now ≤ last + t.timeout)
 
 -- the greatest patience is ENet's
@@ -48,7 +49,7 @@ most = 30000
 abbrev pub Ages : ℕ → ℕ → Peering → Type 0
 Ages now time p = Fair (Aged now time) most p
 
-aged-begun : (now time wait : ℕ) → wait ≤ 327675 → Aged now time (transmission.begun (now % 2 ^ 32) wait)
+aged-begun : (now time wait : ℕ) → wait ≤ 60000 → Aged now time (transmission.begun (now % 2 ^ 32) wait)
 aged-begun now time wait low = record { first = now; last = now; first_is = refl; last_is = refl; after = omega arith; by = omega arith; since = omega arith; brief = low; waits = inr (omega arith) }
 
 aged-again : (now time : ℕ) (t : Transmission) → Aged now time t → Aged now time (transmission.again (now % 2 ^ 32) t)
@@ -178,11 +179,14 @@ ages-ticked now time d p h near = go (has_ended p.outbox n p.patience p.heard) r
     go false e true f = pings (record p { outbox = outbox.marked p.outbox (growth_bound p) n }) (marks (growth_bound p) e)
     go false e false f = pings p (stays e f)
 
+brief-timeout : (n : ℕ) → n ≤ 5000 → n ≤ 60000
+brief-timeout n low = omega arith
+
 -- nor does it matter that a peer is asked for a datagram
 pub ages-emitted : (now time : ℕ) (p : Peering) → Ages now time p → Ages now time (gone_on_in p.state (record p { outbox = (filled (pace_of p (now % 2 ^ 32)) p.outbox).outbox }))
 ages-emitted now time p h =
     let f = filled (pace_of p (now % 2 ^ 32)) p.outbox in
-    let sends : Sends (Aged now time) (now % 2 ^ 32) (timeout p.estimate) = record { first = aged-begun now time (timeout p.estimate) (timeout-low p.estimate h.1); again = λ t a due. aged-again now time t a } in
+    let sends : Sends (Aged now time) (now % 2 ^ 32) (timeout p.estimate) = record { first = aged-begun now time (timeout p.estimate) (brief-timeout (timeout p.estimate) (timeout-low p.estimate)); again = λ t a due. aged-again now time t a } in
     fair-went (Aged now time) most (record p { outbox = f.outbox }) p.state (each-filled (Aged now time) (pace_of p (now % 2 ^ 32)) p.outbox sends h.0, h.1, h.2)
 
 -- where less time than that is known to have gone by, it is so too of more
@@ -195,7 +199,7 @@ pub ages-more : (now time more : ℕ) (p : Peering) → time ≤ more → Ages n
 ages-more now time more p low h = (((λ t k. aged-more now time more t.transmission low (h.0.0 t k)), (λ s k t j. aged-more now time more t.transmission low (h.0.1 s k t j))), h.1, h.2)
 
 -- so many milliseconds later all that was sent is over
-pub ages-over : (now time wait : ℕ) (p : Peering) → Ages now time p → 327675 ≤ wait → time + wait < 2 ^ 32 → AllOver ((now + wait) % 2 ^ 32) p
+pub ages-over : (now time wait : ℕ) (p : Peering) → Ages now time p → 60000 ≤ wait → time + wait < 2 ^ 32 → AllOver ((now + wait) % 2 ^ 32) p
 ages-over now time wait p h long near s k t j = by t.transmission.due refl
   where
     n : ℕ

@@ -97,7 +97,7 @@ record Paced (most stretch total now : ℕ) (o : Outbox) : Type 0 where
   near : now ≤ limit + stretch
 
 -- a datagram that is filled keeps this
-filled-paced : (most stretch total now : ℕ) (pace : Pace) (o : Outbox) → pace.now ≡ now % 2 ^ 32 → pace.timeout ≤ 327675 → Paced most stretch total now o → Paced most stretch total now (filled pace o).outbox
+filled-paced : (most stretch total now : ℕ) (pace : Pace) (o : Outbox) → pace.now ≡ now % 2 ^ 32 → pace.timeout ≤ 5000 → Paced most stretch total now o → Paced most stretch total now (filled pace o).outbox
 filled-paced most stretch total now pace o same low r = by-filling pace o (λ f. Paced most stretch total now f.outbox) (record {
   closes = λ f g. g;
   acknowledges = λ f a rest e g. record { limit = g.limit; each = g.each; count = g.count; near = g.near };
@@ -110,10 +110,10 @@ filled-paced most stretch total now pace o same low r = by-filling pace o (λ f.
   where
     -- what goes now, or again
     begins : (limit : ℕ) → now ≤ limit + stretch → Until most (limit + stretch) now (transmission.begun pace.now pace.timeout)
-    begins limit near = subst (λ m. Until most (limit + stretch) now (transmission.begun m pace.timeout)) (sym same) (now, timed-begun now 327675 pace.timeout most low, near)
+    begins limit near = subst (λ m. Until most (limit + stretch) now (transmission.begun m pace.timeout)) (sym same) (now, timed-begun now 5000 pace.timeout most low, near)
 
     repeats : (limit : ℕ) (t : Transmission) → t.due ≡ true → Until most limit now t → Until most limit now (transmission.again pace.now t)
-    repeats limit t due g = subst (λ m. Until most limit now (transmission.again m t)) (sym same) (g.0, timed-again g.0 327675 most now t g.1 due, g.2)
+    repeats limit t due g = subst (λ m. Until most limit now (transmission.again m t)) (sym same) (g.0, timed-again g.0 5000 most now t g.1 due, g.2)
 
     controls : (u : Outbox) (n : controlling.Next) → Paced most stretch total now u → GoesControl pace.now pace.timeout u.control n → Paced most stretch total now (record u { control = n.commands })
     controls u n g (Heads x rest q is) = subst (λ (c : controlling.Next). Paced most stretch total now (record u { control = c.commands })) is (record {
@@ -366,7 +366,7 @@ takes-fewer p = by p.greeting
 
 -- the peer by now, while it is to disconnect later
 record Ahead (most gap total now : ℕ) (p : Peering) : Type 0 where
-  paced : Paced most (327675 + 2 * most + gap) total now p.outbox
+  paced : Paced most (5000 + 2 * most + gap) total now p.outbox
   within : IsWithin p.estimate 65535
   patient : p.patience.maximum ≡ most
   fit : AllFit (pace_at p) p.outbox
@@ -380,7 +380,7 @@ ahead-fewer most gap total now p q a keeps less =
       paced = record {
         limit = r.limit;
         each = all.0;
-        count = (let c = r.count in let d = less.count in let k = no-more (still_to_go q.outbox) (still_to_go p.outbox) (327675 + 2 * most + gap) d in omega arith);
+        count = (let c = r.count in let d = less.count in let k = no-more (still_to_go q.outbox) (still_to_go p.outbox) (5000 + 2 * most + gap) d in omega arith);
         near = r.near;
       };
       within = all.1;
@@ -391,7 +391,7 @@ ahead-fewer most gap total now p q a keeps less =
 -- as a datagram that is put out leaves it
 filled-ahead : (most gap total now : ℕ) (p : Peering) → Ahead most gap total now p → Ahead most gap total now (record p { outbox = (filled (pace_of p (now % 2 ^ 32)) p.outbox).outbox })
 filled-ahead most gap total now p a = record {
-  paced = filled-paced most (327675 + 2 * most + gap) total now (pace_of p (now % 2 ^ 32)) p.outbox refl (timeout-low p.estimate a.within) a.paced;
+  paced = filled-paced most (5000 + 2 * most + gap) total now (pace_of p (now % 2 ^ 32)) p.outbox refl (timeout-low p.estimate) a.paced;
   within = a.within;
   patient = a.patient;
   fit = fit-at (pace_of p (now % 2 ^ 32)) (pace_at p) (filled (pace_of p (now % 2 ^ 32)) p.outbox).outbox refl (filled-fits (pace_of p (now % 2 ^ 32)) p.outbox (fit-at (pace_at p) (pace_of p (now % 2 ^ 32)) p.outbox refl a.fit));
@@ -549,8 +549,8 @@ turn-rested most gap total now p q first turn e = subst (λ (x : Peering). Reste
         channels s h t k = (let w = place r.outbox.senders s h in sender-rests (occasion pace r.outbox) s.sender (nothing.channels w.0 s w.1) t k)
 
 -- a moment comes
-tick-ahead : (most gap total before now : ℕ) (p : Peering) (a : Ahead most gap total before p) → Each Rests p.outbox.control.sent p.outbox.senders → p.state ≡ state.DisconnectLater → before ≤ now → now ≤ before + gap → 327675 + 2 * most + gap < 2 ^ 32
-    → now ≤ a.paced.limit + (327675 + 2 * most + gap) → (ticked p (now % 2 ^ 32)).state ≡ state.DisconnectLater → Ahead most gap total now (ticked p (now % 2 ^ 32))
+tick-ahead : (most gap total before now : ℕ) (p : Peering) (a : Ahead most gap total before p) → Each Rests p.outbox.control.sent p.outbox.senders → p.state ≡ state.DisconnectLater → before ≤ now → now ≤ before + gap → 5000 + 2 * most + gap < 2 ^ 32
+    → now ≤ a.paced.limit + (5000 + 2 * most + gap) → (ticked p (now % 2 ^ 32)).state ≡ state.DisconnectLater → Ahead most gap total now (ticked p (now % 2 ^ 32))
 tick-ahead most gap total before now p a rests e up down near soon h =
     let r = a.paced in
     let q : Peering = ticked p (now % 2 ^ 32) in
@@ -560,7 +560,7 @@ tick-ahead most gap total before now p a rests e up down near soon h =
       paced = record {
         limit = r.limit;
         each = all.0;
-        count = (let c = r.count in let d = less.count in let k = no-more (still_to_go q.outbox) (still_to_go p.outbox) (327675 + 2 * most + gap) d in omega arith);
+        count = (let c = r.count in let d = less.count in let k = no-more (still_to_go q.outbox) (still_to_go p.outbox) (5000 + 2 * most + gap) d in omega arith);
         near = soon;
       };
       within = all.1;
@@ -572,8 +572,8 @@ tick-ahead most gap total before now p a rests e up down near soon h =
     at = ap (λ s. record p { state = s }) (sym e)
 
 -- turn after turn
-turns-later : (most gap total : ℕ) (later : List ℕ) (now : ℕ) (p q : Peering) → 327675 + 2 * most + gap < 2 ^ 32 → ((ticked p (now % 2 ^ 32)).state ≡ state.DisconnectLater → Ahead most gap total now (ticked p (now % 2 ^ 32))) → Turns state.DisconnectLater gap now p later q
-    → last_of now later ≤ total + (327675 + 2 * most + gap)
+turns-later : (most gap total : ℕ) (later : List ℕ) (now : ℕ) (p q : Peering) → 5000 + 2 * most + gap < 2 ^ 32 → ((ticked p (now % 2 ^ 32)).state ≡ state.DisconnectLater → Ahead most gap total now (ticked p (now % 2 ^ 32))) → Turns state.DisconnectLater gap now p later q
+    → last_of now later ≤ total + (5000 + 2 * most + gap)
 turns-later most gap total [] now p q near first turn =
     let a = first (stays-first state.DisconnectLater (now % 2 ^ 32) turn.steps (ticked p (now % 2 ^ 32)) turn.last turn.stays) in
     let r = a.paced in let c = r.count in let d = r.near in omega arith
@@ -596,13 +596,13 @@ turns-later most gap total (next ∷ later) now p q near first (r, turn, up, dow
         each = let b = a.ahead in let c = b.paced in c.each
 
         -- what waits went at most a stretch ago
-        one : (t : Transmission) → Until most limit now t → next ≤ limit + (327675 + 2 * most + gap)
+        one : (t : Transmission) → Until most limit now t → next ≤ limit + (5000 + 2 * most + gap)
         one t g = let x = g.1 in let y = x.in_time in let z = g.2 in omega arith
 
-        soon : next ≤ limit + (327675 + 2 * most + gap)
+        soon : next ≤ limit + (5000 + 2 * most + gap)
         soon = by a.waits
           where
-            by : WaitsForSome r.outbox → next ≤ limit + (327675 + 2 * most + gap)
+            by : WaitsForSome r.outbox → next ≤ limit + (5000 + 2 * most + gap)
             by (inl w) = one w.0.transmission (each.0 w.0 w.1)
             by (inr w) = one w.2.transmission (each.1 w.0 w.1 w.2 w.3)
 
@@ -610,14 +610,14 @@ turns-later most gap total (next ∷ later) now p q near first (r, turn, up, dow
 fresh-later : (p : Peering) → ((R : Transmission → Type 0) → Each R p.outbox.control.sent p.outbox.senders) → IsWithin p.estimate 65535 → Fits p → DisconnectsLater p
 fresh-later p none within fits gap now moments q next later r near run low high turns =
     let end = turns-later most gap total later next q r near begins turns in
-    let sum : total + (327675 + 2 * most + gap) ≡ next + (still_to_go q.outbox + 1) * (327675 + 2 * most + gap) = omega arith in
+    let sum : total + (5000 + 2 * most + gap) ≡ next + (still_to_go q.outbox + 1) * (5000 + 2 * most + gap) = omega arith in
     omega arith
   where
     most : ℕ
     most = p.patience.maximum
 
     stretch : ℕ
-    stretch = 327675 + 2 * most + gap
+    stretch = 5000 + 2 * most + gap
 
     total : ℕ
     total = next + still_to_go q.outbox * stretch

@@ -403,28 +403,28 @@ fair-left R most p Refused info h = h
 
 -- by now each goes on as it should, and first went at such a moment
 abbrev pub GoesFrom : (ℕ → Type 0) → ℕ → ℕ → Transmission → Type 0
-GoesFrom Q most now t = (first : ℕ) × Timed first 327675 most now t × Q first
+GoesFrom Q most now t = (first : ℕ) × Timed first 5000 most now t × Q first
 
 abbrev pub Goes : ℕ → ℕ → Transmission → Type 0
 Goes = GoesFrom (λ first. Unit {0})
 
-sends-on : (most now wait : ℕ) → wait ≤ 327675 → Sends (Goes most now) (now % 2 ^ 32) wait
+sends-on : (most now wait : ℕ) → wait ≤ 5000 → Sends (Goes most now) (now % 2 ^ 32) wait
 sends-on most now wait low = record {
-  first = (now, timed-begun now 327675 wait most low, tt);
-  again = λ t g due. (g.0, timed-again g.0 327675 most now t g.1 due, tt);
+  first = (now, timed-begun now 5000 wait most low, tt);
+  again = λ t g due. (g.0, timed-again g.0 5000 most now t g.1 due, tt);
 }
 
-pub timeout-low : (e : Estimate) → IsWithin e 65535 → timeout e ≤ 327675
-timeout-low e w = let a = w.round_trip in let b = w.variance in least (e.round_trip + 4 * e.variance) (omega arith)
+pub timeout-low : (e : Estimate) → timeout e ≤ 5000
+timeout-low e = least (e.round_trip + 4 * e.variance)
   where
-    least : (n : ℕ) → n ≤ 327675 → min n 4294967295 ≤ 327675
-    least n h = grind arith
+    least : (n : ℕ) → min n 5000 ≤ 5000
+    least n = grind arith
 
 fair-deed : (most now : ℕ) (p : Peering) (deed : Deed) → Fair (Goes most now) most p → Fair (Goes most now) most (after_deed (now % 2 ^ 32) p deed)
 fair-deed most now p (Lives (Hears sent m)) h = fair-obeyed (Goes most now) most p (now % 2 ^ 32) sent m h
 fair-deed most now p (Lives PutsOut) h =
     let f = filled (pace_of p (now % 2 ^ 32)) p.outbox in
-    let all = each-filled (Goes most now) (pace_of p (now % 2 ^ 32)) p.outbox (sends-on most now (timeout p.estimate) (timeout-low p.estimate h.1)) h.0 in
+    let all = each-filled (Goes most now) (pace_of p (now % 2 ^ 32)) p.outbox (sends-on most now (timeout p.estimate) (timeout-low p.estimate)) h.0 in
     fair-went (Goes most now) most (record p { outbox = f.outbox }) p.state (all, h.1, h.2)
 fair-deed most now p (Lives Takes) h = fair-takes (Goes most now) most p h
 fair-deed most now p (Submits channel packet) h = fair-submitted (Goes most now) most p channel packet h
@@ -454,7 +454,7 @@ patient : (most n heard : ℕ) (pt : Patience) (t : Transmission) → pt.maximum
 patient most n heard pt t same e late =
     ap (λ m. leb m (elapsed_time n t.first)) (sym same) ∙ (or-both (leb pt.maximum (elapsed_time n t.first)) _ (ap (λ b. b && gives_up pt n heard t) (sym late) ∙ e)).0
 
-pub tick-fair : (Q : ℕ → Type 0) (most before now gap : ℕ) (p : Peering) → Fair (GoesFrom Q most before) most p → Each Rests p.outbox.control.sent p.outbox.senders → before ≤ now → now ≤ before + gap → 327675 + 2 * most + gap < 2 ^ 32
+pub tick-fair : (Q : ℕ → Type 0) (most before now gap : ℕ) (p : Peering) → Fair (GoesFrom Q most before) most p → Each Rests p.outbox.control.sent p.outbox.senders → before ≤ now → now ≤ before + gap → 5000 + 2 * most + gap < 2 ^ 32
     → Fair (GoesFrom Q most now) most (ticked p (now % 2 ^ 32))
 tick-fair Q most before now gap p h rests up down near = go (has_ended p.outbox n p.patience p.heard) refl (has_late p.outbox n) refl
   where
@@ -462,7 +462,7 @@ tick-fair Q most before now gap p h rests up down near = go (has_ended p.outbox 
     n = now % 2 ^ 32
 
     goes : (bound : ℕ) (t : Transmission) → GoesFrom Q most before t → t.due ≡ false → transmission.ends n p.patience p.heard t ≡ false → GoesFrom Q most now (transmission.marked bound n t)
-    goes bound t g waits e = (g.0, timed-marked g.0 327675 most before now bound t g.1 waits up (let x = g.1 in let y = x.in_time in omega arith) (λ late. patient most n p.heard p.patience t h.2 e late), g.2)
+    goes bound t g waits e = (g.0, timed-marked g.0 5000 most before now bound t g.1 waits up (let x = g.1 in let y = x.in_time in omega arith) (λ late. patient most n p.heard p.patience t h.2 e late), g.2)
 
     ends-controls : has_ended p.outbox n p.patience p.heard ≡ false → (t : SentControl) → Has p.outbox.control.sent t → transmission.ends n p.patience p.heard t.transmission ≡ false
     ends-controls e t k = none-of (controlling.ends n p.patience p.heard) p.outbox.control.sent t (or-both (list_any (controlling.ends n p.patience p.heard) p.outbox.control.sent) _ e).0 k
@@ -521,26 +521,26 @@ tick-fair Q most before now gap p h rests up down near = go (has_ended p.outbox 
 abbrev pub Ready : ℕ → ℕ → Peering → Type 0
 Ready most now q = Fair (Goes most now) most q × Each Rests q.outbox.control.sent q.outbox.senders
 
-moment-ready : (most before now gap : ℕ) (p q : Peering) → Ready most before p → before ≤ now → now ≤ before + gap → 327675 + 2 * most + gap < 2 ^ 32 → Moment now p q → Ready most now q
+moment-ready : (most before now gap : ℕ) (p q : Peering) → Ready most before p → before ≤ now → now ≤ before + gap → 5000 + 2 * most + gap < 2 ^ 32 → Moment now p q → Ready most now q
 moment-ready most before now gap p q r up down near m = (
   subst (λ (x : Peering). Fair (Goes most now) most x) (sym m.after) (fair-deeds most now (ticked p (now % 2 ^ 32)) m.deeds (tick-fair (λ first. Unit {0}) most before now gap p r.0 r.1 up down near)),
   rest-of q.outbox m.resent,
 )
 
-pub moments-ready : (most gap : ℕ) (moments : List ℕ) (before now : ℕ) (p q : Peering) → Ready most before p → before ≤ now → now ≤ before + gap → 327675 + 2 * most + gap < 2 ^ 32 → Moments gap now p moments q → Ready most (last_of now moments) q
+pub moments-ready : (most gap : ℕ) (moments : List ℕ) (before now : ℕ) (p q : Peering) → Ready most before p → before ≤ now → now ≤ before + gap → 5000 + 2 * most + gap < 2 ^ 32 → Moments gap now p moments q → Ready most (last_of now moments) q
 moments-ready most gap [] before now p q r up down near m = moment-ready most before now gap p q r up down near m
 moments-ready most gap (next ∷ later) before now p q r up down near (u, m, low, high, rest) =
     moments-ready most gap later now next u q (moment-ready most before now gap p u r up down near m) low high near rest
 
 -- a peer that has sent nothing yet
-ready-waits : (most now : ℕ) (q : Peering) → 327675 + 2 * most < 2 ^ 32 → Ready most now q → WaitAtMost most (now % 2 ^ 32) q.outbox
+ready-waits : (most now : ℕ) (q : Peering) → 5000 + 2 * most < 2 ^ 32 → Ready most now q → WaitAtMost most (now % 2 ^ 32) q.outbox
 ready-waits most now q near r = record {
   controls = λ t h. waits t.transmission (r.0.0.0 t h) (r.1.0 t h);
   channels = λ s k t h. waits t.transmission (r.0.0.1 s k t h) (r.1.1 s k t h);
 }
   where
     waits : (t : Transmission) → Goes most now t → t.due ≡ false → elapsed_time (now % 2 ^ 32) t.first ≤ most + t.timeout
-    waits t g e = timed-elapsed g.0 327675 most now t g.1 e (let x = g.1 in let y = x.in_time in omega arith)
+    waits t g e = timed-elapsed g.0 5000 most now t g.1 e (let x = g.1 in let y = x.in_time in omega arith)
 
 fresh-waits : (p : Peering) → ((R : Transmission → Type 0) → Each R p.outbox.control.sent p.outbox.senders) → IsWithin p.estimate 65535 → NoneWaitsLonger p
 fresh-waits p none within gap now moments q near run =

@@ -18,7 +18,7 @@ still_to_go o = length o.control.queued + queued_over o.senders
 
 -- how long a command waits for its acknowledgement at most
 abbrev pub longest_wait : Peering → ℕ
-longest_wait p = 327675 + 2 * p.patience.maximum
+longest_wait p = 5000 + 2 * p.patience.maximum
 
 -- where this peer has come, after any moments, to be one that is to disconnect later, it stays so for at most the longest wait and the gap,
 -- for each command that is still to go, and once more

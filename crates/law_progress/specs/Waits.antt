@@ -55,5 +55,5 @@ pub record WaitAtMost (most now : ℕ) (o : Outbox) : Type 0 where
 -- nothing that a peer sends waits for longer than its timeout and the greatest patience, at any moment, where its clock never stands still
 -- for so long that it wraps: else the peer has ended
 abbrev pub NoneWaitsLonger : Peering → Type 0
-NoneWaitsLonger p = (gap now : ℕ) (moments : List ℕ) (q : Peering) → 327675 + 2 * p.patience.maximum + gap < 2 ^ 32 → Moments gap now p moments q
+NoneWaitsLonger p = (gap now : ℕ) (moments : List ℕ) (q : Peering) → 5000 + 2 * p.patience.maximum + gap < 2 ^ 32 → Moments gap now p moments q
     → WaitAtMost p.patience.maximum (last_of now moments % 2 ^ 32) q.outbox
