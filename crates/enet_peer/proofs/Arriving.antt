@@ -10,7 +10,7 @@ use Rattle.enet_inbox.specs.DataEffect as kept_in
 use Rattle.enet_inbox.proofs.Stops.{Tells, tells-if, tells-ok, tells-err, arrival_stays, arrival_tells, passed_tells, quiet_stays}
 use Rattle.enet_peer.specs.Peering.{Peering}
 use Rattle.enet_peer.specs.Endings.{is_later}
-use Rattle.enet_peer.specs.CommandEffect.{Outcome, Stops, stopped, answered, answered_at, is_answered_in, is_connect, is_allowed, is_crowded_out, by_body, on_data, by_answer, by_arrival, obeyed, is_kept, wants_memory}
+use Rattle.enet_peer.specs.CommandEffect.{Outcome, Stops, stopped, answered, answered_at, is_answered_in, is_connect, is_allowed, is_crowded_out, is_unasked, by_body, on_data, by_answer, by_arrival, obeyed, is_kept, wants_memory}
 use Rattle.enet_peer.specs.Acting.{foreseen, foreseen_body, foreseen_data}
 use Rattle.enet_peer.specs.Private.Acting.{taken_in, acted, acted_body, by_foresight}
 
@@ -36,7 +36,8 @@ foreseen-known : (p : Peering) (m : Message) → Tells (foreseen p m)
 foreseen-known p m =
     tells-if (is_connect m.body) (Err stop.BadCommand) _ (tells-err stop.BadCommand (λ e. cc))
     (tells-if (is_allowed p.state m.body) _ (Err stop.NotConnected)
-    (tells-if (is_crowded_out p m) (Err stop.Waiting) (foreseen_body p m m.body) (tells-err stop.Waiting (λ e. cc)) (foreseen-body p m m.body))
+    (tells-if (is_unasked p m.body) (Err stop.NotConnected) _ (tells-err stop.NotConnected (λ e. cc))
+    (tells-if (is_crowded_out p m) (Err stop.Waiting) (foreseen_body p m m.body) (tells-err stop.Waiting (λ e. cc)) (foreseen-body p m m.body)))
     (tells-err stop.NotConnected (λ e. cc)))
 
 -- a data command, as foreseen and then done
@@ -73,17 +74,18 @@ body-is p now sent m (send_fragment f b) = data-is p m sent
 body-is p now sent m (send_unsequenced g b) = data-is p m sent
 body-is p now sent m (send_unreliable_fragment f b) = data-is p m sent
 
-tested-is : (p after : Peering) (m : Message) (sent : Option ℕ) (is_bad may_come crowded : Bool) (o : Outcome) (r : Result Bool Stop) → o ≡ by_foresight p after m sent r
-    → cond is_bad (stopped p stop.BadCommand) (cond may_come (cond crowded (stopped p stop.Waiting) o) (stopped p stop.NotConnected))
-    ≡ by_foresight p after m sent (cond is_bad (Err stop.BadCommand) (cond may_come (cond crowded (Err stop.Waiting) r) (Err stop.NotConnected)))
-tested-is p after m sent true may_come crowded o r e = refl
-tested-is p after m sent false true true o r e = refl
-tested-is p after m sent false true false o r e = e
-tested-is p after m sent false false crowded o r e = refl
+tested-is : (p after : Peering) (m : Message) (sent : Option ℕ) (is_bad may_come unasked crowded : Bool) (o : Outcome) (r : Result Bool Stop) → o ≡ by_foresight p after m sent r
+    → cond is_bad (stopped p stop.BadCommand) (cond may_come (cond unasked (stopped p stop.NotConnected) (cond crowded (stopped p stop.Waiting) o)) (stopped p stop.NotConnected))
+    ≡ by_foresight p after m sent (cond is_bad (Err stop.BadCommand) (cond may_come (cond unasked (Err stop.NotConnected) (cond crowded (Err stop.Waiting) r)) (Err stop.NotConnected)))
+tested-is p after m sent true may_come unasked crowded o r e = refl
+tested-is p after m sent false true true crowded o r e = refl
+tested-is p after m sent false true false true o r e = refl
+tested-is p after m sent false true false false o r e = e
+tested-is p after m sent false false unasked crowded o r e = refl
 
 -- the outcome of a command, by its three steps
 pub obeyed_is : (p : Peering) (now : ℕ) (sent : Option ℕ) (m : Message) → obeyed p now sent m ≡ by_foresight p (acted p now (is_some sent) m) m sent (foreseen p m)
-obeyed_is p now sent m = tested-is p (acted p now (is_some sent) m) m sent (is_connect m.body) (is_allowed p.state m.body) (is_crowded_out p m) _ (foreseen_body p m m.body) (body-is p now sent m m.body)
+obeyed_is p now sent m = tested-is p (acted p now (is_some sent) m) m sent (is_connect m.body) (is_allowed p.state m.body) (is_unasked p m.body) (is_crowded_out p m) _ (foreseen_body p m m.body) (body-is p now sent m m.body)
 
 answer-given : (p : Peering) (m : Message) (sent : Option ℕ) (b : Bool)
     → ((cond b (answered_at p m.head sent) (record { stop = None; after = p })).stop ≡ None) ⊎ ((cond b (answered_at p m.head sent) (record { stop = None; after = p })).stop ≡ Some stop.NoSentTime)

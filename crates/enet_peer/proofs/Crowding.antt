@@ -17,25 +17,27 @@ use Rattle.enet_outbox.specs.Outbox.{is_crowded, is_done, matched_by}
 use Rattle.enet_peer.specs.declared.parts.PeerState.{PeerState}
 use Rattle.enet_peer.specs.declared.parts.PeerState.TheVariants as state
 use Rattle.enet_peer.specs.Peering.{Peering}
-use Rattle.enet_peer.specs.Endings.{disconnecting, is_later, settled}
-use Rattle.enet_peer.specs.CommandEffect.{acknowledged, drops_acknowledgements, is_allowed, is_answered_in, is_connect, is_connecting, is_crowded_out, is_disconnect, on_acknowledge, on_disconnect_in, on_last_disconnect, on_match, on_verify_in, welcomed, with_answer}
+use Rattle.enet_peer.specs.Endings.{disconnecting, ended, is_later, settled}
+use Rattle.enet_peer.specs.CommandEffect.{acknowledged, drops_acknowledgements, is_allowed, is_answered_in, is_connect, is_connecting, is_crowded_out, is_disconnect, is_unasked, on_acknowledge, on_disconnect_in, on_last_disconnect, on_match, on_verify_in, welcomed, with_answer}
 use Rattle.enet_peer.specs.Acting.{foreseen, foreseen_body}
 use Rattle.enet_peer.specs.Private.Acting.{acted, acted_body, may_be_answered}
 use Rattle.enet_peer.proofs.Answered.{matched-stays}
+use Rattle.enet_peer.proofs.Obeying.{unwelcomed-holds}
 
 abbrev waiting : Peering → ℕ
 waiting p = length p.outbox.acknowledgements
 
 -- a command that nothing stops isn't crowded out
-clear-of : (is_bad may_come crowded : Bool) (r : Result Bool Stop) (may : Bool)
-    → cond is_bad (Err stop.BadCommand) (cond may_come (cond crowded (Err stop.Waiting) r) (Err stop.NotConnected)) ≡ Ok may → crowded ≡ false
-clear-of true may_come crowded r may e = absurd (cc)
-clear-of false false crowded r may e = absurd (cc)
-clear-of false true true r may e = absurd (cc)
-clear-of false true false r may e = refl
+clear-of : (is_bad may_come unasked crowded : Bool) (r : Result Bool Stop) (may : Bool)
+    → cond is_bad (Err stop.BadCommand) (cond may_come (cond unasked (Err stop.NotConnected) (cond crowded (Err stop.Waiting) r)) (Err stop.NotConnected)) ≡ Ok may → crowded ≡ false
+clear-of true may_come unasked crowded r may e = absurd (cc)
+clear-of false false unasked crowded r may e = absurd (cc)
+clear-of false true true crowded r may e = absurd (cc)
+clear-of false true false true r may e = absurd (cc)
+clear-of false true false false r may e = refl
 
 not-out : (p : Peering) (m : Message) (may : Bool) → foreseen p m ≡ Ok may → is_crowded_out p m ≡ false
-not-out p m may e = clear-of (is_connect m.body) (is_allowed p.state m.body) (is_crowded_out p m) (foreseen_body p m m.body) may e
+not-out p m may e = clear-of (is_connect m.body) (is_allowed p.state m.body) (is_unasked p m.body) (is_crowded_out p m) (foreseen_body p m m.body) may e
 
 -- nothing that a command does has more acknowledgements wait
 settled-fewer : (q : Peering) → waiting (settled q) ≤ waiting q
@@ -69,7 +71,10 @@ acknowledge-fewer p now channel number time = by (is_connecting p.state)
     by false = match-fewer (matched_by p.outbox channel number) p (acknowledged p now channel number time) (gone-same p now channel number time)
 
 welcome-fewer : (p : Peering) (v : Verify) (o : Option Terms) → waiting (welcomed p v o) ≤ waiting p
-welcome-fewer p v None = omega arith
+welcome-fewer p v None =
+    let same : waiting p ≤ waiting p = omega arith in
+    let none : waiting (ended p 0) ≤ waiting p = omega arith in
+    unwelcomed-holds (λ (q : Peering). waiting q ≤ waiting p) p v same none
 welcome-fewer p v (Some terms) = omega arith
 
 verify-fewer : (s : PeerState) (p : Peering) (v : Verify) → waiting (on_verify_in s p v) ≤ waiting p

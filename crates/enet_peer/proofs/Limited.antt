@@ -31,11 +31,11 @@ use Rattle.enet_peer.specs.declared.parts.PeerState.TheVariants as state
 use Rattle.enet_peer.specs.declared.parts.PeerEvent.TheVariants as event
 use Rattle.enet_peer.specs.Peering.{Peering}
 use Rattle.enet_peer.specs.Endings.{freed, disconnecting, parting, settled, is_later, cut_off_in}
-use Rattle.enet_peer.specs.CommandEffect.{Outcome, answered, answered_at, is_answered_in, is_allowed, is_connect, obeyed, by_body, by_answer, by_arrival, on_data, stopped, unless_crowded_out, wants_memory, acknowledged, with_answer, on_match, is_connecting, on_acknowledge, welcomed, on_verify_in, on_last_disconnect, on_disconnect_in}
+use Rattle.enet_peer.specs.CommandEffect.{Outcome, answered, answered_at, is_answered_in, is_allowed, is_connect, obeyed, by_body, by_answer, by_arrival, on_data, stopped, unless_refused, wants_memory, acknowledged, with_answer, on_match, is_connecting, on_acknowledge, welcomed, on_verify_in, on_last_disconnect, on_disconnect_in}
 use Rattle.enet_peer.specs.Handling.{Arrival, SoFar, Handles, nothing_left, no_command, stops, goes_on}
 use Rattle.enet_peer.specs.Calls.{Leave, AtOnce, TellsOnce, Asks, AsksLater, Refused, left, PutsOut, after_timeouts, after_timeouts_by, is_pinged, ticked, pace_of, gone_on_in, Taken, next_event, event_after, packet_event, last_event}
 use Rattle.enet_peer.specs.Held.{HasLimits}
-use Rattle.enet_peer.proofs.Obeying.{obeys-holds, unless-holds}
+use Rattle.enet_peer.proofs.Obeying.{obeys-holds, unless-holds, unwelcomed-holds}
 
 -- ---- data that comes
 
@@ -113,7 +113,7 @@ acknowledge-limited x y p now channel number time h =
     if-peer x y (is_connecting p.state) p gone h (match-limited x y (matched_by p.outbox channel number) p (acknowledged p now channel number time) h h)
 
 welcome-limited : (x y : ℕ) (p : Peering) (v : Verify) (o : Option Terms) → HasLimits x y p → HasLimits x y (welcomed p v o)
-welcome-limited x y p v None h = h
+welcome-limited x y p v None h = unwelcomed-holds (HasLimits x y) p v h h
 welcome-limited x y p v (Some terms) h = h
 
 verify-limited : (x y : ℕ) (s : PeerState) (p : Peering) (v : Verify) → HasLimits x y p → HasLimits x y (on_verify_in s p v)
@@ -165,7 +165,7 @@ body-limited x y p now sent m body h = data-limited x y p m sent h
 
 obeyed-limited : (x y : ℕ) (p : Peering) (now : ℕ) (sent : Option ℕ) (m : Message) → HasLimits x y p → HasLimits x y (obeyed p now sent m).after
 obeyed-limited x y p now sent m h =
-    let does : Outcome = unless_crowded_out p m (by_body p now sent m m.body) in
+    let does : Outcome = unless_refused p m (by_body p now sent m m.body) in
     if-outcome x y (is_connect m.body) (stopped p stop.BadCommand) (cond (is_allowed p.state m.body) does (stopped p stop.NotConnected)) h
     (if-outcome x y (is_allowed p.state m.body) does (stopped p stop.NotConnected)
     (unless-holds (HasLimits x y) p m (by_body p now sent m m.body) h (body-limited x y p now sent m m.body h)) h)

@@ -20,6 +20,7 @@ use Rattle.enet_peer.specs.CommandEffect.{Outcome, answered, answered_at, is_ack
 use Rattle.enet_peer.specs.Acting.{foreseen}
 use Rattle.enet_peer.specs.Private.Acting.{acted, by_foresight, is_welcomed_by, may_be_answered, may_clear, none_waits, Replies, wants_place, wants_place_in}
 use Rattle.enet_peer.proofs.Arriving.{obeyed_is}
+use Rattle.enet_peer.proofs.Obeying.{unwelcomed-holds}
 
 waiting : Peering → ℕ
 waiting p = length p.outbox.acknowledgements
@@ -194,7 +195,10 @@ disconnect_place state.Ended p info e a = absurd (let t = ap (λ (s : PeerState)
 disconnect_place state.Parting p info e a = absurd (let t = ap (λ (s : PeerState). is_answered_in s (disconnect info)) e in cc)
 
 welcome_place : (p : Peering) (v : Verify) (o : Option Terms) → p.state ≡ state.Connecting → confirmed p.offer v ≡ o → is_answered_in (welcomed p v o).state (verify_connect v) ≡ true → HasPlace p (welcomed p v o) (verify_connect v)
-welcome_place p v None e c a = absurd (cc)
+welcome_place p v None e c a =
+    let none : is_answered_in (welcomed p v None).state (verify_connect v) ≡ false =
+    unwelcomed-holds (λ (q : Peering). is_answered_in q.state (verify_connect v) ≡ false) p v (ap (λ (s : PeerState). is_answered_in s (verify_connect v)) e) refl in
+    absurd (let x : false ≡ true = sym none ∙ a in cc)
 welcome_place p v (Some terms) e c a =
     none_or_some p (welcomed p v (Some terms)) (verify_connect v) refl refl (λ n. ap (λ (s : PeerState). wants_place_in s p (verify_connect v)) e ∙ ap (λ (o : Option Terms). is_some o && none_waits p) c ∙ n)
 

@@ -54,10 +54,10 @@ use Rattle.enet_peer.specs.declared.parts.Limits.{Limits}
 use Rattle.enet_peer.specs.declared.parts.PeerEvent.{PeerEvent}
 use Rattle.enet_peer.specs.declared.parts.PeerEvent.TheVariants as event
 use Rattle.enet_peer.specs.Endings.{ended, freed, disconnecting, parting, settled, is_later, cut_off_in}
-use Rattle.enet_peer.specs.CommandEffect.{Outcome, Obeys, unless_crowded_out, wants_memory, answered, answered_at, is_answered_in, is_allowed, is_connect, obeyed, by_body, by_answer, by_arrival, on_data, stopped, sampled, with_answer, on_match, accepted, is_connecting, on_acknowledge, welcomed, on_verify_in, on_last_disconnect, on_disconnect_in}
+use Rattle.enet_peer.specs.CommandEffect.{Outcome, Obeys, unless_refused, wants_memory, answered, answered_at, is_answered_in, is_allowed, is_connect, obeyed, by_body, by_answer, by_arrival, on_data, stopped, sampled, with_answer, on_match, accepted, is_connecting, on_acknowledge, welcomed, on_verify_in, on_last_disconnect, on_disconnect_in}
 use Rattle.enet_peer.specs.Calls.{Leave, AtOnce, TellsOnce, Asks, AsksLater, Refused, Leaves, left, Submits, submitted, PutsOut, after_timeouts, growth_bound, after_timeouts_by, is_pinged, ticked, is_connected, pace_of, gone_on_in, Taken, Takes, next_event, event_after, packet_event, last_event, with_bandwidth, with_throttle}
 use Rattle.enet_peer.specs.Reachable.{IsReachable, IsStill, IsStillIn, KeepsHoldings, WaitsIn, holdings_of}
-use Rattle.enet_peer.proofs.Obeying.{obeys-holds, unless-holds}
+use Rattle.enet_peer.proofs.Obeying.{obeys-holds, unless-holds, unwelcomed-holds}
 
 -- ---- a fact of each element of a list and its place
 
@@ -282,7 +282,7 @@ acknowledged-keeps p now channel number time h = by-state (is_connecting p.state
     by-state false = by (matched_by p.outbox channel number)
 
 welcomed-keeps : (p : Peering) (v : Verify) (o : Option Terms) → IsReachable p → IsReachable (welcomed p v o)
-welcomed-keeps p v None h = ended-keeps p 0 h
+welcomed-keeps p v None h = unwelcomed-holds IsReachable p v h (ended-keeps p 0 h)
 welcomed-keeps p v (Some terms) h = record {
   still = tt;
   waits = tt;
@@ -385,7 +385,7 @@ body-keeps p h now sent (send_unreliable_fragment f payload) k = data-keeps p (r
 
 obeyed-keeps : (p : Peering) (now : ℕ) (sent : Option ℕ) (m : Message) → IsReachable p → IsReachable (obeyed p now sent m).after
 obeyed-keeps p now sent m h =
-    let effect : Outcome = unless_crowded_out p m (by_body p now sent m m.body) in
+    let effect : Outcome = unless_refused p m (by_body p now sent m m.body) in
     let some : Outcome = cond (is_allowed p.state m.body) effect (stopped p stop.NotConnected) in
     if-outcome (is_connect m.body) (stopped p stop.BadCommand) some (λ t. h)
     (if-outcome (is_allowed p.state m.body) effect (stopped p stop.NotConnected)

@@ -6,7 +6,7 @@ use Rattle.enet_codec.specs.Message.{Message, Body, acknowledge, connect, verify
 use Rattle.enet_inbox.specs.DataEffect.{arrival, passed_over}
 use Rattle.enet_peer.specs.Peering.{Peering}
 use Rattle.enet_peer.specs.Endings.{is_later}
-use Rattle.enet_peer.specs.CommandEffect.{is_connect, is_allowed, is_crowded_out}
+use Rattle.enet_peer.specs.CommandEffect.{is_connect, is_allowed, is_crowded_out, is_unasked}
 
 abbrev pub foreseen_data : Peering → Message → Result Bool Stop
 foreseen_data p m = if is_later p.state then passed_over p.inbox m else (arrival p.inbox m).answer
@@ -25,5 +25,6 @@ foreseen_body p m data' = foreseen_data p m
 abbrev pub foreseen : Peering → Message → Result Bool Stop
 foreseen p m =
     if is_connect m.body then Err stop.BadCommand
-    else (if is_allowed p.state m.body then (if is_crowded_out p m then Err stop.Waiting else foreseen_body p m m.body)
+    else (if is_allowed p.state m.body
+    then (if is_unasked p m.body then Err stop.NotConnected else (if is_crowded_out p m then Err stop.Waiting else foreseen_body p m m.body))
     else Err stop.NotConnected)

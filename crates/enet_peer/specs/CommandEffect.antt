@@ -1,5 +1,5 @@
 -- What a command that comes makes of a peer.
-use Rattle.std.specs.Prelude.{◌≡◌, ℕ, ◌&&◌, ◌||◌, not, Bool, true, false, if◌then◌else◌, nat_lt, length, Option, Some, None, Result, Ok, Err, is_some, ◌⊎◌}
+use Rattle.std.specs.Prelude.{◌≡◌, ℕ, ◌&&◌, ◌||◌, ◌==◌, not, Bool, true, false, if◌then◌else◌, nat_lt, length, Option, Some, None, Result, Ok, Err, is_some, ◌⊎◌}
 use Rattle.enet_codec.specs.declared.command.Head.{Head}
 use Rattle.enet_codec.specs.declared.command.Verify.{Verify}
 use Rattle.enet_codec.specs.declared.stop.Stop.{Stop}
@@ -121,10 +121,15 @@ is_connecting _ = false
 abbrev pub on_acknowledge : Peering → ℕ → ℕ → ℕ → ℕ → Peering
 on_acknowledge p now channel number time = if is_connecting p.state then p else accepted p now channel number time
 
--- a server's answer comes to a client. Where it isn't accepted, the connection has ended; else it stands, and the answer is the
--- acknowledgement of CONNECT, which is all that the client had to send
+-- a server's answer that isn't accepted ends the connection. One with another connect id than was asked with can't be this server's,
+-- and has no effect
+abbrev pub unwelcomed : Peering → Verify → Peering
+unwelcomed p v = if p.offer.connect_id == v.connect_id then ended p 0 else p
+
+-- a server's answer comes to a client. Where it is accepted, the connection stands, and the answer is the acknowledgement of CONNECT,
+-- which is all that the client had to send
 abbrev pub welcomed : Peering → Verify → Option Terms → Peering
-welcomed p v None = ended p 0
+welcomed p v None = unwelcomed p v
 welcomed p v (Some terms) = record p {
   state = state.Connected;
   terms = terms;
@@ -198,15 +203,20 @@ drops_acknowledgements _ body = false
 abbrev pub is_crowded_out : Peering → Message → Bool
 is_crowded_out p m = m.head.acknowledge && not (drops_acknowledgements p.state m.body) && is_crowded p.outbox
 
--- then it stops the datagram
-abbrev pub unless_crowded_out : Peering → Message → Outcome → Outcome
-unless_crowded_out p m o = if is_crowded_out p m then stopped p stop.Waiting else o
+-- whether a command is a server's answer to an end that is the server itself: only who asked is answered
+abbrev pub is_unasked : Peering → Body → Bool
+is_unasked p (verify_connect v) = p.is_server
+is_unasked p _ = false
+
+-- then it stops the datagram, in whatever state the peer is; else where it is crowded out
+abbrev pub unless_refused : Peering → Message → Outcome → Outcome
+unless_refused p m o = if is_unasked p m.body then stopped p stop.NotConnected else (if is_crowded_out p m then stopped p stop.Waiting else o)
 
 -- a command comes at the time `now`, in a datagram that tells this sent time or none. A CONNECT never comes to a peer
 abbrev pub obeyed : Peering → ℕ → Option ℕ → Message → Outcome
 obeyed p now sent m =
     if is_connect m.body then stopped p stop.BadCommand
-    else (if is_allowed p.state m.body then unless_crowded_out p m (by_body p now sent m m.body)
+    else (if is_allowed p.state m.body then unless_refused p m (by_body p now sent m m.body)
     else stopped p stop.NotConnected)
 
 -- whether something of a data command is kept

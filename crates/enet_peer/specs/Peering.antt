@@ -1,5 +1,5 @@
 -- A peer as its callers see it. Times are in milliseconds.
-use Rattle.std.specs.Prelude.{ℕ, Option, None}
+use Rattle.std.specs.Prelude.{ℕ, Bool, true, false, Option, None}
 use Rattle.enet_codec.specs.declared.command.Offer.{Offer}
 use Rattle.enet_rtt.specs.declared.expiry.Patience.{Patience}
 use Rattle.enet_rtt.specs.Expiry.{standard_patience}
@@ -18,6 +18,7 @@ use Rattle.enet_peer.specs.declared.parts.Limits.{Limits}
 
 pub record Peering : Type 0 where
   pub state : PeerState
+  pub is_server : Bool  -- this end began by a CONNECT that came
   pub info : ℕ  -- the word for the next event of the connection, or for the DISCONNECT that is to come
   pub terms : Terms
   pub offer : Offer  -- what the client asked for
@@ -55,6 +56,7 @@ throttle_for t = with_interval start t.throttle_interval t.acceleration t.decele
 abbrev pub joined : ℕ → Terms → Limits → Peering
 joined now terms limits = record {
   state = state.Connected;
+  is_server = false;
   info = 0;
   terms = terms;
   offer = no_offer;
@@ -81,6 +83,7 @@ connecting now offer limits = record (joined now (asked offer) limits) {
 abbrev pub answering : ℕ → Offer → Server → Limits → Peering
 answering now offer server limits = record (joined now (granted offer server) limits) {
   state = state.Answering;
+  is_server = true;
   info = offer.info;
   other_incoming = offer.incoming_bandwidth;
   outbox = with_control (empty_outbox (granted offer server).channels 0 (throttle_for (granted offer server))) (control.VerifyConnect (verification_of offer server));

@@ -9,7 +9,7 @@ ghost use Rattle.enet_peer.specs.Acting.{foreseen, foreseen_data};
 ghost use Rattle.enet_peer.specs.Private.Acting.{taken_in, acted, may_be_answered, wants_place, is_welcomed_by, may_clear, Replies};
 ghost use Rattle.enet_peer.specs.Private.Peered.{places_of};
 ghost use Rattle.enet_outbox.specs.Outbox.{is_crowded};
-ghost use Rattle.enet_peer.specs.CommandEffect.{obeyed, wants_memory, is_kept, is_crowded_out, drops_acknowledgements, Obeys, answered, is_allowed, is_answered_in, accepted, on_acknowledge, on_verify_in, on_disconnect_in, on_bandwidth, on_throttle, sampled, with_answer};
+ghost use Rattle.enet_peer.specs.CommandEffect.{obeyed, wants_memory, is_kept, is_crowded_out, is_unasked, drops_acknowledgements, Obeys, answered, is_allowed, is_answered_in, accepted, on_acknowledge, on_verify_in, on_disconnect_in, on_bandwidth, on_throttle, sampled, unwelcomed, with_answer};
 
 use crate::{Peer, PeerState};
 use enet_codec::{Acknowledged, Command, Head, Stop, Verify};
@@ -96,7 +96,8 @@ impl Peer {
     /// Takes a command in that came at the time `now`, in milliseconds, in a datagram that tells this sent time or none.
     /// Where it asks for an acknowledgement and may have one, that waits from then on to be put out.
     ///
-    /// A stop is the first that applies: S6 for a CONNECT; S7 where the peer's state does not allow the command; S10 where it asks for
+    /// A stop is the first that applies: S6 for a CONNECT; S7 where the peer's state does not allow the command, and for a VERIFY_CONNECT where this end answered a
+    /// CONNECT itself; S10 where it asks for
     /// an acknowledgement and 8,192 wait already, unless it is a DISCONNECT that drops these (our profile); for a data command S8 where there is no such channel, S9 where its payload is too long or its fragment is bad, and S10 where it
     /// begins a packet and finds no room, as `Inbox::foresee` says (not where the peer is to disconnect later); S11 where memory is refused (our
     /// profile). After these nothing has changed. S12 comes last, where the command is to be acknowledged and the datagram tells
@@ -128,6 +129,9 @@ impl Peer {
         if !is_allowed(self.state, command) {
             return Err(Stop::NotConnected);
         }
+        if self.is_unasked(command) {
+            return Err(Stop::NotConnected);
+        }
         if self.is_crowded_out(command) {
             return Err(Stop::Waiting);
         }
@@ -138,6 +142,16 @@ impl Peer {
             | Command::SendUnsequenced { .. }
             | Command::SendUnreliableFragment { .. } => self.foresee_data(command),
             _ => Ok(NOTHING_KEPT),
+        }
+    }
+
+    /// Whether a command is a server's answer, and this end is the server itself: only who asked is answered.
+    fn is_unasked(&self, command: &Command<'_>) -> bool
+        ensures { result ≡ is_unasked self.now.peer (view command.now).body }
+    {
+        match command {
+            Command::VerifyConnect { .. } => self.is_server,
+            _ => false,
         }
     }
 
@@ -381,7 +395,8 @@ impl Peer {
         }
     }
 
-    /// A server's answer comes: a client's connection stands, or it has ended where the answer is not what was asked for.
+    /// A server's answer comes: a client's connection stands, or it has ended where the answer is not what was asked for. One with
+    /// another connect id can't be this server's, and has no effect.
     fn on_verify(&mut self, verify: &Verify)
         ensures peer { self.new.peer ≡ on_verify_in self.old.peer.state self.old.peer verify.now }
         ensures acknowledgement_room { self.old.acknowledgement_room ≤ self.new.acknowledgement_room }
@@ -391,7 +406,7 @@ impl Peer {
             return;
         }
         let Some(terms) = confirm(&self.offer, verify) else {
-            self.end(0);
+            self.turn_down(verify);
             return;
         };
         self.state = PeerState::Connected;
@@ -401,6 +416,17 @@ impl Peer {
         self.inbox.narrow(terms.channels);
         self.outbox.clear();
         self.outbox.narrow(terms.channels);
+    }
+
+    /// A server's answer isn't what was asked for: the connection has ended, unless the answer has another connect id.
+    fn turn_down(&mut self, verify: &Verify)
+        ensures peer { self.new.peer ≡ unwelcomed self.old.peer verify.now }
+        ensures acknowledgement_room { self.old.acknowledgement_room ≤ self.new.acknowledgement_room }
+        ensures places { places_of self.old ≤ places_of self.new }
+    {
+        if verify.connect_id == self.offer.connect_id {
+            self.end(0);
+        }
     }
 
     /// DISCONNECT comes. Where it can be acknowledged, its acknowledgement is to be sent yet; else the connection has ended.

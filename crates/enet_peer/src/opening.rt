@@ -62,6 +62,7 @@ impl Peer {
             unreachable!()
         };
         let mut peer = Peer::opened(alloc, now, PeerState::Answering, 0, terms, limits)?;
+        peer.is_server = true;
         peer.info = offer.info;
         peer.other_incoming = offer.incoming_bandwidth;
         let verify = verification(&offer, &server);
@@ -89,6 +90,7 @@ impl Peer {
         let outbox = Outbox::open(alloc, terms.channels, number, throttle_for(&terms))?;
         Ok(Peer {
             state,
+            is_server: false,
             info: 0,
             terms,
             offer: no_offer(),

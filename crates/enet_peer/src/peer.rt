@@ -16,6 +16,8 @@ use std::marker::Model;
 #[derive(Drop)]
 pub struct Peer {
     pub(crate) state: PeerState,
+    /// Whether this end began by a CONNECT that came: it is the server then, from its beginning to its end.
+    pub(crate) is_server: bool,
     /// The word for the next event of the connection, or for the DISCONNECT that is to come.
     pub(crate) info: u32,
     pub(crate) terms: Terms,
@@ -48,6 +50,7 @@ impl Model for Peer {
     ghost view = { λ p. record {
       peer = record {
         state = p.state;
+        is_server = p.is_server;
         info = p.info;
         terms = p.terms;
         offer = p.offer;

@@ -11,7 +11,7 @@ use Rattle.enet_codec.specs.Message.{Message, Body, acknowledge, connect, verify
 use Rattle.enet_peer.specs.declared.parts.PeerState.TheVariants as state
 use Rattle.enet_peer.specs.Peering.{Peering}
 use Rattle.enet_peer.specs.Endings.{is_later}
-use Rattle.enet_peer.specs.CommandEffect.{Outcome, obeyed, stopped, is_connect, is_allowed, unless_crowded_out, by_body, by_answer, by_arrival}
+use Rattle.enet_peer.specs.CommandEffect.{Outcome, obeyed, stopped, is_connect, is_allowed, unless_refused, by_body, by_answer, by_arrival}
 use Rattle.enet_peer.specs.Calls.{pace_of}
 use Rattle.enet_inbox.specs.DataEffect.{arrival, passed_over}
 use Rattle.enet_slot.specs.Receiving.{no_peer}
@@ -53,7 +53,7 @@ unasked : (p : Peering) (now time channel number : ℕ) (sent : Option ℕ) (u :
     → obeyed p now sent (record { head = record { acknowledge = false; unsequenced = u; channel = channel; number = number }; body = body })
     ≡ obeyed p now (Some time) (record { head = record { acknowledge = false; unsequenced = u; channel = channel; number = number }; body = body })
 unasked p now time channel number sent u body =
-    ap (λ (o : Outcome). cond (is_connect body) (stopped p stop.BadCommand) (cond (is_allowed p.state body) (unless_crowded_out p m o) (stopped p stop.NotConnected))) (by body)
+    ap (λ (o : Outcome). cond (is_connect body) (stopped p stop.BadCommand) (cond (is_allowed p.state body) (unless_refused p m o) (stopped p stop.NotConnected))) (by body)
   where
     m : Message
     m = record { head = record { acknowledge = false; unsequenced = u; channel = channel; number = number }; body = body }

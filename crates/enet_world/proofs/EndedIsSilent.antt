@@ -32,7 +32,7 @@ use Rattle.enet_peer.specs.declared.parts.PeerState.{PeerState}
 use Rattle.enet_peer.specs.declared.parts.PeerState.TheVariants as state
 use Rattle.enet_peer.specs.Peering.{Peering}
 use Rattle.enet_peer.specs.Endings.{settled, disconnecting, ended, is_later, freed, cut_off_in}
-use Rattle.enet_peer.specs.CommandEffect.{obeyed, unless_crowded_out, stopped, is_allowed, is_connect, by_body, answered, answered_at, is_answered_in, is_connecting, on_acknowledge, on_match, sampled, with_answer, on_verify_in, welcomed, on_disconnect_in, on_last_disconnect}
+use Rattle.enet_peer.specs.CommandEffect.{obeyed, unless_refused, stopped, is_allowed, is_connect, by_body, answered, answered_at, is_answered_in, is_connecting, on_acknowledge, on_match, sampled, with_answer, on_verify_in, welcomed, on_disconnect_in, on_last_disconnect}
 use Rattle.enet_peer.specs.Calls.{Leave, AtOnce, TellsOnce, Asks, AsksLater, Refused, is_connected, left, pace_of, gone_on_in, submission_refusal, submitted, ticked, pinged, is_pinged, after_timeouts_by, growth_bound}
 use Rattle.enet_host.specs.Host.{named}
 use Rattle.law_connection.specs.Steps.{leave_by}
@@ -48,6 +48,7 @@ use Rattle.enet_world.specs.Private.Worlds.{IsReached}
 use Rattle.enet_world.proofs.Lasting.{Lasts}
 use Rattle.enet_world.proofs.Living.{named-has}
 use Rattle.enet_world.proofs.Pings.{obeys-each}
+use Rattle.enet_peer.proofs.Obeying.{unwelcomed-holds}
 
 -- ---- nothing is to go, and nothing waits
 pub record IsEmpty (o : Outbox) : Type 0 where
@@ -147,7 +148,7 @@ silent-verify : (p : Peering) (v : Verify) (s : PeerState) → IsSilent p → Is
 silent-verify p v state.Connecting h = by (confirmed p.offer v)
   where
     by : (o : Option Terms) → IsSilent (welcomed p v o)
-    by None = silent-ended p 0
+    by None = unwelcomed-holds IsSilent p v h (silent-ended p 0)
     by (Some terms) = λ e. absurd (cc)
 silent-verify p v s h = h
 
@@ -194,7 +195,7 @@ silent-heard p now sent m n = obeys-each IsSilent p now sent m (record {
 deaf : (p : Peering) (now : ℕ) (sent : Option ℕ) (m : Message) → p.state ≡ state.Ended → (obeyed p now sent m).after ≡ p
 deaf p now sent m e = by (is_connect m.body) (is_allowed p.state m.body) (ap (λ (s : PeerState). is_allowed s m.body) e)
   where
-    by : (a b : Bool) → b ≡ false → (cond a (stopped p stop.BadCommand) (cond b (unless_crowded_out p m (by_body p now sent m m.body)) (stopped p stop.NotConnected))).after ≡ p
+    by : (a b : Bool) → b ≡ false → (cond a (stopped p stop.BadCommand) (cond b (unless_refused p m (by_body p now sent m m.body)) (stopped p stop.NotConnected))).after ≡ p
     by true b k = refl
     by false true k = absurd (cc)
     by false false k = refl

@@ -29,6 +29,7 @@ use Rattle.law_progress.specs.Waits.{after_leave}
 use Rattle.law_network.proofs.Runs.{both}
 use Rattle.enet_world.proofs.Lasting.{is_past, past-lasts}
 use Rattle.enet_world.proofs.Pings.{IsLone, Idle, is_ping, is_any, idle-lists, queued-lone, marked-lone, acknowledged-lone, answered-lone, filled-lone, connected, meets-connected, answered-holds, obeys-each, in_state, was-in}
+use Rattle.enet_peer.proofs.Obeying.{unwelcomed-holds}
 
 abbrev pub Controlled : PeerState → Commands → Type 0
 Controlled state.Connected c = IsLone is_ping c
@@ -114,7 +115,7 @@ meets-asking p now sent m = obeys-each IsModest old now sent m (record {
     old = record p { state = state.Connecting }
 
     greets : (v : Verify) (o : Option Terms) → IsModest (welcomed old v o)
-    greets v None = tt
+    greets v None = unwelcomed-holds IsModest old v tt tt
     greets v (Some terms) = Idle refl refl
 
 pub modest-obeyed : (p : Peering) (now : ℕ) (sent : Option ℕ) (m : Message) → IsModest p → IsModest (obeyed p now sent m).after

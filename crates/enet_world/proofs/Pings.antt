@@ -28,7 +28,7 @@ use Rattle.enet_outbox.proofs.Filled.{by-filling}
 use Rattle.enet_peer.specs.declared.parts.PeerState.{PeerState}
 use Rattle.enet_peer.specs.declared.parts.PeerState.TheVariants as state
 use Rattle.enet_peer.specs.Peering.{Peering}
-use Rattle.enet_peer.specs.CommandEffect.{obeyed, unless_crowded_out, stopped, is_allowed, is_connect, by_body, by_answer, by_arrival, answered, answered_at, is_answered_in, on_acknowledge, on_match, acknowledged, on_last_disconnect, on_disconnect_in, on_bandwidth, on_throttle, on_verify_in}
+use Rattle.enet_peer.specs.CommandEffect.{obeyed, unless_refused, stopped, is_allowed, is_connect, by_body, by_answer, by_arrival, answered, answered_at, is_answered_in, on_acknowledge, on_match, acknowledged, on_last_disconnect, on_disconnect_in, on_bandwidth, on_throttle, on_verify_in}
 use Rattle.enet_peer.specs.Endings.{is_later}
 use Rattle.enet_peer.proofs.Obeying.{unless-holds}
 use Rattle.law_progress.proofs.Controls.{GoesControl, Heads, Repeats, goes-control}
@@ -215,7 +215,7 @@ obeys-each P p now sent m k = by (is_connect m.body) (is_allowed p.state m.body)
     body (throttle_configure interval acceleration deceleration) e = k.answers (on_throttle p interval acceleration deceleration) true (k.paces interval acceleration deceleration)
     body b e = data' (is_later p.state)
 
-    by : (a b : Bool) → P (cond a (stopped p stop.BadCommand) (cond b (unless_crowded_out p m (by_body p now sent m m.body)) (stopped p stop.NotConnected))).after
+    by : (a b : Bool) → P (cond a (stopped p stop.BadCommand) (cond b (unless_refused p m (by_body p now sent m m.body)) (stopped p stop.NotConnected))).after
     by true b = k.same
     by false true = unless-holds P p m (by_body p now sent m m.body) k.same (body m.body refl)
     by false false = k.same

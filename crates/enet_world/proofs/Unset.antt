@@ -21,6 +21,7 @@ use Rattle.enet_peer.specs.CommandEffect.{obeyed, is_connecting, on_acknowledge,
 use Rattle.enet_peer.specs.Calls.{Leave, AtOnce, TellsOnce, Asks, AsksLater, Refused, left, gone_on_in, ticked, pinged, is_pinged, after_timeouts_by, growth_bound}
 use Rattle.law_progress.specs.Waits.{after_leave}
 use Rattle.enet_world.proofs.Pings.{answered-holds, obeys-each}
+use Rattle.enet_peer.proofs.Obeying.{unwelcomed-holds}
 
 abbrev pub IsUnset : Peering → Type 0
 IsUnset p = (p.patience ≡ standard_patience) × (p.ping_interval ≡ 500) × (p.heard < 2 ^ 32)
@@ -56,7 +57,7 @@ unset-verify : (p : Peering) (v : Verify) (s : PeerState) → IsUnset p → IsUn
 unset-verify p v state.Connecting h = by (confirmed p.offer v)
   where
     by : (o : Option Terms) → IsUnset (welcomed p v o)
-    by None = h
+    by None = unwelcomed-holds IsUnset p v h h
     by (Some terms) = h
 unset-verify p v s h = h
 

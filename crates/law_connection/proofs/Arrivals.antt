@@ -23,8 +23,8 @@ use Rattle.enet_peer.specs.Peering.{Peering}
 use Rattle.enet_peer.specs.declared.parts.PeerState.{PeerState}
 use Rattle.enet_peer.specs.declared.parts.PeerState.TheVariants as state
 use Rattle.enet_peer.specs.Endings.{ended, is_later}
-use Rattle.enet_peer.specs.CommandEffect.{Outcome, is_allowed, is_of_handshake, obeyed, unless_crowded_out, by_body, by_answer, by_arrival, on_data, stopped, on_acknowledge, welcomed, on_verify_in, on_disconnect_in, on_bandwidth, on_throttle}
-use Rattle.enet_peer.proofs.Obeying.{unless-holds}
+use Rattle.enet_peer.specs.CommandEffect.{Outcome, is_allowed, is_of_handshake, obeyed, unless_refused, by_body, by_answer, by_arrival, on_data, stopped, on_acknowledge, welcomed, on_verify_in, on_disconnect_in, on_bandwidth, on_throttle}
+use Rattle.enet_peer.proofs.Obeying.{unless-holds, unwelcomed-holds}
 use Rattle.law_connection.specs.Link.{is_late}
 use Rattle.law_connection.specs.LinkSteps.{Has, DropAnswers}
 use Rattle.law_connection.specs.WireLink.{WireLink, drops_answers}
@@ -158,7 +158,7 @@ narrowed-places n senders places i s e = elim (get-take n (map cleared_sender se
 ]
 
 holds-welcomed : (own other : End) (p : Peering) (v : Verify) (o : Option Terms) → p.state ≡ state.Connecting → IsTidy own.submitted p → Holds own other p → Holds own other (welcomed p v o)
-holds-welcomed own other p v None e tidy h = holds-stops own other p (ended p 0) (stops-ended p 0) h
+holds-welcomed own other p v None e tidy h = unwelcomed-holds (Holds own other) p v h (holds-stops own other p (ended p 0) (stops-ended p 0) h)
 holds-welcomed own other p v (Some terms) e tidy h =
     let q : Peering = welcomed p v (Some terms) in
     let y = tidy.young (ap is_young e) in
@@ -185,11 +185,11 @@ holds-verified : (own other : End) (p : Peering) (v : Verify) (s : PeerState) �
 holds-verified own other p v state.Connecting e tidy h = holds-welcomed own other p v (confirmed p.offer v) e tidy h
 holds-verified own other p v s e tidy h = h
 
--- where it is allowed, and not crowded out
+-- where it is allowed, and not refused
 coming-if : (own other : End) (p : Peering) (now : ℕ) (sent : Option ℕ) (m : Message) → (is_allowed p.state m.body ≡ true → Holds own other (by_body p now sent m m.body).after) → Holds own other p
-    → Holds own other (cond (is_allowed p.state m.body) (unless_crowded_out p m (by_body p now sent m m.body)) (stopped p stop.NotConnected)).after
+    → Holds own other (cond (is_allowed p.state m.body) (unless_refused p m (by_body p now sent m m.body)) (stopped p stop.NotConnected)).after
 coming-if own other p now sent m f k =
-    outcome-if own other (is_allowed p.state m.body) (unless_crowded_out p m (by_body p now sent m m.body)) (stopped p stop.NotConnected)
+    outcome-if own other (is_allowed p.state m.body) (unless_refused p m (by_body p now sent m m.body)) (stopped p stop.NotConnected)
     (λ t. unless-holds (Holds own other) p m (by_body p now sent m m.body) k (f t)) k
 
 -- whatever comes

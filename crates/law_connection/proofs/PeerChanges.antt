@@ -38,8 +38,8 @@ use Rattle.enet_peer.specs.Peering.{Peering}
 use Rattle.enet_peer.specs.declared.parts.PeerState.{PeerState}
 use Rattle.enet_peer.specs.declared.parts.PeerState.TheVariants as state
 use Rattle.enet_peer.specs.Endings.{dropped, ended, freed, disconnecting, parting, settled, is_later, cut_off_in}
-use Rattle.enet_peer.specs.CommandEffect.{Outcome, answered, answered_at, is_answered_in, is_allowed, is_of_handshake, obeyed, unless_crowded_out, by_body, by_answer, by_arrival, on_data, stopped, sampled, with_answer, on_match, accepted, is_connecting, on_acknowledge, welcomed, on_verify_in, on_last_disconnect, on_disconnect_in, on_bandwidth, on_throttle}
-use Rattle.enet_peer.proofs.Obeying.{unless-holds}
+use Rattle.enet_peer.specs.CommandEffect.{Outcome, answered, answered_at, is_answered_in, is_allowed, is_of_handshake, obeyed, unless_refused, by_body, by_answer, by_arrival, on_data, stopped, sampled, with_answer, on_match, accepted, is_connecting, on_acknowledge, welcomed, on_verify_in, on_last_disconnect, on_disconnect_in, on_bandwidth, on_throttle}
+use Rattle.enet_peer.proofs.Obeying.{unless-holds, unwelcomed-holds}
 use Rattle.enet_peer.specs.Calls.{left, after_timeouts, after_timeouts_by, growth_bound, is_pinged, ticked, is_connected, pace_of, gone_on, gone_on_in}
 use Rattle.law_connection.specs.Steps.{Way, Asking, Now, Later, leave_by, Setting, Bandwidth, Throttle, ThrottleLimit, PingInterval, Timeout, with_setting, MaySet}
 use Rattle.enet_outbox.proofs.Filled.{by-filling}
@@ -296,7 +296,7 @@ kept-verified : (P : Peering → Type 0) → Changes P → (p : Peering) (v : Ve
 kept-verified P k p v state.Connecting e h = by (confirmed p.offer v) refl
   where
     by : (o : Option Terms) → confirmed p.offer v ≡ o → P (welcomed p v o)
-    by None c = k.ends p 0 (ap is_gone e) h
+    by None c = unwelcomed-holds P p v h (k.ends p 0 (ap is_gone e) h)
     by (Some terms) c = k.welcomes p v terms e (confirmed-big p.offer v terms c) (confirmed-word p.offer v terms c) h
 kept-verified P k p v s e h = h
 
@@ -394,10 +394,10 @@ kept-obeyed P k p h now sent body a = by body
   where
     -- where it is allowed
     if-allowed : (body : Body) → (is_allowed p.state body ≡ true → P (by_body p now sent (record { head = h; body = body }) body).after)
-        → P (cond (is_allowed p.state body) (unless_crowded_out p (record { head = h; body = body }) (by_body p now sent (record { head = h; body = body }) body)) (stopped p stop.NotConnected)).after
+        → P (cond (is_allowed p.state body) (unless_refused p (record { head = h; body = body }) (by_body p now sent (record { head = h; body = body }) body)) (stopped p stop.NotConnected)).after
     if-allowed body f =
         let m : Message = record { head = h; body = body } in
-        if-outcome P (is_allowed p.state body) (unless_crowded_out p m (by_body p now sent m body)) (stopped p stop.NotConnected) (λ t. unless-holds P p m (by_body p now sent m body) a (f t)) a
+        if-outcome P (is_allowed p.state body) (unless_refused p m (by_body p now sent m body)) (stopped p stop.NotConnected) (λ t. unless-holds P p m (by_body p now sent m body) a (f t)) a
 
     by : (body : Body) → P (obeyed p now sent (record { head = h; body = body })).after
     by (connect offer) = a

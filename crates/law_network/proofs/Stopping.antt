@@ -8,7 +8,7 @@ use Rattle.enet_inbox.specs.DataEffect.{DataEffect, arrival, passed_over}
 use Rattle.enet_inbox.proofs.Stops.{arrival_stays}
 use Rattle.enet_peer.specs.Peering.{Peering}
 use Rattle.enet_peer.specs.Endings.{is_later}
-use Rattle.enet_peer.specs.CommandEffect.{Outcome, stopped, answered, answered_at, is_answered_in, by_answer, by_arrival, on_data, by_body, obeyed, is_connect, is_allowed, is_crowded_out, unless_crowded_out, on_acknowledge, on_verify_in, on_disconnect_in, on_bandwidth, on_throttle}
+use Rattle.enet_peer.specs.CommandEffect.{Outcome, stopped, answered, answered_at, is_answered_in, by_answer, by_arrival, on_data, by_body, obeyed, is_connect, is_allowed, is_crowded_out, is_unasked, unless_refused, on_acknowledge, on_verify_in, on_disconnect_in, on_bandwidth, on_throttle}
 use Rattle.std.specs.Prelude.{is_some}
 
 -- a stop leaves the inbox as it was
@@ -59,5 +59,7 @@ keeps-body p now sent m body = keeps-data p m sent
 pub keeps-obeyed : (p : Peering) (now : ℕ) (sent : Option ℕ) (m : Message) → Keeps p (obeyed p now sent m)
 keeps-obeyed p now sent m =
     keeps-if p (is_connect m.body) (stopped p stop.BadCommand) _ (keeps-stopped p stop.BadCommand)
-    (keeps-if p (is_allowed p.state m.body) (unless_crowded_out p m (by_body p now sent m m.body)) (stopped p stop.NotConnected)
-    (keeps-if p (is_crowded_out p m) (stopped p stop.Waiting) (by_body p now sent m m.body) (keeps-stopped p stop.Waiting) (keeps-body p now sent m m.body)) (keeps-stopped p stop.NotConnected))
+    (keeps-if p (is_allowed p.state m.body) (unless_refused p m (by_body p now sent m m.body)) (stopped p stop.NotConnected)
+    (keeps-if p (is_unasked p m.body) (stopped p stop.NotConnected) _ (keeps-stopped p stop.NotConnected)
+    (keeps-if p (is_crowded_out p m) (stopped p stop.Waiting) (by_body p now sent m m.body) (keeps-stopped p stop.Waiting) (keeps-body p now sent m m.body)))
+    (keeps-stopped p stop.NotConnected))

@@ -24,8 +24,8 @@ use Rattle.enet_peer.specs.Peering.{Peering}
 use Rattle.enet_peer.specs.declared.parts.PeerState.{PeerState}
 use Rattle.enet_peer.specs.declared.parts.PeerState.TheVariants as state
 use Rattle.enet_peer.specs.Endings.{ended, freed, disconnecting, parting, settled, is_later, cut_off_in}
-use Rattle.enet_peer.specs.CommandEffect.{Outcome, answered, answered_at, is_answered_in, is_allowed, is_of_handshake, obeyed, unless_crowded_out, by_body, by_answer, by_arrival, on_data, stopped, sampled, with_answer, on_match, accepted, is_connecting, on_acknowledge, welcomed, on_verify_in, on_last_disconnect, on_disconnect_in, on_bandwidth, on_throttle}
-use Rattle.enet_peer.proofs.Obeying.{unless-holds}
+use Rattle.enet_peer.specs.CommandEffect.{Outcome, answered, answered_at, is_answered_in, is_allowed, is_of_handshake, obeyed, unless_refused, by_body, by_answer, by_arrival, on_data, stopped, sampled, with_answer, on_match, accepted, is_connecting, on_acknowledge, welcomed, on_verify_in, on_last_disconnect, on_disconnect_in, on_bandwidth, on_throttle}
+use Rattle.enet_peer.proofs.Obeying.{unless-holds, unwelcomed-holds}
 use Rattle.enet_peer.specs.Calls.{left, after_timeouts, after_timeouts_by, is_pinged, ticked, is_connected, gone_on, gone_on_in}
 use Rattle.law_connection.specs.Linked.{dispatches_in}
 use Rattle.law_connection.specs.Steps.{Way, Asking, Now, Later, leave_by, Setting, Bandwidth, Throttle, ThrottleLimit, PingInterval, Timeout, with_setting}
@@ -235,7 +235,7 @@ verify-stays : (p : Peering) (v : Verify) (s : PeerState) → p.state ≡ s → 
 verify-stays p v state.Connecting e = by (confirmed p.offer v)
   where
     by : (o : Option Terms) → StaysAt p (welcomed p v o)
-    by None = ended-stays p 0
+    by None = unwelcomed-holds (StaysAt p) p v (stays (core p)) (ended-stays p 0)
     by (Some terms) = record { opens = λ t. ap dispatches_in e; receivers = λ t i. get-take terms.channels p.inbox.receivers i; untaken = inl refl }
 verify-stays p v s e = stays (core p)
 
@@ -256,7 +256,7 @@ allowed-opens state.Ended body n e l = absurd (let x : false ≡ true = e in cc)
 allowed-opens state.Parting body n e l = absurd (let x : false ≡ true = e in cc)
 
 data-becomes : (p : Peering) (m : Message) (sent : Option ℕ) (allowed : Bool) → (allowed ≡ true → is_later p.state ≡ false → dispatches_in p.state ≡ true)
-    → Becomes p m (cond allowed (unless_crowded_out p m (on_data p m sent)) (stopped p stop.NotConnected)).after
+    → Becomes p m (cond allowed (unless_refused p m (on_data p m sent)) (stopped p stop.NotConnected)).after
 data-becomes p m sent false up = inl (stays (core p))
 data-becomes p m sent true up = unless-holds (Becomes p m) p m (on_data p m sent) (inl (stays (core p))) (by (is_later p.state) refl)
   where
@@ -273,8 +273,8 @@ obeyed-becomes p h now sent body = by body
 
     -- where it is allowed
     if-allowed : (body : Body) → StaysAt p (by_body p now sent (message body) body).after
-        → Becomes p (message body) (cond (is_allowed p.state body) (unless_crowded_out p (message body) (by_body p now sent (message body) body)) (stopped p stop.NotConnected)).after
-    if-allowed body f = inl (if-outcome (StaysAt p) (is_allowed p.state body) (unless_crowded_out p (message body) (by_body p now sent (message body) body)) (stopped p stop.NotConnected)
+        → Becomes p (message body) (cond (is_allowed p.state body) (unless_refused p (message body) (by_body p now sent (message body) body)) (stopped p stop.NotConnected)).after
+    if-allowed body f = inl (if-outcome (StaysAt p) (is_allowed p.state body) (unless_refused p (message body) (by_body p now sent (message body) body)) (stopped p stop.NotConnected)
         (unless-holds (StaysAt p) p (message body) (by_body p now sent (message body) body) (stays (core p)) f) (stays (core p)))
 
     -- and is acknowledged

@@ -36,8 +36,8 @@ use Rattle.enet_peer.specs.declared.parts.PeerState.TheVariants as state
 use Rattle.enet_peer.specs.declared.parts.Limits.{Limits}
 use Rattle.enet_peer.specs.Peering.{Peering, connecting, answering}
 use Rattle.enet_peer.specs.Endings.{settled, disconnecting, cut_off_in, is_later}
-use Rattle.enet_peer.proofs.Obeying.{unless-holds}
-use Rattle.enet_peer.specs.CommandEffect.{Outcome, obeyed, unless_crowded_out, stopped, is_allowed, is_of_handshake, is_connect, by_body, answered, answered_at, is_answered_in, on_acknowledge, on_match, acknowledged, with_answer, on_verify_in, welcomed, on_disconnect_in}
+use Rattle.enet_peer.proofs.Obeying.{unless-holds, unwelcomed-holds}
+use Rattle.enet_peer.specs.CommandEffect.{Outcome, obeyed, unless_refused, stopped, is_allowed, is_of_handshake, is_connect, by_body, answered, answered_at, is_answered_in, on_acknowledge, on_match, acknowledged, with_answer, on_verify_in, welcomed, on_disconnect_in}
 use Rattle.enet_peer.specs.Calls.{pace_of, gone_on, gone_on_in, ticked, pinged, after_timeouts_by, growth_bound, is_connected, is_answering, next_event, event_after, packet_event, last_event}
 use Rattle.law_progress.specs.Attempts.{Step, Hears, PutsOut, Takes, after_step, after_take, Stays, Turn, Turns, last_of, LastsAtMost}
 use Rattle.law_progress.proofs.Timed.{Timed, timed-begun, timed-again, timed-marked}
@@ -329,7 +329,7 @@ verify-stands : (k : Kind) (p : Peering) (v : Verify) → Stands k p (on_verify_
 verify-stands Asks p v = by (confirmed p.offer v)
   where
     by : (o : Option Terms) → Stands Asks p (welcomed (in_state Asks p) v o)
-    by None = λ h. absurd (cc)
+    by None = unwelcomed-holds (Stands Asks p) (in_state Asks p) v (λ h. same-in Asks p) (λ h. absurd (cc))
     by (Some terms) = λ h. absurd (cc)
 verify-stands Answers p v = λ h. same-in Answers p
 verify-stands Leaves p v = λ h. same-in Leaves p
@@ -357,7 +357,7 @@ hears-stands G a now moment sent m p empty shape k about = by m.body
     answers e h = λ t. answered-same p e m sent (h (answered-state e m sent (state_of k) t))
 
     effect : Body → Outcome
-    effect b = unless_crowded_out old m (by_body old moment sent m b)
+    effect b = unless_refused old m (by_body old moment sent m b)
 
     allowed : (b : Body) → Stands k p (cond (is_of_handshake b) (by_body old moment sent m b) (stopped old stop.NotConnected)).after → Stands k p (cond (is_allowed (state_of k) b) (effect b) (stopped old stop.NotConnected)).after
     allowed b h = subst (λ x. Stands k p (cond x (effect b) (stopped old stop.NotConnected)).after) (sym (handshake-alone k b)) (inner (is_of_handshake b) h)

@@ -41,8 +41,8 @@ use Rattle.enet_peer.specs.declared.parts.PeerState.TheVariants as state
 use Rattle.enet_peer.specs.declared.parts.Limits.{Limits}
 use Rattle.enet_peer.specs.Peering.{Peering, joined, connecting, answering}
 use Rattle.enet_peer.specs.Endings.{ended, freed, parting, settled, disconnecting, is_later, cut_off_in}
-use Rattle.enet_peer.proofs.Obeying.{unless-holds}
-use Rattle.enet_peer.specs.CommandEffect.{obeyed, unless_crowded_out, stopped, is_allowed, is_connect, by_body, by_answer, by_arrival, on_data, answered, answered_at, is_answered_in, is_connecting, on_acknowledge, on_match, sampled, with_answer, on_verify_in, welcomed, on_disconnect_in, on_last_disconnect, on_bandwidth, on_throttle}
+use Rattle.enet_peer.proofs.Obeying.{unless-holds, unwelcomed-holds}
+use Rattle.enet_peer.specs.CommandEffect.{obeyed, unless_refused, stopped, is_allowed, is_connect, by_body, by_answer, by_arrival, on_data, answered, answered_at, is_answered_in, is_connecting, on_acknowledge, on_match, sampled, with_answer, on_verify_in, welcomed, on_disconnect_in, on_last_disconnect, on_bandwidth, on_throttle}
 use Rattle.enet_peer.specs.Calls.{Leave, AtOnce, TellsOnce, Asks, AsksLater, Refused, left, submitted, pace_of, gone_on_in, ticked, pinged, is_pinged, after_timeouts_by, growth_bound, next_event, event_after, packet_event, last_event}
 use Rattle.law_progress.specs.Attempts.{Hears, PutsOut, Takes, after_take}
 use Rattle.law_progress.specs.Fits.{StaysFit}
@@ -267,7 +267,7 @@ fits-verify : (p : Peering) (v : Verify) (s : PeerState) → Fits p → Fits (on
 fits-verify p v state.Connecting f = by (is_accepted p.offer v)
   where
     by : (b : Bool) → Fits (welcomed p v (cond b (Some (agreed p.offer v)) None))
-    by false = fits-dropped p (ended p 0) f refl refl refl
+    by false = unwelcomed-holds Fits p v f (fits-dropped p (ended p 0) f refl refl refl)
     by true = record {
       mtu = lesser-mtu p.offer.mtu v.mtu;
       small = small-cleared (room_of (mtu_of p.offer.mtu v.mtu)) _ refl (λ s h. cleared-empty p.outbox.senders s (taken-has (agreed p.offer v).channels (map cleared_sender p.outbox.senders) s h));
@@ -325,7 +325,7 @@ fits-obeyed p now sent m f = by (is_connect m.body) (is_allowed p.state m.body)
     body (send_unsequenced group payload) = fits-data p m sent f
     body (send_unreliable_fragment fragment payload) = fits-data p m sent f
 
-    by : (a b : Bool) → Fits (cond a (stopped p stop.BadCommand) (cond b (unless_crowded_out p m (by_body p now sent m m.body)) (stopped p stop.NotConnected))).after
+    by : (a b : Bool) → Fits (cond a (stopped p stop.BadCommand) (cond b (unless_refused p m (by_body p now sent m m.body)) (stopped p stop.NotConnected))).after
     by true b = f
     by false true = unless-holds Fits p m (by_body p now sent m m.body) f (body m.body)
     by false false = f

@@ -39,7 +39,7 @@ use Rattle.enet_peer.specs.declared.parts.Limits.{Limits}
 use Rattle.enet_peer.specs.Peering.{Peering, joined, connecting, answering}
 use Rattle.enet_peer.specs.Endings.{settled, disconnecting, cut_off_in}
 use Rattle.enet_peer.proofs.Obeying.{unless-holds}
-use Rattle.enet_peer.specs.CommandEffect.{obeyed, unless_crowded_out, stopped, is_allowed, is_connect, by_body, by_answer, answered, answered_at, is_answered_in, on_acknowledge, on_match, acknowledged, on_disconnect_in, on_bandwidth, on_throttle}
+use Rattle.enet_peer.specs.CommandEffect.{obeyed, unless_refused, stopped, is_allowed, is_connect, by_body, by_answer, answered, answered_at, is_answered_in, on_acknowledge, on_match, acknowledged, on_disconnect_in, on_bandwidth, on_throttle}
 use Rattle.enet_peer.specs.Calls.{pace_of, gone_on, ticked, pinged, after_timeouts_by, growth_bound, next_event, event_after, packet_event}
 use Rattle.law_progress.specs.Outboxes.{AllFit, NothingMayGo, WaitsForSome}
 use Rattle.law_progress.specs.Attempts.{Step, Hears, PutsOut, Takes, after_take, after_step, Stays, Turn, Turns, last_of}
@@ -332,10 +332,10 @@ hears-fewer p now sent m = by m.body
     passed (Err why) = same
     passed (Ok may) = answered-fewer p old m sent may same
 
-    effect : (b : Body) → Goes_on p (by_body old now sent m b).after → Goes_on p (unless_crowded_out old m (by_body old now sent m b)).after
+    effect : (b : Body) → Goes_on p (by_body old now sent m b).after → Goes_on p (unless_refused old m (by_body old now sent m b)).after
     effect b h = unless-holds (Goes_on p) old m (by_body old now sent m b) same h
 
-    by : (b : Body) → Goes_on p (cond (is_connect b) (stopped old stop.BadCommand) (cond (is_allowed state.DisconnectLater b) (unless_crowded_out old m (by_body old now sent m b)) (stopped old stop.NotConnected))).after
+    by : (b : Body) → Goes_on p (cond (is_connect b) (stopped old stop.BadCommand) (cond (is_allowed state.DisconnectLater b) (unless_refused old m (by_body old now sent m b)) (stopped old stop.NotConnected))).after
     by (acknowledge number time) = effect (acknowledge number time) (answered-fewer p (on_acknowledge old now m.head.channel number time) m sent true (acknowledge-fewer p now m.head.channel number time))
     by (connect offer) = same
     by (verify_connect v) = effect (verify_connect v) (answered-fewer p old m sent true same)

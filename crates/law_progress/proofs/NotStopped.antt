@@ -23,7 +23,7 @@ use Rattle.enet_inbox.specs.DataEffect.{DataEffect, plain_arrival, makes_room, a
 use Rattle.enet_peer.specs.declared.parts.PeerState.TheVariants as state
 use Rattle.enet_peer.specs.Endings.{is_later}
 use Rattle.enet_peer.specs.Peering.{Peering}
-use Rattle.enet_peer.specs.CommandEffect.{Outcome, obeyed, unless_crowded_out, is_crowded_out, on_data, by_arrival, by_answer, is_allowed, stopped}
+use Rattle.enet_peer.specs.CommandEffect.{Outcome, obeyed, unless_refused, is_crowded_out, is_unasked, on_data, by_arrival, by_answer, is_allowed, stopped}
 use Rattle.law_connection.specs.Link.{PutOut, is_late}
 use Rattle.law_connection.specs.LinkSteps.{Has}
 use Rattle.law_connection.specs.LinkSteps as link
@@ -82,12 +82,13 @@ meets-it b channel c r m there k = by (makes_room b m) refl
         record { inbox = b; end = r; took = took; handled = ok-took took b channel r c (sym (ap (λ (a : DataEffect). is_ok a.answer) is) ∙ k.ok); front = refl; is = is }
 
 -- ---- so does the peer
-not-crowded : (q : Peering) (m : Message) (o : Outcome) → (unless_crowded_out q m o).stop ≡ None → unless_crowded_out q m o ≡ o
-not-crowded q m o none = by (is_crowded_out q m) none
+not-refused : (q : Peering) (m : Message) (o : Outcome) → (unless_refused q m o).stop ≡ None → unless_refused q m o ≡ o
+not-refused q m o none = by (is_unasked q m.body) (is_crowded_out q m) none
   where
-    by : (b : Bool) → (cond b (stopped q stop.Waiting) o).stop ≡ None → cond b (stopped q stop.Waiting) o ≡ o
-    by true e = absurd (let z : ◌≡◌ {A = Option Stop} (Some stop.Waiting) None = e in cc)
-    by false e = refl
+    by : (a b : Bool) → (cond a (stopped q stop.NotConnected) (cond b (stopped q stop.Waiting) o)).stop ≡ None → cond a (stopped q stop.NotConnected) (cond b (stopped q stop.Waiting) o) ≡ o
+    by true b e = absurd (let z : ◌≡◌ {A = Option Stop} (Some stop.NotConnected) None = e in cc)
+    by false true e = absurd (let z : ◌≡◌ {A = Option Stop} (Some stop.Waiting) None = e in cc)
+    by false false e = refl
 
 is-ok : (q : Peering) (m : Message) (sent : Option ℕ) (a : DataEffect) → (by_arrival q m sent a).stop ≡ None → is_ok a.answer ≡ true
 is-ok q m sent a none = by a.answer none
@@ -102,7 +103,7 @@ record Asks (q : Peering) (now channel time : ℕ) (c : DataCommand) (m : Messag
   on : m.head.channel ≡ channel
   number : m.head.number ≡ c.number
   plain : (x : Inbox) → plain_arrival x m ≡ sequenced_on x channel c (slice_get x.receivers channel)
-  obeys : obeyed q now (Some time) m ≡ cond (is_allowed q.state m.body) (unless_crowded_out q m (on_data q m (Some time))) (stopped q stop.NotConnected)
+  obeys : obeyed q now (Some time) m ≡ cond (is_allowed q.state m.body) (unless_refused q m (on_data q m (Some time))) (stopped q stop.NotConnected)
   allowed : is_allowed state.Connected m.body ≡ true
 
 obeys-it : (q : Peering) (now channel time : ℕ) (c : DataCommand) (m : Message) → q.state ≡ state.Connected → ((r : ReceivingEnd) → slice_get q.inbox.receivers channel ≡ Some r → acknowledges r.receiver.front c.number ≡ true)
@@ -112,12 +113,12 @@ obeys-it q now channel time c m connected ack k none = subst (λ (o : Outcome). 
     data_so : Outcome
     data_so = on_data q m (Some time)
 
-    uncrowded : obeyed q now (Some time) m ≡ unless_crowded_out q m data_so
-    uncrowded = k.obeys ∙ ap (λ (b : Bool). cond b (unless_crowded_out q m data_so) (stopped q stop.NotConnected)) (ap (λ s. is_allowed s m.body) connected ∙ k.allowed)
+    unrefused : obeyed q now (Some time) m ≡ unless_refused q m data_so
+    unrefused = k.obeys ∙ ap (λ (b : Bool). cond b (unless_refused q m data_so) (stopped q stop.NotConnected)) (ap (λ s. is_allowed s m.body) connected ∙ k.allowed)
 
     whole : obeyed q now (Some time) m ≡ by_arrival q m (Some time) (arrival q.inbox m)
     whole =
-        uncrowded ∙ not-crowded q m data_so (sym (ap (λ (o : Outcome). o.stop) uncrowded) ∙ none)
+        unrefused ∙ not-refused q m data_so (sym (ap (λ (o : Outcome). o.stop) unrefused) ∙ none)
         ∙ ap (λ (b : Bool). cond b (by_answer q m (Some time) (passed_over q.inbox m)) (by_arrival q m (Some time) (arrival q.inbox m))) (ap is_later connected)
 
     goes : Goes q.inbox channel c m

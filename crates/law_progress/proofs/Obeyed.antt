@@ -18,7 +18,7 @@ use Rattle.enet_outbox.specs.Outbox.{Outbox, matched_by}
 use Rattle.enet_outbox.specs.Outbox as outbox
 use Rattle.enet_peer.specs.declared.parts.PeerState.TheVariants as state
 use Rattle.enet_peer.specs.Peering.{Peering}
-use Rattle.enet_peer.specs.CommandEffect.{obeyed, unless_crowded_out, stopped, is_allowed, is_connect, by_body, by_answer, by_arrival, answered, answered_at, is_answered_in, on_acknowledge, on_match, acknowledged, on_disconnect_in, on_bandwidth, on_throttle}
+use Rattle.enet_peer.specs.CommandEffect.{obeyed, unless_refused, stopped, is_allowed, is_connect, by_body, by_answer, by_arrival, answered, answered_at, is_answered_in, on_acknowledge, on_match, acknowledged, on_disconnect_in, on_bandwidth, on_throttle}
 use Rattle.enet_peer.specs.CommandEffect as effect
 use Rattle.enet_peer.proofs.Obeying.{unless-holds}
 use Rattle.enet_receiver.specs.Members.{Has}
@@ -170,10 +170,10 @@ hears-stays p now sent m = by m.body
         go (Err why) = same-stays p there refl refl refl
         go (Ok may) = answered-stays p there m sent may (same-stays p there refl refl refl)
 
-    effect-of : (b : Body) → Stays p (by_body old now sent m b).after → Stays p (unless_crowded_out old m (by_body old now sent m b)).after
+    effect-of : (b : Body) → Stays p (by_body old now sent m b).after → Stays p (unless_refused old m (by_body old now sent m b)).after
     effect-of b h = unless-holds (Stays p) old m (by_body old now sent m b) same h
 
-    by : (b : Body) → Stays p (cond (is_connect b) (stopped old stop.BadCommand) (cond (is_allowed state.Connected b) (unless_crowded_out old m (by_body old now sent m b)) (stopped old stop.NotConnected))).after
+    by : (b : Body) → Stays p (cond (is_connect b) (stopped old stop.BadCommand) (cond (is_allowed state.Connected b) (unless_refused old m (by_body old now sent m b)) (stopped old stop.NotConnected))).after
     by (acknowledge number time) = effect-of (acknowledge number time) (answered-stays p (on_acknowledge old now m.head.channel number time) m sent true (acknowledge-stays p now m.head.channel number time))
     by (connect offer) = same
     by (verify_connect v) = effect-of (verify_connect v) (answered-stays p old m sent true same)

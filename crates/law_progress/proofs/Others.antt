@@ -46,9 +46,14 @@ control-heard q n now time connected asks opens free = subst (λ (x : Peering). 
     fewer true o e h = absurd (cc)
     fewer false o e h = h
 
-    by : (c : Control) → is_reliable c ≡ true → Rattle.law_progress.specs.Peers.opens c ≡ false → (not (ends c) && is_crowded q.outbox) ≡ false → Heard (obeyed open' now (Some time) (message_of (record { number = n.number; control = c })))
+    other : (a x : Bool) (o : Outcome) → a ≡ false → x ≡ false → Heard o
+        → Heard (cond a (Rattle.enet_peer.specs.CommandEffect.stopped open' stop.NotConnected) (cond x (Rattle.enet_peer.specs.CommandEffect.stopped open' stop.Waiting) o))
+    other true x o e f h = absurd (cc)
+    other false x o e f h = fewer x o f h
+
+    by : (c : Control) → is_reliable c ≡ true → Rattle.law_progress.specs.Peers.is_refused q c ≡ false → (not (ends c) && is_crowded q.outbox) ≡ false → Heard (obeyed open' now (Some time) (message_of (record { number = n.number; control = c })))
     by (control.Connect offer) e o f = absurd (cc)
-    by (control.VerifyConnect verify) e o f = fewer (is_crowded q.outbox) _ f (refl, waits)
+    by (control.VerifyConnect verify) e o f = other q.is_server (is_crowded q.outbox) _ o f (refl, waits)
     by (control.Disconnect info) e o f = (refl, inl refl)
     by (control.DisconnectNow info) e o f = absurd (cc)
     by control.Ping e o f = fewer (is_crowded q.outbox) _ f (refl, waits)

@@ -15,7 +15,7 @@ use Rattle.enet_peer.specs.declared.parts.PeerState.TheVariants as state
 use Rattle.enet_peer.specs.Peering.{Peering}
 use Rattle.enet_peer.specs.Endings.{settled, disconnecting, is_later}
 use Rattle.enet_peer.proofs.Obeying.{unless-holds}
-use Rattle.enet_peer.specs.CommandEffect.{obeyed, unless_crowded_out, stopped, is_allowed, is_connect, by_body, by_answer, answered, answered_at, is_answered_in, on_acknowledge, on_match, acknowledged, on_disconnect_in, on_bandwidth, on_throttle}
+use Rattle.enet_peer.specs.CommandEffect.{obeyed, unless_refused, stopped, is_allowed, is_connect, by_body, by_answer, answered, answered_at, is_answered_in, on_acknowledge, on_match, acknowledged, on_disconnect_in, on_bandwidth, on_throttle}
 use Rattle.enet_peer.specs.Calls.{pace_of, ticked, pinged, after_timeouts_by, next_event, event_after, packet_event}
 use Rattle.law_progress.specs.Attempts.{Step, Hears, PutsOut, Takes, after_step, after_take, IsTold}
 use Rattle.law_progress.specs.Later.{IsLeaving, LeavesOrTells}
@@ -77,10 +77,10 @@ hears-goes p now sent m = by m.body
     passed (Err why) = same
     passed (Ok may) = answered-goes old m sent may same
 
-    effect : (b : Body) → Goes (by_body old now sent m b).after → Goes (unless_crowded_out old m (by_body old now sent m b)).after
+    effect : (b : Body) → Goes (by_body old now sent m b).after → Goes (unless_refused old m (by_body old now sent m b)).after
     effect b h = unless-holds Goes old m (by_body old now sent m b) same h
 
-    by : (b : Body) → Goes (cond (is_connect b) (stopped old stop.BadCommand) (cond (is_allowed state.DisconnectLater b) (unless_crowded_out old m (by_body old now sent m b)) (stopped old stop.NotConnected))).after
+    by : (b : Body) → Goes (cond (is_connect b) (stopped old stop.BadCommand) (cond (is_allowed state.DisconnectLater b) (unless_refused old m (by_body old now sent m b)) (stopped old stop.NotConnected))).after
     by (acknowledge number time) = effect (acknowledge number time) (answered-goes (on_acknowledge old now m.head.channel number time) m sent true (acknowledge-goes p now m.head.channel number time))
     by (connect offer) = same
     by (verify_connect v) = effect (verify_connect v) (answered-goes old m sent true same)

@@ -26,7 +26,7 @@ use Rattle.enet_peer.specs.declared.parts.PeerState.TheVariants as state
 use Rattle.enet_peer.specs.Endings.{is_later}
 use Rattle.enet_peer.specs.Peering.{Peering}
 use Rattle.enet_outbox.specs.Outbox.{is_crowded}
-use Rattle.enet_peer.specs.CommandEffect.{obeyed, drops_acknowledgements, unless_crowded_out, on_data, by_arrival, by_answer, answered, answered_at, is_allowed, is_answered_in, stopped}
+use Rattle.enet_peer.specs.CommandEffect.{obeyed, drops_acknowledgements, is_crowded_out, is_unasked, unless_refused, on_data, by_arrival, by_answer, answered, answered_at, is_allowed, is_answered_in, stopped}
 use Rattle.law_connection.specs.Link.{PutOut, is_late}
 use Rattle.law_connection.specs.LinkSteps.{Has}
 use Rattle.law_connection.specs.Connection.{Put, End, Connection, of_channel}
@@ -97,10 +97,11 @@ peer-answers q now channel time c r connected reliable there reads ok ack room f
         subst (λ b. IsAnswered q channel time c (cond b (by_answer q m (Some time) (passed_over q.inbox m)) (by_arrival q m (Some time) (arrival q.inbox m)))) (sym (ap is_later connected))
         (met-answers q channel time c r m connected asks on number ack (record { plain = plain; there = there; handled = ok; handled_alone = alone; room = room }))
 
-    allows : (m : Message) (body : Body) → is_allowed state.Connected body ≡ true → IsAnswered q channel time c (on_data q m (Some time)) → IsAnswered q channel time c (cond (is_allowed q.state body) (unless_crowded_out q m (on_data q m (Some time))) (stopped q stop.NotConnected))
-    allows m body e h =
-        subst (λ b. IsAnswered q channel time c (cond b (unless_crowded_out q m (on_data q m (Some time))) (stopped q stop.NotConnected))) (sym (ap (λ s. is_allowed s body) connected ∙ e))
-        (uncrowded (m.head.acknowledge) (not (drops_acknowledgements q.state m.body)) (is_crowded q.outbox) free)
+    allows : (m : Message) (body : Body) → is_allowed state.Connected body ≡ true → is_unasked q m.body ≡ false → IsAnswered q channel time c (on_data q m (Some time)) → IsAnswered q channel time c (cond (is_allowed q.state body) (unless_refused q m (on_data q m (Some time))) (stopped q stop.NotConnected))
+    allows m body e other h =
+        subst (λ b. IsAnswered q channel time c (cond b (unless_refused q m (on_data q m (Some time))) (stopped q stop.NotConnected))) (sym (ap (λ s. is_allowed s body) connected ∙ e))
+        (subst (λ u. IsAnswered q channel time c (cond u (stopped q stop.NotConnected) (cond (is_crowded_out q m) (stopped q stop.Waiting) (on_data q m (Some time))))) (sym other)
+        (uncrowded (m.head.acknowledge) (not (drops_acknowledgements q.state m.body)) (is_crowded q.outbox) free))
       where
         uncrowded : (a b x : Bool) → x ≡ false → IsAnswered q channel time c (cond (a && b && x) (stopped q stop.Waiting) (on_data q m (Some time)))
         uncrowded true true true e = absurd (cc)
@@ -113,10 +114,10 @@ peer-answers q now channel time c r connected reliable there reads ok ack room f
     by false e f is = absurd (cc)
     by true e None is =
         let m : Message = record { head = record { acknowledge = true; unsequenced = false; channel = channel; number = c.number }; body = send_reliable c.body } in
-        allows m (send_reliable c.body) refl (obeys m refl refl refl (λ b. ap (sequenced b channel) is))
+        allows m (send_reliable c.body) refl refl (obeys m refl refl refl (λ b. ap (sequenced b channel) is))
     by true e (Some f) is =
         let m : Message = record { head = record { acknowledge = true; unsequenced = false; channel = channel; number = c.number }; body = send_fragment f c.body } in
-        allows m (send_fragment f c.body) refl (obeys m refl refl refl (λ b. ap (sequenced b channel) is))
+        allows m (send_fragment f c.body) refl refl (obeys m refl refl refl (λ b. ap (sequenced b channel) is))
 
 -- what goes on a channel was submitted
 pub on-channel : (mtu channel most : ℕ) (qs : List Packet) → ((x : Packet) → Has qs x → length x.body ≤ most) → AreShort most (of_channel mtu channel qs)

@@ -107,13 +107,19 @@ removed p now sent m number time s connected quiet body low there h = by-message
     good : Good (on_acknowledge p now channel number time)
     good = subst (λ t. Good (cond (effect.is_connecting t) p (effect.accepted p now channel number time))) (sym connected) good-accepted
 
-    -- it asks for no acknowledgement, so it isn't crowded out
+    -- it is no server's answer, and asks for no acknowledgement, so it isn't refused
+    unasked : effect.is_unasked p m.body ≡ false
+    unasked = ap (effect.is_unasked p) body
+
     plain : (t : Rattle.enet_peer.specs.declared.parts.PeerState.PeerState) (b : Rattle.enet_codec.specs.Message.Body)
         → IsRemoved p channel number s (effect.by_body p now sent m b)
-        → IsRemoved p channel number s (cond (m.head.acknowledge && not (effect.drops_acknowledgements t m.body) && outbox.is_crowded p.outbox) (stopped p Rattle.enet_codec.specs.declared.stop.Stop.TheVariants.Waiting) (effect.by_body p now sent m b))
-    plain t b h = subst (λ a. IsRemoved p channel number s (cond (a && not (effect.drops_acknowledgements t m.body) && outbox.is_crowded p.outbox) (stopped p Rattle.enet_codec.specs.declared.stop.Stop.TheVariants.Waiting) (effect.by_body p now sent m b))) (sym quiet) h
+        → IsRemoved p channel number s (cond (effect.is_unasked p m.body) (stopped p Rattle.enet_codec.specs.declared.stop.Stop.TheVariants.NotConnected)
+        (cond (m.head.acknowledge && not (effect.drops_acknowledgements t m.body) && outbox.is_crowded p.outbox) (stopped p Rattle.enet_codec.specs.declared.stop.Stop.TheVariants.Waiting) (effect.by_body p now sent m b)))
+    plain t b h =
+        subst (λ u. IsRemoved p channel number s (cond u (stopped p Rattle.enet_codec.specs.declared.stop.Stop.TheVariants.NotConnected) (cond (m.head.acknowledge && not (effect.drops_acknowledgements t m.body) && outbox.is_crowded p.outbox) (stopped p Rattle.enet_codec.specs.declared.stop.Stop.TheVariants.Waiting) (effect.by_body p now sent m b)))) (sym unasked)
+        (subst (λ a. IsRemoved p channel number s (cond (a && not (effect.drops_acknowledgements t m.body) && outbox.is_crowded p.outbox) (stopped p Rattle.enet_codec.specs.declared.stop.Stop.TheVariants.Waiting) (effect.by_body p now sent m b))) (sym quiet) h)
 
     by-message : IsRemoved p channel number s (obeyed p now sent m)
-    by-message = subst (λ b. IsRemoved p channel number s (cond (effect.is_connect b) (stopped p Rattle.enet_codec.specs.declared.stop.Stop.TheVariants.BadCommand) (cond (is_allowed p.state b) (effect.unless_crowded_out p m (effect.by_body p now sent m b)) (stopped p Rattle.enet_codec.specs.declared.stop.Stop.TheVariants.NotConnected)))) (sym body)
-        (subst (λ t. IsRemoved p channel number s (cond (is_allowed t (acknowledge number time)) (effect.unless_crowded_out p m (effect.by_body p now sent m (acknowledge number time))) (stopped p Rattle.enet_codec.specs.declared.stop.Stop.TheVariants.NotConnected))) (sym connected)
+    by-message = subst (λ b. IsRemoved p channel number s (cond (effect.is_connect b) (stopped p Rattle.enet_codec.specs.declared.stop.Stop.TheVariants.BadCommand) (cond (is_allowed p.state b) (effect.unless_refused p m (effect.by_body p now sent m b)) (stopped p Rattle.enet_codec.specs.declared.stop.Stop.TheVariants.NotConnected)))) (sym body)
+        (subst (λ t. IsRemoved p channel number s (cond (is_allowed t (acknowledge number time)) (effect.unless_refused p m (effect.by_body p now sent m (acknowledge number time))) (stopped p Rattle.enet_codec.specs.declared.stop.Stop.TheVariants.NotConnected))) (sym connected)
         (plain p.state (acknowledge number time) good))

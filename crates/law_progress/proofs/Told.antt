@@ -19,8 +19,8 @@ use Rattle.enet_peer.specs.declared.parts.PeerState.{PeerState}
 use Rattle.enet_peer.specs.declared.parts.PeerState.TheVariants as state
 use Rattle.enet_peer.specs.Peering.{Peering}
 use Rattle.enet_peer.specs.Endings.{settled, cut_off_in}
-use Rattle.enet_peer.proofs.Obeying.{unless-holds}
-use Rattle.enet_peer.specs.CommandEffect.{Outcome, obeyed, unless_crowded_out, stopped, is_allowed, is_of_handshake, is_connect, by_body, answered, answered_at, is_answered_in, on_acknowledge, on_match, acknowledged, with_answer, on_verify_in, welcomed, on_disconnect_in}
+use Rattle.enet_peer.proofs.Obeying.{unless-holds, unwelcomed-holds}
+use Rattle.enet_peer.specs.CommandEffect.{Outcome, obeyed, unless_refused, stopped, is_allowed, is_of_handshake, is_connect, by_body, answered, answered_at, is_answered_in, on_acknowledge, on_match, acknowledged, with_answer, on_verify_in, welcomed, on_disconnect_in}
 use Rattle.enet_peer.specs.Calls.{pace_of, ticked, pinged, after_timeouts_by, growth_bound, next_event, event_after, packet_event, last_event}
 use Rattle.law_progress.specs.Attempts.{Step, Hears, PutsOut, Takes, after_step, after_take, IsTold, TellsWhenLeft}
 use Rattle.law_progress.proofs.Attempts.{Kind, Asks, Answers, Leaves, state_of, in_state, handshake-alone, waits-on, unpinged}
@@ -93,7 +93,7 @@ verify-goes : (k : Kind) (p : Peering) (v : Verify) → Goes k (on_verify_in (st
 verify-goes Asks p v = by (confirmed p.offer v)
   where
     by : (o : Option Terms) → Goes Asks (welcomed (in_state Asks p) v o)
-    by None = inr (inr (inl refl))
+    by None = unwelcomed-holds (Goes Asks) (in_state Asks p) v (inl refl) (inr (inr (inl refl)))
     by (Some terms) = inr (inl (_, refl))
 verify-goes Answers p v = inl refl
 verify-goes Leaves p v = inl refl
@@ -110,7 +110,7 @@ hears-goes k p moment sent m = by m.body
     old = in_state k p
 
     effect : Body → Outcome
-    effect b = unless_crowded_out old m (by_body old moment sent m b)
+    effect b = unless_refused old m (by_body old moment sent m b)
 
     allowed : (b : Body) → Goes k (cond (is_of_handshake b) (by_body old moment sent m b) (stopped old stop.NotConnected)).after → Goes k (cond (is_allowed (state_of k) b) (effect b) (stopped old stop.NotConnected)).after
     allowed b h = subst (λ x. Goes k (cond x (effect b) (stopped old stop.NotConnected)).after) (sym (handshake-alone k b)) (inner (is_of_handshake b) h)

@@ -46,8 +46,8 @@ use Rattle.enet_peer.specs.declared.parts.PeerState.TheVariants as state
 use Rattle.enet_peer.specs.declared.parts.Limits.{Limits}
 use Rattle.enet_peer.specs.Peering.{Peering, joined, connecting, answering}
 use Rattle.enet_peer.specs.Endings.{ended, freed, parting, settled, disconnecting, is_later, cut_off_in}
-use Rattle.enet_peer.proofs.Obeying.{unless-holds}
-use Rattle.enet_peer.specs.CommandEffect.{obeyed, unless_crowded_out, stopped, is_allowed, is_connect, by_body, by_answer, by_arrival, on_data, answered, answered_at, is_answered_in, is_connecting, on_acknowledge, on_match, sampled, with_answer, on_verify_in, welcomed, on_disconnect_in, on_last_disconnect, on_bandwidth, on_throttle}
+use Rattle.enet_peer.proofs.Obeying.{unless-holds, unwelcomed-holds}
+use Rattle.enet_peer.specs.CommandEffect.{obeyed, unless_refused, stopped, is_allowed, is_connect, by_body, by_answer, by_arrival, on_data, answered, answered_at, is_answered_in, is_connecting, on_acknowledge, on_match, sampled, with_answer, on_verify_in, welcomed, on_disconnect_in, on_last_disconnect, on_bandwidth, on_throttle}
 use Rattle.enet_peer.specs.Calls.{Leave, AtOnce, TellsOnce, Asks, AsksLater, Refused, left, submitted, pace_of, gone_on_in, ticked, pinged, is_pinged, after_timeouts_by, growth_bound, next_event, event_after, packet_event, last_event}
 use Rattle.law_progress.specs.Attempts.{Hears, PutsOut, Takes, after_take, last_of}
 use Rattle.law_progress.specs.Waits.{Deed, Lives, Submits, Leaves, after_leave, after_deed, after_deeds, has_due, Moment, Moments, WaitAtMost, NoneWaitsLonger}
@@ -298,7 +298,7 @@ fair-verify : (R : Transmission → Type 0) (most : ℕ) (p : Peering) (v : Veri
 fair-verify R most p v state.Connecting h = by (confirmed p.offer v)
   where
     by : (o : Option Terms) → Fair R most (welcomed p v o)
-    by None = fair-ended R most p 0 h
+    by None = unwelcomed-holds (Fair R most) p v h (fair-ended R most p 0 h)
     by (Some terms) = (((λ t k. absurd k), (λ s k. none-cleared R p.outbox.senders s (Has-taken terms.channels (map cleared_sender p.outbox.senders) s k))), h.1, h.2)
 fair-verify R most p v s h = h
 
@@ -353,7 +353,7 @@ fair-obeyed R most p now sent m h = by (is_connect m.body) (is_allowed p.state m
     body (send_unsequenced group payload) = fair-data R most p m sent h
     body (send_unreliable_fragment fragment payload) = fair-data R most p m sent h
 
-    by : (a b : Bool) → Fair R most (cond a (stopped p stop.BadCommand) (cond b (unless_crowded_out p m (by_body p now sent m m.body)) (stopped p stop.NotConnected))).after
+    by : (a b : Bool) → Fair R most (cond a (stopped p stop.BadCommand) (cond b (unless_refused p m (by_body p now sent m m.body)) (stopped p stop.NotConnected))).after
     by true b = h
     by false true = unless-holds (Fair R most) p m (by_body p now sent m m.body) h (body m.body)
     by false false = h

@@ -20,8 +20,8 @@ use Rattle.enet_peer.specs.declared.parts.PeerState.{PeerState}
 use Rattle.enet_peer.specs.declared.parts.PeerState.TheVariants as state
 use Rattle.enet_peer.specs.Peering.{Peering}
 use Rattle.enet_peer.specs.Endings.{settled, disconnecting, is_later, freed, cut_off_in}
-use Rattle.enet_peer.proofs.Obeying.{unless-holds}
-use Rattle.enet_peer.specs.CommandEffect.{obeyed, unless_crowded_out, stopped, is_allowed, is_connect, by_body, by_answer, by_arrival, on_data, answered, answered_at, is_answered_in, is_connecting, on_acknowledge, on_match, sampled, with_answer, on_verify_in, welcomed, on_disconnect_in, on_last_disconnect, on_bandwidth, on_throttle}
+use Rattle.enet_peer.proofs.Obeying.{unless-holds, unwelcomed-holds}
+use Rattle.enet_peer.specs.CommandEffect.{obeyed, unless_refused, stopped, is_allowed, is_connect, by_body, by_answer, by_arrival, on_data, answered, answered_at, is_answered_in, is_connecting, on_acknowledge, on_match, sampled, with_answer, on_verify_in, welcomed, on_disconnect_in, on_last_disconnect, on_bandwidth, on_throttle}
 use Rattle.enet_peer.specs.Calls.{Leave, AtOnce, TellsOnce, Asks, AsksLater, Refused, left, gone_on_in, ticked, pinged, is_pinged, after_timeouts_by, growth_bound, next_event, event_after, packet_event, last_event}
 use Rattle.law_progress.specs.Attempts.{after_take}
 use Rattle.law_progress.specs.Waits.{after_leave}
@@ -66,7 +66,7 @@ wide-verify : (p : Peering) (v : Verify) (s : PeerState) → IsWide p → IsWide
 wide-verify p v state.Connecting h = by (is_accepted p.offer v)
   where
     by : (b : Bool) → IsWide (welcomed p v (cond b (Some (agreed p.offer v)) None))
-    by false = h
+    by false = unwelcomed-holds IsWide p v h h
     by true = at-least p.offer.mtu v.mtu
 wide-verify p v s h = h
 
@@ -121,7 +121,7 @@ wide-obeyed p now sent m h = by (is_connect m.body) (is_allowed p.state m.body)
     body (send_unsequenced group payload) = wide-data p m sent h
     body (send_unreliable_fragment fragment payload) = wide-data p m sent h
 
-    by : (a b : Bool) → IsWide (cond a (stopped p stop.BadCommand) (cond b (unless_crowded_out p m (by_body p now sent m m.body)) (stopped p stop.NotConnected))).after
+    by : (a b : Bool) → IsWide (cond a (stopped p stop.BadCommand) (cond b (unless_refused p m (by_body p now sent m m.body)) (stopped p stop.NotConnected))).after
     by true b = h
     by false true = unless-holds IsWide p m (by_body p now sent m m.body) h (body m.body)
     by false false = h

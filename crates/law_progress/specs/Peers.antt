@@ -73,20 +73,21 @@ pub record IsRemoved (p : Peering) (channel number : ℕ) (s : SendingEnd) (o : 
   pub is : after.sender ≡ after_acknowledgement s.sender number
   pub less : length after.sender.sent + 1 ≡ length s.sender.sent
 
--- whether a command of channel 0xFF opens a connection
-abbrev pub opens : Control → Bool
-opens (control.Connect offer) = true
-opens _ = false
+-- whether a peer takes a command of channel 0xFF in from nobody: CONNECT, and VERIFY_CONNECT where it answered a CONNECT itself
+abbrev pub is_refused : Peering → Control → Bool
+is_refused q (control.Connect offer) = true
+is_refused q (control.VerifyConnect verify) = q.is_server
+is_refused q _ = false
 
 -- whether one asks for the end
 abbrev pub ends : Control → Bool
 ends (control.Disconnect info) = true
 ends _ = false
 
--- a command of channel 0xFF that asks for its acknowledgement, and opens no connection, is taken in without a stop, and its acknowledgement
+-- a command of channel 0xFF that asks for its acknowledgement, and that the peer takes in, is taken in without a stop, and its acknowledgement
 -- waits to go, where fewer acknowledgements wait than may: DISCONNECT also where as many do, which it drops
 abbrev pub IsHeard : Peering → Numbered → ℕ → Outcome → Type 0
-IsHeard q n time o = is_reliable n.control ≡ true → opens n.control ≡ false → (not (ends n.control) && is_crowded q.outbox) ≡ false
+IsHeard q n time o = is_reliable n.control ≡ true → is_refused q n.control ≡ false → (not (ends n.control) && is_crowded q.outbox) ≡ false
     → (o.stop ≡ None) × Has o.after.outbox.acknowledgements (record { channel = 0xFF; number = n.number; time = time })
 
 -- a connected peer has the channel of an unsequenced packet, takes in packets of its length, and has room for it, if need be once the

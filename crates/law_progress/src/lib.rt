@@ -129,10 +129,10 @@ pub fn nothing_is_held_back()
 /// held and the packets that the user hasn't taken are below the limits, for the next packet in order where the latter are, and where fewer
 /// than 8,192 acknowledgements wait to go. `removed`: an acknowledgement that comes takes the sent command of its number away, and no
 /// other. `unreliable_forth`, `unreliable_back`: an unreliable data command that comes in time is taken in, too, without a stop while there
-/// is room, however many acknowledgements wait. `controls`: each reliable command of channel 0xFF but CONNECT is acknowledged while fewer
-/// than 8,192 acknowledgements wait to go, and DISCONNECT, which drops those that wait, always. `unsequenced`: an unsequenced packet is
-/// taken in without a stop where there is room for it, however many wait. `controls_removed`: the acknowledgement that comes takes the sent
-/// command of channel 0xFF of its number away, and no other.
+/// is room, however many acknowledgements wait. `controls`: each reliable command of channel 0xFF but CONNECT, and but VERIFY_CONNECT at a peer
+/// that answered a CONNECT itself, is acknowledged while fewer than 8,192 acknowledgements wait to go, and DISCONNECT, which drops those that
+/// wait, always. `unsequenced`: an unsequenced packet is taken in without a stop where there is room for it, however many wait.
+/// `controls_removed`: the acknowledgement that comes takes the sent command of channel 0xFF of its number away, and no other.
 pub fn what_waits_is_answered()
     ensures forth { (joined : Bool) (d : Connection) (p q : Peering) (put : Put) (channel : ℕ) (c : DataCommand) (now time : ℕ) → Invariant joined d → channel < 255
         → Awaits d.one d.two p q put channel c → IsAnswered q channel time c (obeyed q now (Some time) put.message) }

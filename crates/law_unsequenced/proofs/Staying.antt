@@ -40,8 +40,8 @@ use Rattle.enet_peer.specs.Peering.{Peering}
 use Rattle.enet_peer.specs.declared.parts.PeerState.{PeerState}
 use Rattle.enet_peer.specs.declared.parts.PeerState.TheVariants as state
 use Rattle.enet_peer.specs.Endings.{ended, freed, disconnecting, parting, settled, is_later, cut_off_in}
-use Rattle.enet_peer.specs.CommandEffect.{Outcome, answered, answered_at, is_answered_in, is_allowed, obeyed, unless_crowded_out, by_body, by_answer, by_arrival, on_data, stopped, sampled, with_answer, on_match, accepted, is_connecting, on_acknowledge, welcomed, on_verify_in, on_last_disconnect, on_disconnect_in, on_bandwidth, on_throttle}
-use Rattle.enet_peer.proofs.Obeying.{unless-holds}
+use Rattle.enet_peer.specs.CommandEffect.{Outcome, answered, answered_at, is_answered_in, is_allowed, obeyed, unless_refused, by_body, by_answer, by_arrival, on_data, stopped, sampled, with_answer, on_match, accepted, is_connecting, on_acknowledge, welcomed, on_verify_in, on_last_disconnect, on_disconnect_in, on_bandwidth, on_throttle}
+use Rattle.enet_peer.proofs.Obeying.{unless-holds, unwelcomed-holds}
 use Rattle.enet_peer.specs.Calls.{left, after_timeouts, after_timeouts_by, is_pinged, ticked, is_connected, gone_on, gone_on_in}
 use Rattle.law_connection.proofs.GivingWay.{sequenced-given_up}
 use Rattle.law_connection.proofs.Runs.{get-map}
@@ -393,7 +393,9 @@ verify-becomes : (come : List Unsequenced) (p : Peering) (v : Verify) (s : PeerS
 verify-becomes come p v state.Connecting e = by (confirmed p.offer v)
   where
     by : (o : Option Terms) → Becomes (is_young p.state) come (core p) (core (welcomed p v o))
-    by None = becomes (is_young p.state) come (core p) (core (ended p 0)) (stays-cleared (core p))
+    by None =
+        unwelcomed-holds (λ (q : Peering). Becomes (is_young p.state) come (core p) (core q)) p v (becomes (is_young p.state) come (core p) (core p) (stays (core p)))
+        (becomes (is_young p.state) come (core p) (core (ended p 0)) (stays-cleared (core p)))
     by (Some terms) = record { mtu = inr (ap is_young e); group = refl; waiting = λ u h. absurd h; comes = inl (refl, inl refl) }
 verify-becomes come p v s e = becomes (is_young p.state) come (core p) (core p) (stays (core p))
 
@@ -412,10 +414,10 @@ obeyed-becomes p h now sent body flat = by body
 
     -- where it is allowed
     if-allowed : (body : Body) → Becomes young (carried_in h.channel body) (core p) (core (by_body p now sent (message body) body).after)
-        → Becomes young (carried_in h.channel body) (core p) (core (cond (is_allowed p.state body) (unless_crowded_out p (message body) (by_body p now sent (message body) body)) (stopped p stop.NotConnected)).after)
+        → Becomes young (carried_in h.channel body) (core p) (core (cond (is_allowed p.state body) (unless_refused p (message body) (by_body p now sent (message body) body)) (stopped p stop.NotConnected)).after)
     if-allowed body f =
         let P : Peering → Type 0 = λ q. Becomes young (carried_in h.channel body) (core p) (core q) in
-        if-outcome P (is_allowed p.state body) (unless_crowded_out p (message body) (by_body p now sent (message body) body)) (stopped p stop.NotConnected)
+        if-outcome P (is_allowed p.state body) (unless_refused p (message body) (by_body p now sent (message body) body)) (stopped p stop.NotConnected)
         (unless-holds P p (message body) (by_body p now sent (message body) body) (unchanged (carried_in h.channel body)) f) (unchanged (carried_in h.channel body))
 
     -- and is acknowledged
