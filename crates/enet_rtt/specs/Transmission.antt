@@ -1,5 +1,5 @@
 -- How a command is sent, and sent again, until it is acknowledged. Times are in milliseconds.
-use Rattle.std.specs.Prelude.{ℕ, ◌+◌, ◌*◌, max, min, Bool, true, false, ◌&&◌, not, nat_le, if◌then◌else◌}
+use Rattle.std.specs.Prelude.{ℕ, ◌+◌, ◌-◌, ◌*◌, ◌%◌, ◌^◌, max, min, Bool, true, false, ◌&&◌, ◌||◌, ◌==◌, not, nat_le, if◌then◌else◌}
 use Rattle.enet_rtt.specs.Clock.{elapsed_time}
 use Rattle.enet_rtt.specs.Expiry.{gives_up}
 use Rattle.enet_rtt.specs.declared.expiry.Patience.{Patience}
@@ -32,3 +32,10 @@ grown_time bound t = max t (min (2 * t) bound)
 -- Where it is late, it is due to go again, and waits longer then, as far as the bound lets its timeout grow.
 abbrev pub marked : ℕ → ℕ → Transmission → Transmission
 marked bound now t = if is_late now t then record t { timeout = grown_time bound t.timeout; due = true } else t
+
+-- A time of 16 bits is that of a send: of the first one or of the last one, or where it was sent three times or more, one between them.
+abbrev pub went_at : ℕ → Transmission → Bool
+went_at time t =
+    time == t.first % 2 ^ 16
+    || time == t.last % 2 ^ 16
+    || (nat_le 3 t.attempts && nat_le ((time + 2 ^ 16 - t.first % 2 ^ 16) % 2 ^ 16) (elapsed_time t.last t.first))

@@ -2,7 +2,7 @@
 
 ghost use Rattle.std.specs.Prelude.{◌≡◌, ℕ};
 ghost use Rattle.enet_rtt.specs.Clock.{HappensIn};
-ghost use Rattle.enet_rtt.specs.Transmission.{begun, again, is_late, ends, marked};
+ghost use Rattle.enet_rtt.specs.Transmission.{begun, again, is_late, ends, marked, went_at};
 
 use crate::clock::elapsed;
 use crate::expiry::{Expiry, Patience, expired};
@@ -43,6 +43,19 @@ impl Transmission {
         self.last = now;
         self.attempts = self.attempts.saturating_add(1);
         self.due = false;
+    }
+
+    /// Whether it was sent at this time of 16 bits, as an acknowledgement repeats one: that of the first send or of the last one, or,
+    /// where it went three times or more, any between them, since the others are not kept (our profile).
+    #[inline(always)]
+    pub fn went_at(&self, time: u16) -> bool
+        ensures { result ≡ went_at time self.now }
+    {
+        let first = (self.first % 65_536) as u16;
+        time == first
+            || time == (self.last % 65_536) as u16
+            || (self.attempts >= 3
+                && u32::from(time.wrapping_sub(first)) <= elapsed(self.last, self.first))
     }
 
     /// Whether it has waited out its timeout at the time `now`, and is not due to go again already (our profile).
