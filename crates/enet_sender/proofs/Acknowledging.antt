@@ -1,9 +1,10 @@
 -- One sent command goes.
-use Rattle.std.proofs.Common.{inl, inr, ◌≡◌, ◌≢◌, ℕ, suc, ◌+◌, ◌-◌, ◌<◌, ◌≤◌, Bool, true, false, eqb, List, [], ◌∷◌, ◌++◌, length, map, get_or, set, take, drop, Option, Some, None, refl, sym, ap, subst, ◌∙◌, arith, All}
+use Rattle.std.proofs.Common.{inl, inr, ◌≡◌, ◌≢◌, ℕ, suc, ◌+◌, ◌-◌, ◌<◌, ◌≤◌, Bool, true, false, cond, eqb, List, [], ◌∷◌, ◌++◌, length, map, get_or, set, take, drop, Option, Some, None, refl, sym, ap, subst, ◌∙◌, arith, All}
 use Rattle.std.specs.List.{slice_get, remove}
 use Rattle.std.proofs.lemmas.Bool.{cases_eq, eq-eqb, ne_eqb}
 use Rattle.std.proofs.lemmas.List.{length-set, length-take, get_or-take, get_or-set_same, get_or-set_other}
 use Rattle.std.proofs.lemmas.List.Elements.{All-set, All-get_or}
+use Rattle.enet_rtt.specs.Transmission.{went_at}
 use Rattle.enet_seq.specs.Windows.{ahead}
 use Rattle.enet_fragment.specs.declared.data.DataCommand.{DataCommand}
 use Rattle.enet_sender.specs.declared.sent.Sent.{Sent}
@@ -11,6 +12,7 @@ use Rattle.enet_sender.specs.Sender.{position_of, without_place, size_at, size_o
 use Rattle.enet_sender.specs.Invariant.{reliable_in}
 use Rattle.enet_sender.specs.Pending.{vacant, named, times, held, Passes}
 use Rattle.enet_sender.specs.Rings.{Rings, KeepsSent, Keeps, GoesOn, at_place, is_due, keys_of, commands_at, command_of}
+use Rattle.enet_sender.specs.Private.Rounds.{test_at}
 use Rattle.enet_sender.specs.Private.Trims.{Trims}
 use Rattle.enet_sender.proofs.Lists.{position_at, position_none, get_at, remove_at, split, split_set}
 use Rattle.enet_sender.proofs.Named.{times-append, times-here, times-other, held-some, held-none, named-other, named-append, named-cons, named-skip, named-all}
@@ -138,12 +140,40 @@ goes-sent {at} {after} {r} {number} {place} {key} {p} h =
     ap (without_place (named at r.sent)) f.1 ∙ ap (λ xs. remove xs (length (named at fs))) f.0 ∙ remove_at (named at fs) (named at bs) p in
     now ∙ sym then
 
-pub goes-bytes : {at after : ℕ → Option Sent} {r : Rings} {number place key : ℕ} {p : Sent} → Goes at after r number place key p
-    → size_at (named at r.sent) (position_of number (named at r.sent)) ≡ Some (length p.command.body)
-goes-bytes {at} {after} {r} {number} {place} {key} {p} h =
+-- whether it matches goes by the time alone
+pub goes-size : {at after : ℕ → Option Sent} {r : Rings} {number place key : ℕ} {p : Sent} → Goes at after r number place key p → (time : ℕ)
+    → size_at time (named at r.sent) (position_of number (named at r.sent)) ≡ size_of time (Some p)
+goes-size {at} {after} {r} {number} {place} {key} {p} h time =
     let f = goes-found h in
     let fs = front place r.sent in
-    ap (size_at (named at r.sent)) f.1 ∙ ap (λ xs. size_of (slice_get xs (length (named at fs)))) f.0 ∙ ap size_of (get_at (named at fs) (named at (back place r.sent)) p)
+    ap (size_at time (named at r.sent)) f.1 ∙ ap (λ xs. size_of time (slice_get xs (length (named at fs)))) f.0 ∙ ap (size_of time) (get_at (named at fs) (named at (back place r.sent)) p)
+
+pub goes-bytes : {at after : ℕ → Option Sent} {r : Rings} {number place key : ℕ} {p : Sent} → Goes at after r number place key p → (time : ℕ) → went_at time p.transmission ≡ true
+    → size_at time (named at r.sent) (position_of number (named at r.sent)) ≡ Some (length p.command.body)
+goes-bytes {p = p} h time went = goes-size h time ∙ ap (λ b. cond b (Some (length p.command.body)) None) went
+
+-- where it wasn't sent at the time, nothing matches
+pub goes-untimely : (at : ℕ → Option Sent) (r : Rings) (number place key : ℕ) (time : ℕ) → Keeps at r → number < 65536 → place + (ahead number r.passed + 1) ≡ length r.sent → get_or r.sent place vacant ≡ key
+    → test_at (λ (p : Sent). went_at time p.transmission) (at key) ≡ false → size_at time (named at r.sent) (position_of number (named at r.sent)) ≡ None
+goes-untimely at r number place key time keeps low here is untimely = by (at key) refl untimely
+  where
+    by : (o : Option Sent) → at key ≡ o → test_at (λ (p : Sent). went_at time p.transmission) o ≡ false → size_at time (named at r.sent) (position_of number (named at r.sent)) ≡ None
+    by None e u =
+        ap (size_at time (named at r.sent)) (acknowledges-none at r number keeps low (λ other there.
+        let same : other ≡ place = omega arith in
+        ap (at_place at r.sent) same ∙ ap at is ∙ e))
+    by (Some p) e u =
+        let gone : ℕ → Option Sent = λ k. cond (eqb k key) None (at k) in
+        let g : Goes at gone r number place key p = record {
+          keeps = keeps;
+          low = low;
+          place_is = here;
+          key_is = is;
+          there = e;
+          gone = ap (λ b. cond b None (at key)) (eq-eqb key key refl);
+          others = λ k other. ap (λ b. cond b None (at k)) (ne_eqb k key other);
+        } in
+        goes-size g time ∙ ap (λ b. cond b (Some (length p.command.body)) None) u
 
 pub goes-queued : {at after : ℕ → Option Sent} {r : Rings} {number place key : ℕ} {p : Sent} → Goes at after r number place key p → named after r.queued ≡ named at r.queued
 goes-queued {at} {after} {r} {number} {place} {key} {p} h = named-other at after key r.queued (once h).queued h.others

@@ -5,12 +5,13 @@ use Rattle.std.specs.Option.{is_some}
 use Rattle.std.proofs.lemmas.List.Sums.{sum_by-cons, sum_by_push}
 use Rattle.std.proofs.lemmas.List.{length-set, length-map, length-append}
 use Rattle.std.proofs.lemmas.Bool.{lt-ltb}
+use Rattle.enet_rtt.specs.Transmission.{went_at}
 use Rattle.enet_seq.specs.Numbering.{Numbering}
 use Rattle.enet_fragment.specs.declared.data.DataCommand.{DataCommand}
 use Rattle.enet_sender.specs.declared.sent.Sent.{Sent}
 use Rattle.enet_sender.specs.declared.outgoing.Left.{Left}
 use Rattle.enet_sender.specs.declared.outgoing.Occasion.{Occasion}
-use Rattle.enet_sender.specs.Sender.{Sender, Next, next, next_of, next_queued, next_resent, first_sent, resent, begun, again, may_go, is_after_first, skipped, with_skipped, after_acknowledgement, acknowledged_bytes, without_place, position_of, size_at, size_of, marked, with_marked, bytes_in_transit, left}
+use Rattle.enet_sender.specs.Sender.{Sender, Next, next, next_of, next_queued, next_resent, first_sent, resent, begun, again, may_go, is_after_first, skipped, with_skipped, after_match, acknowledged_bytes, without_place, position_of, size_at, size_of, marked, with_marked, bytes_in_transit, left}
 use Rattle.enet_sender.specs.Invariant.{reliable_in}
 use Rattle.enet_sender.proofs.Counting.{found_by_count, counted-head}
 
@@ -68,7 +69,12 @@ transit-next g occasion s n e =
     (λ c rest is. bytes-begun c.reliable s.sent (begun occasion.now occasion.timeout c))
     (λ i p there. bytes-set s.sent i p (again occasion.now p) there refl ∙ (omega arith)) e
 
-bytes-remove : (sent : List Sent) (i : ℕ) → all_bytes (remove sent i) + unwrap_or (size_of (slice_get sent i)) 0 ≡ all_bytes sent
+-- the bytes of its payload
+abbrev body_of : Option Sent → Option ℕ
+body_of None = None
+body_of (Some p) = Some (length p.command.body)
+
+bytes-remove : (sent : List Sent) (i : ℕ) → all_bytes (remove sent i) + unwrap_or (body_of (slice_get sent i)) 0 ≡ all_bytes sent
 bytes-remove [] zero = refl
 bytes-remove [] (suc i) = refl
 bytes-remove (x ∷ sent) zero = let e = sum_by-cons bytes_of x sent in omega arith
@@ -78,12 +84,28 @@ bytes-remove (x ∷ sent) (suc i) =
     let h = bytes-remove sent i in
     omega arith
 
-pub transit-acknowledged : (s : Sender) (number : ℕ) → bytes_in_transit (after_acknowledgement s number) + unwrap_or (acknowledged_bytes s number) 0 ≡ bytes_in_transit s
-transit-acknowledged s number = by_place (position_of number s.sent)
+pub transit-acknowledged : (s : Sender) (number time : ℕ) → bytes_in_transit (after_match s number (acknowledged_bytes s number time)) + unwrap_or (acknowledged_bytes s number time) 0 ≡ bytes_in_transit s
+transit-acknowledged s number time = by_place (position_of number s.sent) refl
   where
-    by_place : (o : Option ℕ) → all_bytes (without_place s.sent o) + unwrap_or (size_at s.sent o) 0 ≡ all_bytes s.sent
-    by_place None = omega arith
-    by_place (Some i) = bytes-remove s.sent i
+    nothing : (o : Option ℕ) → o ≡ None → bytes_in_transit (after_match s number o) + unwrap_or o 0 ≡ bytes_in_transit s
+    nothing o e = subst (λ (o : Option ℕ). bytes_in_transit (after_match s number o) + unwrap_or o 0 ≡ bytes_in_transit s) (sym e) (omega arith)
+
+    -- the command at a place goes where it was sent at the time
+    by_sent : (i : ℕ) (p : Option Sent) → position_of number s.sent ≡ Some i → slice_get s.sent i ≡ p
+        → bytes_in_transit (after_match s number (size_of time p)) + unwrap_or (size_of time p) 0 ≡ bytes_in_transit s
+    by_sent i None place there = omega arith
+    by_sent i (Some p) place there = by (went_at time p.transmission)
+      where
+        by : (b : Bool) → bytes_in_transit (after_match s number (cond b (Some (length p.command.body)) None)) + unwrap_or (cond b (Some (length p.command.body)) None) 0 ≡ bytes_in_transit s
+        by false = omega arith
+        by true =
+            ap (λ (o : Option ℕ). all_bytes (without_place s.sent o) + length p.command.body) place
+            ∙ ap (λ (o : Option Sent). all_bytes (remove s.sent i) + unwrap_or (body_of o) 0) (sym there) ∙ bytes-remove s.sent i
+
+    by_place : (o : Option ℕ) → position_of number s.sent ≡ o → bytes_in_transit (after_match s number (acknowledged_bytes s number time)) + unwrap_or (acknowledged_bytes s number time) 0 ≡ bytes_in_transit s
+    by_place None e = nothing (acknowledged_bytes s number time) (ap (size_at time s.sent) e)
+    by_place (Some i) e =
+        subst (λ (o : Option ℕ). bytes_in_transit (after_match s number o) + unwrap_or o 0 ≡ bytes_in_transit s) (sym (ap (size_at time s.sent) e)) (by_sent i (slice_get s.sent i) e refl)
 
 bytes-all_marked : (bound now : ℕ) (sent : List Sent) → all_bytes (map (marked bound now) sent) ≡ all_bytes sent
 bytes-all_marked bound now [] = refl

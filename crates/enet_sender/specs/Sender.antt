@@ -135,21 +135,28 @@ abbrev pub without_place : List Sent → Option ℕ → List Sent
 without_place sent None = sent
 without_place sent (Some i) = remove sent i
 
--- an acknowledgement removes the sent command of its number
+-- an acknowledgement that matches removes the sent command of its number
 abbrev pub after_acknowledgement : Sender → ℕ → Sender
 after_acknowledgement s number = record s { sent = without_place s.sent (position_of number s.sent) }
 
-abbrev pub size_of : Option Sent → Option ℕ
-size_of None = None
-size_of (Some p) = Some (length p.command.body)
+-- the bytes of its payload, where this time is that of a send of it
+abbrev pub size_of : ℕ → Option Sent → Option ℕ
+size_of time None = None
+size_of time (Some p) = if transmission.went_at time p.transmission then Some (length p.command.body) else None
 
-abbrev pub size_at : List Sent → Option ℕ → Option ℕ
-size_at sent None = None
-size_at sent (Some i) = size_of (slice_get sent i)
+abbrev pub size_at : ℕ → List Sent → Option ℕ → Option ℕ
+size_at time sent None = None
+size_at time sent (Some i) = size_of time (slice_get sent i)
 
--- the bytes of that command's payload, if there is one
-abbrev pub acknowledged_bytes : Sender → ℕ → Option ℕ
-acknowledged_bytes s number = size_at s.sent (position_of number s.sent)
+-- the bytes of the payload of the command that an acknowledgement matches: the sent one of its number, where the time that it repeats is
+-- that of a send of it
+abbrev pub acknowledged_bytes : Sender → ℕ → ℕ → Option ℕ
+acknowledged_bytes s number time = size_at time s.sent (position_of number s.sent)
+
+-- one that matches nothing changes nothing
+abbrev pub after_match : Sender → ℕ → Option ℕ → Sender
+after_match s number None = s
+after_match s number (Some bytes) = after_acknowledgement s number
 
 -- the payload bytes of what is sent and not acknowledged, also where it waits to go again
 abbrev pub bytes_in_transit : Sender → ℕ

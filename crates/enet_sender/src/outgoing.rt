@@ -9,7 +9,7 @@ ghost use Rattle.enet_seq.specs.Windows.{after as number_after};
 ghost use Rattle.enet_fragment.specs.declared.data.DataCommand.{DataCommand};
 ghost use Rattle.enet_sender.specs.declared.pending.Pending.{Pending};
 ghost use Rattle.enet_sender.specs.declared.sent.Sent.{Sent};
-ghost use Rattle.enet_sender.specs.Sender.{with_marked, lateness, after_lateness, ends, is_late, cleared, after_acknowledgement, acknowledged_bytes, next, next_queued, next_resent, first_sent, may_go, piece_of_body, is_more, skipped, with_skipped, left};
+ghost use Rattle.enet_sender.specs.Sender.{with_marked, lateness, after_lateness, ends, is_late, cleared, after_match, acknowledged_bytes, next, next_queued, next_resent, first_sent, may_go, piece_of_body, is_more, skipped, with_skipped, left};
 ghost use Rattle.enet_sender.specs.Due.{Did, new_end, with_submitted};
 ghost use Rattle.enet_sender.specs.Waiting.{Waits};
 ghost use Rattle.enet_fragment.specs.Cutting.{piece_length, piece_count};
@@ -108,33 +108,37 @@ pub struct Outgoing {
 }
 
 impl Outgoing {
-    /// Takes out the one sent command of this number, and answers the bytes of its payload. None, with nothing changed,
-    /// where no sent command has it.
-    pub fn acknowledge(&mut self, pending: &mut Pending, number: u16) -> Option<u32>
+    /// Takes out the one sent command of this number, where it was sent at this time, in milliseconds modulo 65,536, and answers the
+    /// bytes of its payload. None, with nothing changed, where no sent command has the number, or that one wasn't sent at the time
+    /// (our profile).
+    pub fn acknowledge(&mut self, pending: &mut Pending, number: u16, time: u16) -> Option<u32>
         requires { KeepsIn pending.old self.old }
-        ensures bytes { result ≡ acknowledged_bytes (sender_in pending.old self.old) number }
-        ensures removed { end_in pending.new self.new ≡ record (end_in pending.old self.old) { sender = after_acknowledgement (sender_in pending.old self.old) number } }
+        ensures bytes { result ≡ acknowledged_bytes (sender_in pending.old self.old) number time }
+        ensures removed { end_in pending.new self.new ≡ record (end_in pending.old self.old) { sender = after_match (sender_in pending.old self.old) number result } }
         ensures kept { KeepsIn pending.new self.new }
         ensures passes { PassesIn pending.old self.old pending.new self.new }
         ensures room { HasRoom self.old → HasRoom self.new }
     {
-        let bytes = self.take_acknowledged(pending, number)?;
+        let bytes = self.take_acknowledged(pending, number, time)?;
         self.give_unused_back(pending);
         Some(bytes)
     }
 
     /// The same with all room.
     #[inline(always)]
-    fn take_acknowledged(&mut self, pending: &mut Pending, number: u16) -> Option<u32>
+    fn take_acknowledged(&mut self, pending: &mut Pending, number: u16, time: u16) -> Option<u32>
         requires { KeepsIn pending.old self.old }
-        ensures bytes { result ≡ acknowledged_bytes (sender_in pending.old self.old) number }
-        ensures removed { end_in pending.new self.new ≡ record (end_in pending.old self.old) { sender = after_acknowledgement (sender_in pending.old self.old) number } }
+        ensures bytes { result ≡ acknowledged_bytes (sender_in pending.old self.old) number time }
+        ensures removed { end_in pending.new self.new ≡ record (end_in pending.old self.old) { sender = after_match (sender_in pending.old self.old) number result } }
         ensures kept { KeepsIn pending.new self.new }
         ensures passes { PassesIn pending.old self.old pending.new self.new }
         ensures room { HasRoom self.old → HasRoom self.new }
     {
         let place = place_of(&self.sent, self.passed, number)?;
         let key = self.sent[place];
+        if !pending.went_at(key, time) {
+            return None;
+        }
         let sent = pending.take(key)?;
         vacate(&mut self.sent, &mut self.due_from, place);
         Some(sent.command.body.len() as u32)

@@ -3,6 +3,7 @@
 ghost use Rattle.std.specs.Prelude.{◌≡◌, ℕ, ◌+◌, ◌<◌, ◌≤◌, Some, None, [], true, false, if◌then◌else◌, IsOk, IfOk, IfSome, IfNone, IsTrue, option_copied};
 ghost use Rattle.std.specs.Option.{option_map};
 ghost use Rattle.enet_rtt.specs.Clock.{HappensIn};
+ghost use Rattle.enet_rtt.specs.Transmission.{went_at};
 ghost use Rattle.slab.specs.Slab.{get, slab_len, Updates, SameValues, HasRoomFor};
 ghost use Rattle.enet_sender.specs.Pending.{vacant, most_unused};
 ghost use Rattle.enet_sender.specs.Private.Pending.{queued};
@@ -126,6 +127,17 @@ impl Pending {
         ensures { Updates self.old.slab self.new.slab key (option_map (marked bound now) (get self.old.slab key)) }
     {
         self.slab.mark(key, now, bound);
+    }
+
+    /// Whether the command under a key was sent at this time, in milliseconds modulo 65,536.
+    #[inline(always)]
+    pub(crate) fn went_at(&self, key: u32, time: u16) -> bool
+        ensures { result ≡ test_at (λ (p : Sent). went_at time p.transmission) (get self.now.slab key) }
+    {
+        match self.slab.get(key) {
+            Some(sent) => sent.transmission.went_at(time),
+            None => false,
+        }
     }
 
     /// Takes the command under a key out.

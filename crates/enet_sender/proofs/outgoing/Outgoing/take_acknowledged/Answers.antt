@@ -1,13 +1,14 @@
-use Rattle.std.proofs.Common.{◌≡◌, ℕ, ◌+◌, ◌<◌, length, map, Option, Some, None, sym, ap, ◌∙◌, arith}
+use Rattle.std.proofs.Common.{rules, false, ◌≡◌, ℕ, ◌+◌, ◌<◌, length, map, Option, Some, None, sym, ap, ◌∙◌, arith}
 use Rattle.std.proofs.lemmas.List.{get_or_read}
 use Rattle.slab.specs.Slab.{Slab, get}
 use Rattle.enet_seq.specs.Windows.{ahead}
 use Rattle.enet_sender.specs.declared.sent.Sent.{Sent}
-use Rattle.enet_sender.specs.Sender.{position_of, without_place, size_at}
+use Rattle.enet_sender.specs.Due.{SendingEnd}
+use Rattle.enet_sender.specs.Sender.{position_of, after_match, size_at}
 use Rattle.enet_sender.specs.declared.outgoing.Outgoing.{Outgoing}
 use Rattle.enet_sender.specs.Pending.{named}
 use Rattle.enet_sender.specs.Rings.{rings_of, sender_of, end_of, command_of, at_place}
-use Rattle.enet_sender.proofs.Acknowledging.{Goes, acknowledges-none, vacant-after, goes-sent, goes-bytes, goes-queued, goes-passes, goes-keeps}
+use Rattle.enet_sender.proofs.Acknowledging.{Goes, goes-untimely, acknowledges-none, vacant-after, goes-sent, goes-bytes, goes-queued, goes-passes, goes-keeps}
 use Rattle.enet_sender.proofs.outgoing.Outgoing.take_acknowledged.Goals.{Joined-sent, After-from_residual-in_err-sent}
 use Rattle.enet_sender.proofs.outgoing.Outgoing.take_acknowledged.Goals as goal
 
@@ -26,10 +27,9 @@ goes c =
       others = c.take.ensures.updates.others;
     }
 
--- the end where no command has the number
-stays : (s : Slab Sent) (o : Outgoing) (number : ℕ) → position_of number (named (get s) o.sent.items) ≡ None
-    → end_of s o ≡ record (end_of s o) { sender = record (sender_of (get s) (rings_of o)) { sent = without_place (named (get s) o.sent.items) (position_of number (named (get s) o.sent.items)) } }
-stays s o number none = ap (λ (p : Option ℕ). record (end_of s o) { sender = record (sender_of (get s) (rings_of o)) { sent = without_place (named (get s) o.sent.items) p } }) (sym none)
+-- the end after an acknowledgement that matches this
+abbrev matched : Slab Sent → Outgoing → ℕ → Option ℕ → SendingEnd
+matched s o number bytes = record (end_of s o) { sender = after_match (sender_of (get s) (rings_of o)) number bytes }
 
 pub returns-in_err-place-clause-bytes : goal.returns-in_err-place-clause-bytes
 returns-in_err-place-clause-bytes c =
@@ -37,14 +37,10 @@ returns-in_err-place-clause-bytes c =
     let len = c.args.self.now.sent.ok.0 in
     let none : position_of c.args.number (named at c.args.self.now.sent.items) ≡ None =
     acknowledges-none at (rings_of c.args.self.now) c.args.number c.requires (omega (arith, c.ranges.number.fits)) (λ place e. absurd (omega (arith, c.in_err-place.ensures.none))) in
-    c.from_residual.ensures ∙ sym (ap (size_at (named at c.args.self.now.sent.items)) none)
+    c.from_residual.ensures ∙ sym (ap (size_at c.args.time (named at c.args.self.now.sent.items)) none)
 
 pub returns-in_err-place-clause-removed : goal.returns-in_err-place-clause-removed
-returns-in_err-place-clause-removed c =
-    let at = get c.args.pending.now.slab in
-    let len = c.args.self.now.sent.ok.0 in
-    stays c.args.pending.now.slab c.args.self.now c.args.number
-    (acknowledges-none at (rings_of c.args.self.now) c.args.number c.requires (omega (arith, c.ranges.number.fits)) (λ place e. absurd (omega (arith, c.in_err-place.ensures.none))))
+returns-in_err-place-clause-removed c = sym (ap (matched c.args.pending.now.slab c.args.self.now c.args.number) c.from_residual.ensures)
 
 -- no command has the number where none stands under the key of its place
 none-there : (c : After-from_residual-in_err-sent) → position_of c.args.number (named (get c.args.pending.now.slab) c.args.self.now.sent.items) ≡ None
@@ -60,14 +56,25 @@ none-there c =
     ap (at_place at sent) same ∙ ap at key_is ∙ sym c.in_err-sent.ensures.value)
 
 pub returns-in_err-sent-clause-bytes : goal.returns-in_err-sent-clause-bytes
-returns-in_err-sent-clause-bytes c = c.from_residual-in_err-sent.ensures ∙ sym (ap (size_at (named (get c.args.pending.now.slab) c.args.self.now.sent.items)) (none-there c))
+returns-in_err-sent-clause-bytes c = c.from_residual-in_err-sent.ensures ∙ sym (ap (size_at c.args.time (named (get c.args.pending.now.slab) c.args.self.now.sent.items)) (none-there c))
 
 pub returns-in_err-sent-clause-removed : goal.returns-in_err-sent-clause-removed
 returns-in_err-sent-clause-removed c =
-    ap (λ (s : Slab Sent). end_of s c.args.self.now) c.in_err-sent.ensures.absent ∙ stays c.args.pending.now.slab c.args.self.now c.args.number (none-there c)
+    ap (λ (s : Slab Sent). end_of s c.args.self.now) c.in_err-sent.ensures.absent ∙ sym (ap (matched c.args.pending.now.slab c.args.self.now c.args.number) c.from_residual-in_err-sent.ensures)
+
+pub returns-then-not-went_at-clause-bytes : goal.returns-then-not-went_at-clause-bytes
+returns-then-not-went_at-clause-bytes c =
+    let at = get c.args.pending.now.slab in
+    let sent = c.args.self.now.sent.items in
+    let len = c.args.self.now.sent.ok.0 in
+    let here : c.in_ok-place.place + (ahead c.args.number c.args.self.now.passed + 1) ≡ length sent = c.in_ok-place.ensures.some ∙ len in
+    let inside : c.in_ok-place.place < length sent = omega arith in
+    let key_is = sym (get_or_read sent c.in_ok-place.place c.index-key.result.now inside c.index-key.ensures 4294967295) in
+    let not_then : c.went_at.result ≡ false = search rules in
+    sym (goes-untimely at (rings_of c.args.self.now) c.args.number c.in_ok-place.place c.index-key.result.now c.args.time c.requires (omega (arith, c.ranges.number.fits)) here key_is (sym c.went_at.ensures ∙ not_then))
 
 pub returns-clause-bytes : goal.returns-clause-bytes
-returns-clause-bytes c = ap (λ (n : ℕ). Some n) c.len.ensures.value ∙ sym (goes-bytes (goes c))
+returns-clause-bytes c = ap (λ (n : ℕ). Some n) c.len.ensures.value ∙ sym (goes-bytes (goes c) c.args.time (search rules))
 
 pub returns-clause-removed : goal.returns-clause-removed
 returns-clause-removed c =
