@@ -21,7 +21,7 @@ use Rattle.enet_sender.specs.declared.sent.Sent.{Sent}
 use Rattle.enet_sender.specs.Rings.{end_of}
 use Rattle.enet_seq.specs.Numbering.{Numbering, wire}
 use Rattle.enet_sender.specs.declared.outgoing.Occasion.{Occasion}
-use Rattle.enet_sender.specs.Sender.{Sender, Next, marked, left, after_acknowledgement, without_place, position_of, skipped, with_skipped, next, next_of, next_queued, next_resent}
+use Rattle.enet_sender.specs.Sender.{Sender, Next, marked, left, after_acknowledgement, after_match, without_place, position_of, skipped, with_skipped, next, next_of, next_queued, next_resent}
 use Rattle.enet_sender.proofs.Lists.{position_none}
 use Rattle.enet_sender.specs.declared.outgoing.Due.{Due}
 use Rattle.enet_sender.specs.declared.outgoing.Due.TheVariants as due
@@ -240,12 +240,16 @@ pub still-none : (s : Sender) → s.queued ≡ [] → s.sent ≡ [] → IsStill 
 still-none s e f = record { queued = e; sent = subst (λ (xs : List Sent). All (λ (p : Sent). p.transmission.due ≡ false) xs) (sym f) (All-nil (λ (p : Sent). p.transmission.due ≡ false)) }
 
 -- an acknowledgement leaves a channel still
-pub still-acknowledged : (s : Sender) (number : ℕ) → IsStill s → IsStill (after_acknowledgement s number)
+still-acknowledged : (s : Sender) (number : ℕ) → IsStill s → IsStill (after_acknowledgement s number)
 still-acknowledged s number h = record { queued = h.queued; sent = by (position_of number s.sent) }
   where
     by : (o : Option ℕ) → All (λ (p : Sent). p.transmission.due ≡ false) (without_place s.sent o)
     by None = h.sent
     by (Some i) = All-remove (λ (p : Sent). p.transmission.due ≡ false) s.sent i h.sent
+
+pub still-matched : (s : Sender) (number : ℕ) (bytes : Option ℕ) → IsStill s → IsStill (after_match s number bytes)
+still-matched s number None h = h
+still-matched s number (Some bytes) h = still-acknowledged s number h
 
 pub still-skipped : (s : Sender) → IsStill s → IsStill (with_skipped s)
 still-skipped s h = record { queued = ap skipped h.queued; sent = h.sent }

@@ -114,21 +114,27 @@ abbrev pub without_place : List SentControl → Option ℕ → List SentControl
 without_place sent None = sent
 without_place sent (Some i) = remove sent i
 
--- an acknowledgement removes the sent command of its number
+-- an acknowledgement that matches removes the sent command of its number
 abbrev pub after_acknowledgement : Commands → ℕ → Commands
 after_acknowledgement c number = record c { sent = without_place c.sent (position_of number c.sent) }
 
-abbrev pub control_of : Option SentControl → Option Control
-control_of None = None
-control_of (Some p) = Some p.command.control
+-- what it was, where this time is that of a send of it
+abbrev pub control_of : ℕ → Option SentControl → Option Control
+control_of time None = None
+control_of time (Some p) = if transmission.went_at time p.transmission then Some p.command.control else None
 
-abbrev pub control_at : List SentControl → Option ℕ → Option Control
-control_at sent None = None
-control_at sent (Some i) = control_of (slice_get sent i)
+abbrev pub control_at : ℕ → List SentControl → Option ℕ → Option Control
+control_at time sent None = None
+control_at time sent (Some i) = control_of time (slice_get sent i)
 
--- what that command was, if there is one
-abbrev pub acknowledged_control : Commands → ℕ → Option Control
-acknowledged_control c number = control_at c.sent (position_of number c.sent)
+-- what the command was that an acknowledgement matches: the sent one of its number, where the time that it repeats is that of a send of it
+abbrev pub acknowledged_control : Commands → ℕ → ℕ → Option Control
+acknowledged_control c number time = control_at time c.sent (position_of number c.sent)
+
+-- one that matches nothing changes nothing
+abbrev pub after_match : Commands → ℕ → Option Control → Commands
+after_match c number None = c
+after_match c number (Some what) = after_acknowledgement c number
 
 -- a sent command that waited out its timeout, and is not due to go again already
 abbrev pub is_late : ℕ → SentControl → Bool

@@ -5,7 +5,7 @@ ghost use Rattle.std.specs.List.{list_any};
 ghost use Rattle.enet_rtt.specs.Clock.{HappensIn};
 ghost use Rattle.enet_sender.specs.Counting.{added};
 ghost use Rattle.enet_senders.specs.Counting.{count_control};
-ghost use Rattle.enet_senders.specs.Controlling.{after_acknowledgement, acknowledged_control, after_lateness, cleared, Did, is_idle, is_at_rest, lateness, next, next_queued, next_resent, nothing_controlled, ends, is_late, with_marked, with_queued};
+ghost use Rattle.enet_senders.specs.Controlling.{after_match, acknowledged_control, after_lateness, cleared, Did, is_idle, is_at_rest, lateness, next, next_queued, next_resent, nothing_controlled, ends, is_late, with_marked, with_queued};
 
 use crate::queue::{
     any_ends, any_late, count_sent_again, is_in_span, lateness, make_room, mark, next_late,
@@ -169,15 +169,18 @@ impl ControlChannel {
         Written::Sent { past }
     }
 
-    /// Takes out the one sent command of this number, and answers what it was. None, with nothing changed, where no sent
-    /// command has it.
-    pub fn acknowledge(&mut self, number: u16) -> Option<Control>
-        ensures control { result ≡ acknowledged_control self.old.commands number }
-        ensures removed { self.new.commands ≡ after_acknowledgement self.old.commands number }
+    /// Takes out the one sent command of this number, where it was sent at this time, in milliseconds modulo 65,536, and answers what
+    /// it was. None, with nothing changed, where no sent command has the number, or that one wasn't sent at the time (our profile).
+    pub fn acknowledge(&mut self, number: u16, time: u16) -> Option<Control>
+        ensures control { result ≡ acknowledged_control self.old.commands number time }
+        ensures removed { self.new.commands ≡ after_match self.old.commands number result }
         ensures room { self.old.room ≤ self.new.room }
         ensures none { IfNone result (self.new ≡ self.old) }
     {
         let place = position_of(&self.sent, number)?;
+        if !self.sent[place].transmission.went_at(time) {
+            return None;
+        }
         let sent = self.sent.remove(place)?;
         Some(sent.command.control)
     }

@@ -6,7 +6,7 @@ ghost use Rattle.enet_rtt.specs.Clock.{HappensIn};
 ghost use Rattle.enet_seq.specs.Numbering.{wire};
 ghost use Rattle.enet_fragment.specs.Cutting.{piece_count};
 ghost use Rattle.enet_sender.specs.CommandChoice.{fragment_limit};
-ghost use Rattle.enet_sender.specs.Sender.{after_acknowledgement, acknowledged_bytes, next, with_skipped, ends, is_late, left};
+ghost use Rattle.enet_sender.specs.Sender.{after_match, acknowledged_bytes, next, with_skipped, ends, is_late, left};
 ghost use Rattle.enet_sender.specs.Due.{SendingEnd, Did, with_submitted, new_end};
 ghost use Rattle.enet_sender.specs.Waiting.{Waits};
 ghost use Rattle.enet_sender.specs.declared.outgoing.Outgoing.{Outgoing};
@@ -59,15 +59,16 @@ fn acknowledge_on(
     pending: &mut Pending,
     channel: u8,
     number: u16,
+    time: u16,
 ) -> Option<u32>
     requires kept { KeepsAllIn pending.old channels.old.items }
     requires inside { channel < length channels.old.items }
-    ensures bytes { (s : SendingEnd) → slice_get (ends_in pending.old channels.old.items) channel ≡ Some s → result ≡ acknowledged_bytes s.sender number }
+    ensures bytes { (s : SendingEnd) → slice_get (ends_in pending.old channels.old.items) channel ≡ Some s → result ≡ acknowledged_bytes s.sender number time }
     ensures ends { (s : SendingEnd) → slice_get (ends_in pending.old channels.old.items) channel ≡ Some s
-        → ends_in pending.new channels.new.items ≡ slice_set (ends_in pending.old channels.old.items) channel (record s { sender = after_acknowledgement s.sender number }) }
+        → ends_in pending.new channels.new.items ≡ slice_set (ends_in pending.old channels.old.items) channel (record s { sender = after_match s.sender number result }) }
     ensures kept { KeepsAllIn pending.new channels.new.items }
 {
-    channels[usize::from(channel)].acknowledge(pending, number)
+    channels[usize::from(channel)].acknowledge(pending, number, time)
 }
 
 /// A packet is submitted on a channel: the other channels stay as they were.
@@ -400,14 +401,15 @@ impl Senders {
         skip_on(&mut self.channels, &mut self.pending, channel);
     }
 
-    /// Takes out the one sent command of a channel with this number, and answers the bytes of its payload. None, with
-    /// nothing changed, where no sent command has it.
-    pub fn acknowledge(&mut self, channel: u8, number: u16) -> Option<u32>
+    /// Takes out the one sent command of a channel with this number, where it was sent at this time, in milliseconds modulo 65,536, and
+    /// answers the bytes of its payload. None, with nothing changed, where no sent command has the number, or that one wasn't sent at the
+    /// time (our profile).
+    pub fn acknowledge(&mut self, channel: u8, number: u16, time: u16) -> Option<u32>
         requires { channel < length self.old }
-        ensures bytes { (s : SendingEnd) → slice_get self.old channel ≡ Some s → result ≡ acknowledged_bytes s.sender number }
-        ensures ends { (s : SendingEnd) → slice_get self.old channel ≡ Some s → self.new ≡ slice_set self.old channel (record s { sender = after_acknowledgement s.sender number }) }
+        ensures bytes { (s : SendingEnd) → slice_get self.old channel ≡ Some s → result ≡ acknowledged_bytes s.sender number time }
+        ensures ends { (s : SendingEnd) → slice_get self.old channel ≡ Some s → self.new ≡ slice_set self.old channel (record s { sender = after_match s.sender number result }) }
     {
-        let bytes = acknowledge_on(&mut self.channels, &mut self.pending, channel, number);
+        let bytes = acknowledge_on(&mut self.channels, &mut self.pending, channel, number, time);
         note_sent(&self.channels, &self.pending, &mut self.flying, channel);
         bytes
     }

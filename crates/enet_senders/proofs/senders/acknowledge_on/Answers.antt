@@ -1,6 +1,6 @@
 use Rattle.std.proofs.Common.{sym, arith}
 use Rattle.enet_sender.specs.Due.{SendingEnd}
-use Rattle.enet_sender.specs.Sender.{after_acknowledgement}
+use Rattle.enet_sender.specs.Sender.{after_match}
 use Rattle.enet_senders.proofs.Frames.{Framed, framed, framed-write, room-there}
 use Rattle.enet_senders.proofs.senders.acknowledge_on.Goals.{After-acknowledge}
 use Rattle.enet_senders.proofs.senders.acknowledge_on.Goals as goal
@@ -13,7 +13,7 @@ frame c =
 
 pub returns-clause-ends : goal.returns-clause-ends
 returns-clause-ends c = λ s there.
-    framed-write (frame (goal.at.returns-clause-ends c).After-acknowledge) (λ (e : SendingEnd). record e { sender = after_acknowledgement e.sender c.args.number }) c.index_mut.result.now
+    framed-write (frame (goal.at.returns-clause-ends c).After-acknowledge) (λ (e : SendingEnd). record e { sender = after_match e.sender c.args.number c.acknowledge.result }) c.index_mut.result.now
     (omega (arith, c.from.ensures, c.requires.inside)) (sym c.index_mut.ensures.value) c.acknowledge.ensures.removed c.args.channel c.from.ensures s there
 
 pub returns-clause-kept : goal.returns-clause-kept
