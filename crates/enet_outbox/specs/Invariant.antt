@@ -2,7 +2,7 @@
 use Rattle.std.specs.Prelude.{◌≡◌, ℕ, ◌≤◌, Bool, true, IsTrue, List, length, sum_by, Option, Some, None, slice_set}
 use Rattle.std.specs.List.{list_all}
 use Rattle.enet_senders.specs.Controlling.{is_idle}
-use Rattle.enet_sender.specs.Sender.{bytes_in_transit, after_acknowledgement}
+use Rattle.enet_sender.specs.Sender.{bytes_in_transit, after_match, acknowledged_bytes}
 use Rattle.enet_sender.specs.Due.{SendingEnd}
 use Rattle.enet_outbox.specs.Outbox.{Outbox, has_no_packet, has_no_reliable}
 
@@ -27,7 +27,7 @@ pub record HasNothing (o : Outbox) : Type 0 where
   pub packets : list_all has_no_packet o.senders ≡ true
   pub reliable : list_all has_no_reliable o.senders ≡ true
 
--- an acknowledgement of a channel's command comes
-abbrev pub with_accepted : List SendingEnd → ℕ → ℕ → Option SendingEnd → List SendingEnd
-with_accepted senders channel number None = senders
-with_accepted senders channel number (Some s) = slice_set senders channel (record s { sender = after_acknowledgement s.sender number })
+-- an acknowledgement of a channel's command comes that repeats a sent time
+abbrev pub with_accepted : List SendingEnd → ℕ → ℕ → ℕ → Option SendingEnd → List SendingEnd
+with_accepted senders channel number time None = senders
+with_accepted senders channel number time (Some s) = slice_set senders channel (record s { sender = after_match s.sender number (acknowledged_bytes s.sender number time) })

@@ -119,7 +119,7 @@ acknowledging o a = if is_crowded o then o else with_acknowledgement o a
 abbrev pub with_control : Outbox → Control → Outbox
 with_control o what = record o { control = controlling.with_queued o.control what }
 
--- an acknowledgement comes: what it matches, and the outbox without that
+-- an acknowledgement comes that repeats a sent time: what it matches, and the outbox without that
 abbrev pub as_control : Option Control → Matched
 as_control None = matched.Nothing
 as_control (Some what) = matched.Control what
@@ -128,13 +128,15 @@ abbrev pub as_data : Option ℕ → Matched
 as_data None = matched.Nothing
 as_data (Some bytes) = matched.Data
 
-abbrev pub matched_on : Option SendingEnd → ℕ → Matched
-matched_on None number = matched.Nothing
-matched_on (Some s) number = as_data (sender.acknowledged_bytes s.sender number)
+abbrev pub matched_on : Option SendingEnd → ℕ → ℕ → Matched
+matched_on None number time = matched.Nothing
+matched_on (Some s) number time = as_data (sender.acknowledged_bytes s.sender number time)
 
-abbrev pub matched_by : Outbox → ℕ → ℕ → Matched
-matched_by o channel number =
-    if channel == 0xFF then as_control (controlling.acknowledged_control o.control number) else matched_on (slice_get o.senders channel) number
+abbrev pub matched_by : Outbox → ℕ → ℕ → ℕ → Matched
+matched_by o channel number time =
+    if channel == 0xFF
+    then as_control (controlling.acknowledged_control o.control number time)
+    else matched_on (slice_get o.senders channel) number time
 
 abbrev pub acknowledged_on : Outbox → ℕ → ℕ → Option SendingEnd → Outbox
 acknowledged_on o channel number None = o
@@ -145,6 +147,11 @@ after_acknowledgement o channel number =
     if channel == 0xFF
     then record o { control = controlling.after_acknowledgement o.control number }
     else acknowledged_on o channel number (slice_get o.senders channel)
+
+-- one that matches nothing changes nothing
+abbrev pub after_match : Matched → Outbox → ℕ → ℕ → Outbox
+after_match matched.Nothing o channel number = o
+after_match _ o channel number = after_acknowledgement o channel number
 
 -- the peer, last heard at `heard`, has timed out over a sent command
 abbrev pub has_ended : Outbox → ℕ → Patience → ℕ → Bool

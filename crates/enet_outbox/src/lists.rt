@@ -52,17 +52,23 @@ pub fn submit_on(
 
 /// An acknowledgement of a channel's command comes: the command that it matches goes, and its bytes are no longer in
 /// transit.
-pub fn acknowledge_on(senders: &mut Senders, transit: &mut u32, channel: u8, number: u16) -> Matched
+pub fn acknowledge_on(
+    senders: &mut Senders,
+    transit: &mut u32,
+    channel: u8,
+    number: u16,
+    time: u16,
+) -> Matched
     requires { KeepsOutbox transit.old senders.old }
-    ensures found { result ≡ matched_on (slice_get senders.old channel) number }
-    ensures accepted { senders.new ≡ with_accepted senders.old channel number (slice_get senders.old channel) }
+    ensures found { result ≡ matched_on (slice_get senders.old channel) number time }
+    ensures accepted { senders.new ≡ with_accepted senders.old channel number time (slice_get senders.old channel) }
     ensures kept { KeepsOutbox transit.new senders.new }
 {
     let place = usize::from(channel);
     if place >= senders.len() {
         return Matched::Nothing;
     }
-    let Some(bytes) = senders.acknowledge(channel, number) else {
+    let Some(bytes) = senders.acknowledge(channel, number, time) else {
         return Matched::Nothing;
     };
     *transit -= bytes;

@@ -8,7 +8,7 @@ ghost use Rattle.enet_fragment.specs.Cutting.{piece_length, piece_count};
 ghost use Rattle.enet_sender.specs.Due.{SendingEnd};
 ghost use Rattle.enet_sender.specs.Sender as sender;
 ghost use Rattle.enet_senders.specs.Controlling.{is_idle};
-ghost use Rattle.enet_outbox.specs.Outbox.{acknowledgement_limit, acknowledging, after_acknowledgement, after_lateness, cleared, empty_outbox, is_crowded, is_done, has_nothing_reliable, lateness, marked, matched_by, narrowed, sampled, submitted, transit_of, with_control, with_unsequenced};
+ghost use Rattle.enet_outbox.specs.Outbox.{acknowledgement_limit, acknowledging, after_lateness, after_match, cleared, empty_outbox, is_crowded, is_done, has_nothing_reliable, lateness, marked, matched_by, narrowed, sampled, submitted, transit_of, with_control, with_unsequenced};
 
 use crate::{Acknowledgement, Matched, Unsequenced, lists};
 use bytes::Bytes;
@@ -220,19 +220,26 @@ impl Outbox {
         self.control.queue(what);
     }
 
-    /// An acknowledgement comes: the one sent command of this channel and number goes, and the answer says what it was.
-    /// `Nothing`, with all as it was, where no sent command has them.
-    pub fn acknowledge(&mut self, channel: u8, number: u16) -> Matched
-        ensures found { result ≡ matched_by self.old.outbox channel number }
-        ensures outbox { self.new.outbox ≡ after_acknowledgement self.old.outbox channel number }
+    /// An acknowledgement comes that repeats a sent time, in milliseconds modulo 65,536: the one sent command of this channel and number
+    /// goes, where it was sent at that time, and the answer says what it was. `Nothing`, with all as it was, where no sent command has
+    /// them, or that one wasn't sent at the time (our profile).
+    pub fn acknowledge(&mut self, channel: u8, number: u16, time: u16) -> Matched
+        ensures found { result ≡ matched_by self.old.outbox channel number time }
+        ensures outbox { self.new.outbox ≡ after_match result self.old.outbox channel number }
         ensures acknowledgement_room { self.new.acknowledgement_room ≡ self.old.acknowledgement_room }
         ensures control_room { self.old.control_room ≤ self.new.control_room }
     {
         if channel != CONTROL_CHANNEL {
             self.idle = false;
-            return lists::acknowledge_on(&mut self.senders, &mut self.transit, channel, number);
+            return lists::acknowledge_on(
+                &mut self.senders,
+                &mut self.transit,
+                channel,
+                number,
+                time,
+            );
         }
-        match self.control.acknowledge(number) {
+        match self.control.acknowledge(number, time) {
             None => Matched::Nothing,
             Some(what) => Matched::Control(what),
         }
