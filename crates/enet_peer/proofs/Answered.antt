@@ -74,7 +74,7 @@ matched-stays o channel number = by (channel == 0xFF)
     by false = on (slice_get o.senders channel)
 
 acknowledged-waits : (a : Acknowledgement) (p : Peering) (now channel number time : ℕ) → IsAnswering a p → IsAnswering a (on_acknowledge (at-end p) now channel number time)
-acknowledged-waits a p now channel number time w = by (matched_by p.outbox channel number)
+acknowledged-waits a p now channel number time w = by (matched_by p.outbox channel number time)
   where
     left : IsAnswering a (at-end (record p { outbox = after_acknowledgement p.outbox channel number }))
     left = (refl, w.1, matched-stays p.outbox channel number ∙ w.2)

@@ -66,9 +66,9 @@ match-fewer (matched.Control what) p q e =
 acknowledge-fewer : (p : Peering) (now channel number time : ℕ) → waiting (on_acknowledge p now channel number time) ≤ waiting p
 acknowledge-fewer p now channel number time = by (is_connecting p.state)
   where
-    by : (b : Bool) → waiting (cond b p (on_match (matched_by p.outbox channel number) p (acknowledged p now channel number time))) ≤ waiting p
+    by : (b : Bool) → waiting (cond b p (on_match (matched_by p.outbox channel number time) p (acknowledged p now channel number time))) ≤ waiting p
     by true = omega arith
-    by false = match-fewer (matched_by p.outbox channel number) p (acknowledged p now channel number time) (gone-same p now channel number time)
+    by false = match-fewer (matched_by p.outbox channel number time) p (acknowledged p now channel number time) (gone-same p now channel number time)
 
 welcome-fewer : (p : Peering) (v : Verify) (o : Option Terms) → waiting (welcomed p v o) ≤ waiting p
 welcome-fewer p v None =

@@ -6,7 +6,6 @@ pub mod Crowding
 pub mod Arriving
 pub mod Reaching
 pub mod Places
-pub mod Unmatched
 pub mod Steps
 pub mod Each
 pub mod Calm

@@ -109,8 +109,8 @@ match-limited x y (matched.Control what) old gone h g = settled-limited x y (wit
 
 acknowledge-limited : (x y : ℕ) (p : Peering) (now channel number time : ℕ) → HasLimits x y p → HasLimits x y (on_acknowledge p now channel number time)
 acknowledge-limited x y p now channel number time h =
-    let gone : Peering = on_match (matched_by p.outbox channel number) p (acknowledged p now channel number time) in
-    if-peer x y (is_connecting p.state) p gone h (match-limited x y (matched_by p.outbox channel number) p (acknowledged p now channel number time) h h)
+    let gone : Peering = on_match (matched_by p.outbox channel number time) p (acknowledged p now channel number time) in
+    if-peer x y (is_connecting p.state) p gone h (match-limited x y (matched_by p.outbox channel number time) p (acknowledged p now channel number time) h h)
 
 welcome-limited : (x y : ℕ) (p : Peering) (v : Verify) (o : Option Terms) → HasLimits x y p → HasLimits x y (welcomed p v o)
 welcome-limited x y p v None h = unwelcomed-holds (HasLimits x y) p v h h

@@ -276,7 +276,7 @@ acknowledge_place : (p : Peering) (now channel number time n t : ℕ) → is_ans
 acknowledge_place p now channel number time n t a =
     elim (acknowledge_or_not (wants_place p (acknowledge n t))) [
       | inl yes' ↦ yes'
-      | inr no' ↦ absurd (unanswered p.state p (matched_by p.outbox channel number) now channel number time n t refl no' a)
+      | inr no' ↦ absurd (unanswered p.state p (matched_by p.outbox channel number time) now channel number time n t refl no' a)
     ]
 
 place_for : (p : Peering) (now : ℕ) (sent : Option ℕ) (h : Rattle.enet_codec.specs.declared.command.Head.Head) (may : Bool) (body : Body) → may_be_answered sent (record { head = h; body = body }) may ≡ true

@@ -279,7 +279,7 @@ acknowledged-keeps p now channel number time h = by-state (is_connecting p.state
 
     by-state : (b : Bool) → IsReachable (cond b p (accepted p now channel number time))
     by-state true = h
-    by-state false = by (matched_by p.outbox channel number)
+    by-state false = by (matched_by p.outbox channel number time)
 
 welcomed-keeps : (p : Peering) (v : Verify) (o : Option Terms) → IsReachable p → IsReachable (welcomed p v o)
 welcomed-keeps p v None h = unwelcomed-holds IsReachable p v h (ended-keeps p 0 h)

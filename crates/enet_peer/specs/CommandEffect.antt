@@ -108,9 +108,10 @@ on_match matched.Nothing old gone = old
 on_match matched.Data old gone = settled gone
 on_match (matched.Control what) old gone = settled (with_answer old.state what gone)
 
--- an acknowledgement takes away what it matches; one that matches nothing has no effect
+-- an acknowledgement takes away what it matches: the command of its number, where the time that it repeats is that of a send of it. One
+-- that matches nothing has no effect
 abbrev pub accepted : Peering → ℕ → ℕ → ℕ → ℕ → Peering
-accepted p now channel number time = on_match (matched_by p.outbox channel number) p (acknowledged p now channel number time)
+accepted p now channel number time = on_match (matched_by p.outbox channel number time) p (acknowledged p now channel number time)
 
 abbrev pub is_connecting : PeerState → Bool
 is_connecting state.Connecting = true

@@ -344,12 +344,13 @@ impl Peer {
         self.acknowledge(now, channel, number, time);
     }
 
-    /// An acknowledgement takes away what it matches; one that matches nothing has no effect.
+    /// An acknowledgement takes away what it matches: the command of its number, where that was sent at the time that it repeats. One
+    /// that matches nothing has no effect.
     fn acknowledge(&mut self, now: u32, channel: u8, number: u16, time: u16)
         ensures peer { self.new.peer ≡ accepted self.old.peer now channel number time }
         ensures acknowledgement_room { self.old.acknowledgement_room ≤ self.new.acknowledgement_room }
     {
-        match self.outbox.acknowledge(channel, number) {
+        match self.outbox.acknowledge(channel, number, time) {
             Matched::Nothing => {}
             Matched::Data => {
                 self.sample(now, time);
