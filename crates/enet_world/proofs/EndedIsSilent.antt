@@ -140,9 +140,9 @@ silent-acknowledge p now channel number time n = by-state (is_connecting p.state
     by matched.Data = silent-settled q k
     by (matched.Control what) = silent-settled (with_answer p.state what q) (silent-answer q p.state what k)
 
-    by-state : (b : Bool) → IsSilent (cond b p (on_match (matched_by p.outbox channel number) p q))
+    by-state : (b : Bool) → IsSilent (cond b p (on_match (matched_by p.outbox channel number time) p q))
     by-state true = h
-    by-state false = by (matched_by p.outbox channel number)
+    by-state false = by (matched_by p.outbox channel number time)
 
 silent-verify : (p : Peering) (v : Verify) (s : PeerState) → IsSilent p → IsSilent (on_verify_in s p v)
 silent-verify p v state.Connecting h = by (confirmed p.offer v)

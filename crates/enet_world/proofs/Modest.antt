@@ -88,15 +88,15 @@ meets-answering p now sent m h = obeys-each IsModest old now sent m (record {
     old = record p { state = state.Answering }
 
     gone : (channel number time : ℕ) → IsModest (on_acknowledge old now channel number time)
-    gone channel number time = go (matched_by p.outbox channel number) refl
+    gone channel number time = go (matched_by p.outbox channel number time) refl
       where
         less : IsLone is_any (outbox.after_acknowledgement p.outbox channel number).control
         less = acknowledged-lone is_any p.outbox channel number h
 
-        go : (x : Matched) → matched_by p.outbox channel number ≡ x → IsModest (on_match x old (acknowledged old now channel number time))
+        go : (x : Matched) → matched_by p.outbox channel number time ≡ x → IsModest (on_match x old (acknowledged old now channel number time))
         go matched.Nothing e = h
         go matched.Data e = less
-        go (matched.Control (control.VerifyConnect verify)) e = answered-lone is_any is_ping p.outbox channel number (control.VerifyConnect verify) e h
+        go (matched.Control (control.VerifyConnect verify)) e = answered-lone is_any is_ping p.outbox channel number time (control.VerifyConnect verify) e h
         go (matched.Control what) e = less
 
 meets-asking : (p : Peering) (now : ℕ) (sent : Option ℕ) (m : Message) → IsModest (obeyed (in_state state.Connecting p) now sent m).after

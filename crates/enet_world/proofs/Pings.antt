@@ -131,24 +131,24 @@ acknowledged-lone f o channel number h = by (channel == 0xFF)
     by false = at (slice_get o.senders channel)
 
 -- where it is the one that is acknowledged, there is none any more
-taken-lone : (f g : Control → Bool) (c : Commands) (o : Option ℕ) (what : Control) → controlling.control_at c.sent o ≡ Some what → IsLone f c → IsLone g (record c { sent = controlling.without_place c.sent o })
-taken-lone f g c None what e h = absurd (let z : None ≡ Some what = e in cc)
-taken-lone f g c (Some i) what e (Idle a b) = absurd (let z : None ≡ Some what = subst (λ (l : List SentControl). controlling.control_of (slice_get l i) ≡ Some what) b e in cc)
-taken-lone f g c (Some i) what e (Queued m ok a b) = absurd (let z : None ≡ Some what = subst (λ (l : List SentControl). controlling.control_of (slice_get l i) ≡ Some what) b e in cc)
-taken-lone f g c (Some i) what e (Sent t ok a b) = by i (subst (λ (l : List SentControl). controlling.control_of (slice_get l i) ≡ Some what) b e)
+taken-lone : (f g : Control → Bool) (c : Commands) (time : ℕ) (o : Option ℕ) (what : Control) → controlling.control_at time c.sent o ≡ Some what → IsLone f c → IsLone g (record c { sent = controlling.without_place c.sent o })
+taken-lone f g c time None what e h = absurd (let z : None ≡ Some what = e in cc)
+taken-lone f g c time (Some i) what e (Idle a b) = absurd (let z : None ≡ Some what = subst (λ (l : List SentControl). controlling.control_of time (slice_get l i) ≡ Some what) b e in cc)
+taken-lone f g c time (Some i) what e (Queued m ok a b) = absurd (let z : None ≡ Some what = subst (λ (l : List SentControl). controlling.control_of time (slice_get l i) ≡ Some what) b e in cc)
+taken-lone f g c time (Some i) what e (Sent t ok a b) = by i (subst (λ (l : List SentControl). controlling.control_of time (slice_get l i) ≡ Some what) b e)
   where
-    by : (j : ℕ) → controlling.control_of (slice_get (t ∷ []) j) ≡ Some what → IsLone g (record c { sent = remove c.sent j })
+    by : (j : ℕ) → controlling.control_of time (slice_get (t ∷ []) j) ≡ Some what → IsLone g (record c { sent = remove c.sent j })
     by zero k = Idle a (ap (λ (l : List SentControl). remove l zero) b)
     by (suc j) k = absurd (let z : None ≡ Some what = k in cc)
 
-pub answered-lone : (f g : Control → Bool) (o : Outbox) (channel number : ℕ) (what : Control) → matched_by o channel number ≡ matched.Control what → IsLone f o.control → IsLone g (outbox.after_acknowledgement o channel number).control
-answered-lone f g o channel number what e h = by (channel == 0xFF) e
+pub answered-lone : (f g : Control → Bool) (o : Outbox) (channel number time : ℕ) (what : Control) → matched_by o channel number time ≡ matched.Control what → IsLone f o.control → IsLone g (outbox.after_acknowledgement o channel number).control
+answered-lone f g o channel number time what e h = by (channel == 0xFF) e
   where
     never : (n : Option ℕ) → outbox.as_data n ≡ matched.Control what → ⊥
     never None k = cc
     never (Some bytes) k = cc
 
-    no-data : (s : Option SendingEnd) → outbox.matched_on s number ≡ matched.Control what → ⊥
+    no-data : (s : Option SendingEnd) → outbox.matched_on s number time ≡ matched.Control what → ⊥
     no-data None k = cc
     no-data (Some s) k = never _ k
 
@@ -156,9 +156,9 @@ answered-lone f g o channel number what e h = by (channel == 0xFF) e
     one None k = absurd (cc)
     one (Some y) k = (let z : y ≡ what = cc in ap Some z)
 
-    by : (b : Bool) → cond b (outbox.as_control (controlling.acknowledged_control o.control number)) (outbox.matched_on (slice_get o.senders channel) number) ≡ matched.Control what
+    by : (b : Bool) → cond b (outbox.as_control (controlling.acknowledged_control o.control number time)) (outbox.matched_on (slice_get o.senders channel) number time) ≡ matched.Control what
         → IsLone g (cond b (record o { control = controlling.after_acknowledgement o.control number }) (outbox.acknowledged_on o channel number (slice_get o.senders channel))).control
-    by true k = taken-lone f g o.control (controlling.position_of number o.control.sent) what (one (controlling.acknowledged_control o.control number) k) h
+    by true k = taken-lone f g o.control time (controlling.position_of number o.control.sent) what (one (controlling.acknowledged_control o.control number time) k) h
     by false k = absurd (no-data (slice_get o.senders channel) k)
 
 -- a datagram is filled
@@ -243,7 +243,7 @@ pub meets-connected : (P : Peering → Type 0) (p : Peering) (now : ℕ) (sent :
 meets-connected P p now sent m k = obeys-each P (connected p) now sent m (record {
   same = k.same;
   holds = k.holds;
-  acknowledges = λ number time. gone m.head.channel number time (matched_by p.outbox m.head.channel number);
+  acknowledges = λ number time. gone m.head.channel number time (matched_by p.outbox m.head.channel number time);
   verifies = λ v. k.same;
   ends = λ info e. k.ends (m.head.acknowledge && is_some sent) info e;
   hears = k.hears;

@@ -49,9 +49,9 @@ unset-acknowledge p now channel number time low h = by-state (is_connecting p.st
     by matched.Data = unset-settled q (h.0, h.1, low)
     by (matched.Control what) = unset-settled (with_answer p.state what q) (unset-answer q p.state what (h.0, h.1, low))
 
-    by-state : (b : Bool) → IsUnset (cond b p (on_match (matched_by p.outbox channel number) p q))
+    by-state : (b : Bool) → IsUnset (cond b p (on_match (matched_by p.outbox channel number time) p q))
     by-state true = h
-    by-state false = by (matched_by p.outbox channel number)
+    by-state false = by (matched_by p.outbox channel number time)
 
 unset-verify : (p : Peering) (v : Verify) (s : PeerState) → IsUnset p → IsUnset (on_verify_in s p v)
 unset-verify p v state.Connecting h = by (confirmed p.offer v)

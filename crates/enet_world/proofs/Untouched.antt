@@ -71,7 +71,7 @@ acknowledging-obeyed : (r : Peering) (now : ℕ) (sent : Option ℕ) (h : Head) 
 acknowledging-obeyed r now sent h body = obeys-each (λ q. Next state.AckDisconnect q.state) p now sent (record { head = h; body = body }) (record {
   same = inl refl;
   holds = λ b. inl refl;
-  acknowledges = λ number time. inl (taken-away number time (matched_by p.outbox h.channel number));
+  acknowledges = λ number time. inl (taken-away number time (matched_by p.outbox h.channel number time));
   verifies = λ v. inl refl;
   ends = λ info e. inl refl;
   hears = λ n. inl refl;

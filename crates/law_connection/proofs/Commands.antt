@@ -130,7 +130,7 @@ holds-acknowledged own other p put now number time logged body late h = by-state
 
     by-state : (b : Bool) → Holds own other (cond b p (accepted p now put.message.head.channel number time))
     by-state true = h
-    by-state false = by (matched_by p.outbox put.message.head.channel number)
+    by-state false = by (matched_by p.outbox put.message.head.channel number time)
 
 -- DISCONNECT comes
 holds-last : (own other : End) (p : Peering) (b : Bool) (info : ℕ) → Holds own other p → Holds own other (on_last_disconnect p b info)

@@ -274,7 +274,7 @@ kept-acknowledged P k p now channel number time here h = by-state (is_connecting
 
     by-state : (b : Bool) → P (cond b p (accepted p now channel number time))
     by-state true = h
-    by-state false = by (matched_by p.outbox channel number)
+    by-state false = by (matched_by p.outbox channel number time)
 
 big-enough : (n : ℕ) → 28 < max 576 n
 big-enough n = omega arith

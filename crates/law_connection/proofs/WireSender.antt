@@ -394,20 +394,20 @@ Shows-acknowledged v s n low high h =
       };
     }
 
-size_of-same : (o : Option Sent) → size_of (option_map wired_sent o) ≡ size_of o
-size_of-same None = refl
-size_of-same (Some p) = refl
+size_of-same : (time : ℕ) (o : Option Sent) → size_of time (option_map wired_sent o) ≡ size_of time o
+size_of-same time None = refl
+size_of-same time (Some p) = refl
 
-size_at-same : (sent : List Sent) (o : Option ℕ) → size_at (map wired_sent sent) o ≡ size_at sent o
-size_at-same sent None = refl
-size_at-same sent (Some i) = ap size_of (slice_get-map sent i) ∙ size_of-same (slice_get sent i)
+size_at-same : (time : ℕ) (sent : List Sent) (o : Option ℕ) → size_at time (map wired_sent sent) o ≡ size_at time sent o
+size_at-same time sent None = refl
+size_at-same time sent (Some i) = ap (size_of time) (slice_get-map sent i) ∙ size_of-same time (slice_get sent i)
 
-pub Shows-acknowledged_bytes : (v s : Sender) (n : ℕ) → n ≤ reached s → reached s < n + 65536 → ShowsSender v s → acknowledged_bytes v (n % 65536) ≡ acknowledged_bytes s n
-Shows-acknowledged_bytes v s n low high h =
+pub Shows-acknowledged_bytes : (v s : Sender) (n time : ℕ) → n ≤ reached s → reached s < n + 65536 → ShowsSender v s → acknowledged_bytes v (n % 65536) time ≡ acknowledged_bytes s n time
+Shows-acknowledged_bytes v s n time low high h =
     let o = h.in_order in
-    ap (λ l. size_at l (position_of (n % 65536) l)) h.sent
-    ∙ ap (size_at (map wired_sent s.sent)) (position-map wired_sent (λ (p : Sent). p.command.number == n % 65536) (λ (p : Sent). p.command.number == n) s.sent (tests_same s n o low high))
-    ∙ size_at-same s.sent (position_of n s.sent)
+    ap (λ l. size_at time l (position_of (n % 65536) l)) h.sent
+    ∙ ap (size_at time (map wired_sent s.sent)) (position-map wired_sent (λ (p : Sent). p.command.number == n % 65536) (λ (p : Sent). p.command.number == n) s.sent (tests_same s n o low high))
+    ∙ size_at-same time s.sent (position_of n s.sent)
 
 pub Shows-in_transit : (v s : Sender) → ShowsSender v s → bytes_in_transit v ≡ bytes_in_transit s
 Shows-in_transit v s h =

@@ -105,7 +105,7 @@ pub fn wire_sender()
     ensures next { (occasion : Occasion) (v s : Sender) → ShowsSender v s → ShowsNext (next wire occasion v) (next unbounded occasion s) }
     ensures skipped { (v s : Sender) → ShowsSender v s → ShowsSender (with_skipped v) (with_skipped s) }
     ensures acknowledged { (v s : Sender) (n : ℕ) → n ≤ reached s → reached s < n + 65536 → ShowsSender v s → ShowsSender (after_acknowledgement v (n % 65536)) (after_acknowledgement s n) }
-    ensures acknowledged_bytes { (v s : Sender) (n : ℕ) → n ≤ reached s → reached s < n + 65536 → ShowsSender v s → acknowledged_bytes v (n % 65536) ≡ acknowledged_bytes s n }
+    ensures acknowledged_bytes { (v s : Sender) (n time : ℕ) → n ≤ reached s → reached s < n + 65536 → ShowsSender v s → acknowledged_bytes v (n % 65536) time ≡ acknowledged_bytes s n time }
     ensures in_transit { (v s : Sender) → ShowsSender v s → bytes_in_transit v ≡ bytes_in_transit s }
     ensures marked { (bound now : ℕ) (v s : Sender) → ShowsSender v s → ShowsSender (with_marked bound now v) (with_marked bound now s) }
     ensures lateness { (now : ℕ) (patience : Patience) (heard : ℕ) (v s : Sender) → ShowsSender v s → lateness now patience heard v ≡ lateness now patience heard s }

@@ -200,7 +200,7 @@ with_answer-stays p state.Disconnecting (control.Disconnect info) e = ended-stay
 with_answer-stays p s what e = stays (core p)
 
 on_acknowledge-stays : (p : Peering) (now channel number time : ℕ) → StaysAt p (on_acknowledge p now channel number time)
-on_acknowledge-stays p now channel number time = if-peer (StaysAt p) (is_connecting p.state) p (accepted p now channel number time) (stays (core p)) (by (matched_by p.outbox channel number))
+on_acknowledge-stays p now channel number time = if-peer (StaysAt p) (is_connecting p.state) p (accepted p now channel number time) (stays (core p)) (by (matched_by p.outbox channel number time))
   where
     q : Peering
     q = sampled (record p { outbox = after_acknowledgement p.outbox channel number }) now time

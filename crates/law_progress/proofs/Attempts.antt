@@ -9,6 +9,7 @@ use Rattle.enet_codec.specs.Message.{Message, Body, acknowledge, connect, verify
 use Rattle.enet_rtt.specs.Clock.{elapsed_time}
 use Rattle.enet_rtt.specs.Timing.{Estimate, timeout}
 use Rattle.enet_rtt.specs.Transmission as transmission
+use Rattle.enet_rtt.specs.Transmission.{went_at}
 use Rattle.enet_rtt.specs.Expiry.{gives_up}
 use Rattle.enet_rtt.specs.declared.transmission.Transmission.{Transmission}
 use Rattle.enet_rtt.specs.declared.expiry.Patience.{Patience}
@@ -253,26 +254,31 @@ answered-state e m sent s = go (m.head.acknowledge && true && is_answered_in e.s
     go true (Some time) h = h
 
 -- what an acknowledgement can match
-matches : (G : ℕ → Transmission → Type 0) (a : Attempt) (now : ℕ) (o : Outbox) (channel number : ℕ) → AreEmpty o.senders → Shape G a now o.control → (matched_by o channel number ≡ matched.Nothing) ⊎ (matched_by o channel number ≡ matched.Control a.command.control)
-matches G a now o channel number empty shape = by (channel == 0xFF)
+matches : (G : ℕ → Transmission → Type 0) (a : Attempt) (now : ℕ) (o : Outbox) (channel number time : ℕ) → AreEmpty o.senders → Shape G a now o.control → (matched_by o channel number time ≡ matched.Nothing) ⊎ (matched_by o channel number time ≡ matched.Control a.command.control)
+matches G a now o channel number time empty shape = by (channel == 0xFF)
   where
-    on : (x : Option SendingEnd) → slice_get o.senders channel ≡ x → matched_on x number ≡ matched.Nothing
+    on : (x : Option SendingEnd) → slice_get o.senders channel ≡ x → matched_on x number time ≡ matched.Nothing
     on None e = refl
-    on (Some s) e = ap (λ (l : List Sent). as_data (sender.size_at l (sender.position_of number l))) (empty-at o.senders channel s empty e).1
+    on (Some s) e = ap (λ (l : List Sent). as_data (sender.size_at time l (sender.position_of number l))) (empty-at o.senders channel s empty e).1
 
-    at : Shape G a now o.control → (outbox.as_control (controlling.acknowledged_control o.control number) ≡ matched.Nothing) ⊎ (outbox.as_control (controlling.acknowledged_control o.control number) ≡ matched.Control a.command.control)
-    at (inl q) = inl (ap (λ (l : List SentControl). outbox.as_control (controlling.control_at l (controlling.position_of number l))) q.1)
+    at : Shape G a now o.control → (outbox.as_control (controlling.acknowledged_control o.control number time) ≡ matched.Nothing) ⊎ (outbox.as_control (controlling.acknowledged_control o.control number time) ≡ matched.Control a.command.control)
+    at (inl q) = inl (ap (λ (l : List SentControl). outbox.as_control (controlling.control_at time l (controlling.position_of number l))) q.1)
     at (inr (t, none, sent, w)) = found (eqb t.command.number number) refl
       where
-        is : outbox.as_control (controlling.acknowledged_control o.control number) ≡ outbox.as_control (controlling.control_at (t ∷ []) (controlling.position_of number (t ∷ [])))
-        is = ap (λ (l : List SentControl). outbox.as_control (controlling.control_at l (controlling.position_of number l))) sent
+        is : outbox.as_control (controlling.acknowledged_control o.control number time) ≡ outbox.as_control (controlling.control_at time (t ∷ []) (controlling.position_of number (t ∷ [])))
+        is = ap (λ (l : List SentControl). outbox.as_control (controlling.control_at time l (controlling.position_of number l))) sent
 
-        found : (b : Bool) → eqb t.command.number number ≡ b → (outbox.as_control (controlling.acknowledged_control o.control number) ≡ matched.Nothing) ⊎ (outbox.as_control (controlling.acknowledged_control o.control number) ≡ matched.Control a.command.control)
-        found true e = inr (is ∙ (λ i. outbox.as_control (controlling.control_at (t ∷ []) (let k : ℕ = cond (not (e i)) (1 + 0) 0 in cond (ltb k 1) (Some k) None))) ∙ ap (λ (x : Numbered). matched.Control x.control) w.0)
-        found false e = inl (is ∙ (λ i. outbox.as_control (controlling.control_at (t ∷ []) (let k : ℕ = cond (not (e i)) (1 + 0) 0 in cond (ltb k 1) (Some k) None))))
+        timely : (b : Bool) → went_at time t.transmission ≡ b → outbox.as_control (controlling.acknowledged_control o.control number time) ≡ outbox.as_control (controlling.control_of time (Some t))
+            → (outbox.as_control (controlling.acknowledged_control o.control number time) ≡ matched.Nothing) ⊎ (outbox.as_control (controlling.acknowledged_control o.control number time) ≡ matched.Control a.command.control)
+        timely true u e = inr (e ∙ ap (λ b. outbox.as_control (cond b (Some t.command.control) None)) u ∙ ap (λ (x : Numbered). matched.Control x.control) w.0)
+        timely false u e = inl (e ∙ ap (λ b. outbox.as_control (cond b (Some t.command.control) None)) u)
 
-    by : (b : Bool) → (cond b (outbox.as_control (controlling.acknowledged_control o.control number)) (matched_on (slice_get o.senders channel) number) ≡ matched.Nothing)
-        ⊎ (cond b (outbox.as_control (controlling.acknowledged_control o.control number)) (matched_on (slice_get o.senders channel) number) ≡ matched.Control a.command.control)
+        found : (b : Bool) → eqb t.command.number number ≡ b → (outbox.as_control (controlling.acknowledged_control o.control number time) ≡ matched.Nothing) ⊎ (outbox.as_control (controlling.acknowledged_control o.control number time) ≡ matched.Control a.command.control)
+        found true e = timely (went_at time t.transmission) refl (is ∙ (λ i. outbox.as_control (controlling.control_at time (t ∷ []) (let k : ℕ = cond (not (e i)) (1 + 0) 0 in cond (ltb k 1) (Some k) None))))
+        found false e = inl (is ∙ (λ i. outbox.as_control (controlling.control_at time (t ∷ []) (let k : ℕ = cond (not (e i)) (1 + 0) 0 in cond (ltb k 1) (Some k) None))))
+
+    by : (b : Bool) → (cond b (outbox.as_control (controlling.acknowledged_control o.control number time)) (matched_on (slice_get o.senders channel) number time) ≡ matched.Nothing)
+        ⊎ (cond b (outbox.as_control (controlling.acknowledged_control o.control number time)) (matched_on (slice_get o.senders channel) number time) ≡ matched.Control a.command.control)
     by true = at shape
     by false = inl (on (slice_get o.senders channel) refl)
 
@@ -312,14 +318,14 @@ acknowledgement-stands G a now moment channel number time p empty shape Asks abo
 acknowledgement-stands G a now moment channel number time p empty shape Answers about =
     let old : Peering = in_state Answers p in
     let gone : Peering = acknowledged old moment channel number time in
-    elim (matches G a now p.outbox channel number empty shape) [
+    elim (matches G a now p.outbox channel number time empty shape) [
       | inl none ↦ subst (λ m. Stands Answers p (on_match m old gone)) (sym none) (λ h. same-in Answers p)
       | inr own ↦ subst (λ m. Stands Answers p (on_match m old gone)) (sym own) (λ h. absurd (ends-answering a.command.control gone about h))
     ]
 acknowledgement-stands G a now moment channel number time p empty shape Leaves about =
     let old : Peering = in_state Leaves p in
     let gone : Peering = acknowledged old moment channel number time in
-    elim (matches G a now p.outbox channel number empty shape) [
+    elim (matches G a now p.outbox channel number time empty shape) [
       | inl none ↦ subst (λ m. Stands Leaves p (on_match m old gone)) (sym none) (λ h. same-in Leaves p)
       | inr own ↦ subst (λ m. Stands Leaves p (on_match m old gone)) (sym own) (λ h. absurd (ends-leaving a.command.control gone about h))
     ]

@@ -1,5 +1,6 @@
 -- What a round brings to two ends, over all their channels.
 use Rattle.std.proofs.Common.{◌≡◌, ℕ, zero, suc, ◌+◌, ◌%◌, ◌<◌, ◌≤◌, ◌||◌, ltb, max, min, Bool, true, false, cond, List, [], ◌∷◌, length, map, refl, sym, ap, subst, ◌∙◌, inl, inr, ◌⊎◌, arith, Option, Some, None, is_some}
+use Rattle.std.proofs.lemmas.Bool.{eq-eqb}
 use Rattle.std.proofs.lemmas.Bool.Decides.{nat_tests}
 use Rattle.std.proofs.lemmas.List.{length-map}
 use Rattle.std.specs.List.{slice_get, list_any, position}
@@ -8,6 +9,7 @@ use Rattle.enet_fragment.specs.declared.data.DataCommand.{DataCommand}
 use Rattle.enet_fragment.specs.DataCommand.{message_of}
 use Rattle.enet_receiver.specs.Members.{Has}
 use Rattle.enet_rtt.specs.Transmission as transmission
+use Rattle.enet_rtt.specs.Transmission.{went_at}
 use Rattle.enet_rtt.specs.declared.expiry.Expiry.TheVariants.{No, Resend, End as Ends}
 use Rattle.enet_sender.specs.Sender.{left, marked, is_late as has_waited_out}
 use Rattle.enet_sender.specs.declared.sent.Sent.{Sent}
@@ -29,9 +31,9 @@ use Rattle.law_progress.specs.Exchanges.{PutsOne, PutsMany, PutsAll, IsOpen, Rou
 use Rattle.law_progress.specs.Outboxes.{AllFit, AreQuiet, NothingMayGo}
 use Rattle.law_progress.proofs.Delivered.{delivered-forth, delivered-back}
 use Rattle.law_progress.proofs.Blocked.{some-sent, idle-senders}
-use Rattle.law_progress.proofs.Emitted.{AreSound, Went, Emitted, emitted, Waits, emitted-waits, emitted-from}
+use Rattle.law_progress.proofs.Emitted.{AreSound, Went, Emitted, PutIn, emitted, Waits, emitted-waits, emitted-from}
 use Rattle.law_progress.proofs.Carried.{nums, Has-nums}
-use Rattle.law_progress.proofs.Exchanges.{Joint, joint-swap, joint-event, same-peer, sound-of, low-channel, as_read, reads-itself, same-message, no-acknowledgement, put_out, Gone, gone, Came, all-came, all-joint, came-answers, came-less, came-none, then-came, took-all, takes-joint}
+use Rattle.law_progress.proofs.Exchanges.{Joint, joint-swap, joint-event, same-peer, sound-of, low-channel, as_read, reads-itself, same-message, no-acknowledgement, put_out, Gone, gone, Came, all-came, all-joint, came-answers, came-less, came-none, waits-of, one-sent, then-came, took-all, takes-joint}
 use Rattle.law_progress.proofs.Found.{sender-rests}
 use Rattle.law_progress.proofs.Kept.{go-or-stay}
 use Rattle.law_progress.proofs.Obeyed.{Kept, kept-self, kept-least, kept-then}
@@ -44,16 +46,33 @@ pub record Coming (other : End) (p : Peering) : Type 0 where
   pub answer : Acknowledgement
   pub low : answer.channel < 255
   pub waits : Waits p.outbox.senders answer.channel answer.number
+  pub sent : Sent
+  pub has : HasSent p.outbox.senders answer.channel sent
+  pub number : sent.command.number ≡ answer.number
+  pub went : went_at answer.time sent.transmission ≡ true
   pub peer : Peering
   pub is : other.peer ≡ Some peer
   pub there : Has peer.outbox.acknowledgements answer
 
--- the acknowledgement of a command of this number waits to go at an end, or at a peer
-abbrev pub OnItsWay : End → ℕ → ℕ → Type 0
-OnItsWay other channel number = (time : ℕ) × (q : Peering) × (other.peer ≡ Some q) × Has q.outbox.acknowledgements (record { channel = channel; number = number; time = time })
+-- the acknowledgement of this command waits to go at an end, or at a peer, and repeats the time of a send of it
+abbrev pub OnItsWay : End → ℕ → Sent → Type 0
+OnItsWay other channel t = (time : ℕ) × (q : Peering) × (other.peer ≡ Some q) × Has q.outbox.acknowledgements (record { channel = channel; number = t.command.number; time = time }) × (went_at time t.transmission ≡ true)
 
-abbrev pub AnswersAt : Peering → ℕ → ℕ → Type 0
-AnswersAt q channel number = (time : ℕ) × Has q.outbox.acknowledgements (record { channel = channel; number = number; time = time })
+abbrev pub AnswersAt : Peering → ℕ → Sent → Type 0
+AnswersAt q channel t = (time : ℕ) × Has q.outbox.acknowledgements (record { channel = channel; number = t.command.number; time = time }) × (went_at time t.transmission ≡ true)
+
+-- so too of a command that has the same number, and the same sends
+pub on-its-way : (other : End) (channel : ℕ) (x t : Sent) → x.command.number ≡ t.command.number → ((time : ℕ) → went_at time x.transmission ≡ went_at time t.transmission) → OnItsWay other channel x → OnItsWay other channel t
+on-its-way other channel x t number went w = (w.0, w.1, w.2, subst (λ n. Has w.1.outbox.acknowledgements (record { channel = channel; number = n; time = w.0 })) number w.3, sym (went w.0) ∙ w.4)
+
+-- the time that a datagram tells is that of the last send of each command that it carries
+pub went-last : (t : Sent) (now : ℕ) → t.transmission.last ≡ now → went_at (now % 65536) t.transmission ≡ true
+went-last t now last = by _ _ _ (eq-eqb (now % 65536) (t.transmission.last % 65536) (ap (λ n. n % 65536) (sym last)))
+  where
+    by : (a b c : Bool) → b ≡ true → (a || b || c) ≡ true
+    by true b c e = refl
+    by false true c e = refl
+    by false false c e = absurd (cc)
 
 -- an end puts out all that it may, and all of it comes. Of what waits each command has this property, or its acknowledgement is on its way
 pub record Sending (joined : Bool) (D : ℕ → Sent → Type 0) (p0 q0 : Peering) (from to : End) : Type 0 where
@@ -68,10 +87,10 @@ pub record Sending (joined : Bool) (D : ℕ → Sent → Type 0) (p0 q0 : Peerin
   pub other_kept : Kept q0 other
   pub least : outstanding_over peer.outbox.senders ≤ outstanding_over p0.outbox.senders
   pub how : (peer.outbox.senders ≡ p0.outbox.senders) ⊎ ((outstanding_over peer.outbox.senders < outstanding_over p0.outbox.senders) ⊎ Coming to peer)
-  pub all : (channel : ℕ) (t : Sent) → HasSent peer.outbox.senders channel t → D channel t ⊎ OnItsWay to channel t.command.number
+  pub all : (channel : ℕ) (t : Sent) → HasSent peer.outbox.senders channel t → D channel t ⊎ OnItsWay to channel t
 
 sending-start : (joined : Bool) (D : ℕ → Sent → Type 0) (p0 q0 : Peering) (from to : End) → Joint joined from to → from.peer ≡ Some p0 → p0.state ≡ state.Connected → to.peer ≡ Some q0 → q0.state ≡ state.Connected
-    → ((channel : ℕ) (t : Sent) → HasSent p0.outbox.senders channel t → D channel t ⊎ OnItsWay to channel t.command.number) → Sending joined D p0 q0 from to
+    → ((channel : ℕ) (t : Sent) → HasSent p0.outbox.senders channel t → D channel t ⊎ OnItsWay to channel t) → Sending joined D p0 q0 from to
 sending-start joined D p0 q0 from to j is on other_is other_on all =
     record { joint = j; peer = p0; is = is; connected = on; mtu = refl; other = q0; other_is = other_is; other_connected = other_on; other_kept = kept-self q0; least = omega arith; how = inl refl; all = all }
 
@@ -112,11 +131,12 @@ sending-one joined D now there p0 q0 from to from' to' o k = record {
     sound : AreSound k.peer.outbox.senders
     sound = sound-of joined from to k.peer k.joint k.is k.connected
 
-    e : Emitted k.peer.outbox.senders (filled (pace_of k.peer now) k.peer.outbox).messages p.outbox.senders
+    e : Emitted now k.peer.outbox.senders (filled (pace_of k.peer now) k.peer.outbox).messages p.outbox.senders
     e = emitted (pace_of k.peer now) k.peer.outbox sound
 
     -- what was put in and waits is acknowledged
-    goes : (channel : ℕ) (c : DataCommand) → c.reliable ≡ true → Has (filled (pace_of k.peer now) k.peer.outbox).messages (message_of channel c) → Waits p.outbox.senders channel c.number → OnItsWay to' channel c.number
+    goes : (channel : ℕ) (c : DataCommand) → c.reliable ≡ true → Has (filled (pace_of k.peer now) k.peer.outbox).messages (message_of channel c) → Waits p.outbox.senders channel c.number
+        → (x : Peering) × (to'.peer ≡ Some x) × Has x.outbox.acknowledgements (record { channel = channel; number = c.number; time = now % 65536 })
     goes channel c reliable has waits =
         let m : Message = message_of channel c in
         let read : m ≡ message_of channel (as_read c) = same-message channel c reliable in
@@ -125,15 +145,32 @@ sending-one joined D now there p0 q0 from to from' to' o k = record {
         let marked = put.4 (ap (λ (x : Message). is_acknowledgement x.body) read ∙ no-acknowledgement channel c) in
         let r = came-answers joined there (now % 65536) from' o.new to o.arrived p put.0 channel (as_read c) o.come put.1 out g.peer k.connected low waits refl (put.3 ∙ read) (reads-itself channel c) put.2 marked in
         let ack : Acknowledgement = record { channel = channel; number = c.number; time = now % 65536 } in
-        (now % 65536, takes.peer, takes.is, takes.kept.acknowledgements ack (subst (λ (x : Peering). Has x.outbox.acknowledgements ack) (same-peer o.arrived r.0 arrives.peer r.1 arrives.is) r.2))
+        (takes.peer, takes.is, takes.kept.acknowledgements ack (subst (λ (x : Peering). Has x.outbox.acknowledgements ack) (same-peer o.arrived r.0 arrives.peer r.1 arrives.is) r.2))
 
-    answer : Went (filled (pace_of k.peer now) k.peer.outbox).messages p.outbox.senders → Coming to' p
+    answer : Went now (filled (pace_of k.peer now) k.peer.outbox).messages p.outbox.senders → Coming to' p
     answer w =
-        let waits : Waits p.outbox.senders w.channel w.command.number = (w.end, w.there, w.waits) in
+        let has : HasSent p.outbox.senders w.channel w.sent = (w.end, w.there, w.waits) in
+        let waits = waits-of p.outbox.senders w.channel w.command.number w.sent has w.number in
         let way = goes w.channel w.command w.reliable w.put waits in
-        record { answer = record { channel = w.channel; number = w.command.number; time = way.0 }; low = low-channel joined from' to p w.channel w.command.number out g.peer waits; waits = waits; peer = way.1; is = way.2; there = way.3 }
+        record {
+          answer = record { channel = w.channel; number = w.command.number; time = now % 65536 };
+          low = low-channel joined from' to p w.channel w.command.number out g.peer waits;
+          waits = waits;
+          sent = w.sent;
+          has = has;
+          number = w.number;
+          went = went-last w.sent now w.last;
+          peer = way.0;
+          is = way.1;
+          there = way.2;
+        }
 
-    all : (channel : ℕ) (t : Sent) → HasSent p.outbox.senders channel t → D channel t ⊎ OnItsWay to' channel t.command.number
+    put-in : (channel : ℕ) (t : Sent) → HasSent p.outbox.senders channel t → PutIn now (filled (pace_of k.peer now) k.peer.outbox).messages channel t → OnItsWay to' channel t
+    put-in channel t h put =
+        let way = goes channel put.0 put.1 put.3 (waits-of p.outbox.senders channel put.0.number t h (sym put.2)) in
+        (now % 65536, way.0, way.1, subst (λ n. Has way.0.outbox.acknowledgements (record { channel = channel; number = n; time = now % 65536 })) put.2 way.2, went-last t now put.4)
+
+    all : (channel : ℕ) (t : Sent) → HasSent p.outbox.senders channel t → D channel t ⊎ OnItsWay to' channel t
     all channel t h = elim (emitted-from (pace_of k.peer now) k.peer.outbox sound channel t h) [
       | inl old ↦ elim (k.all channel t old) [
         | inl d ↦ inl d
@@ -143,24 +180,55 @@ sending-one joined D now there p0 q0 from to from' to' o k = record {
           came.is,
           came.kept.acknowledgements (record { channel = channel; number = t.command.number; time = w.0 })
               (subst (λ (x : Peering). Has x.outbox.acknowledgements (record { channel = channel; number = t.command.number; time = w.0 })) (same-peer to w.1 k.other w.2 k.other_is) w.3),
+          w.4,
         )
       ]
-      | inr put ↦
-          let waits : Waits p.outbox.senders channel put.0.number = (h.0, h.1, subst (λ n. Has (nums h.0.sender.sent) n) (sym put.2) (Has-nums h.0.sender.sent t h.2)) in
-          inr (subst (λ n. OnItsWay to' channel n) put.2 (goes channel put.0 put.1 put.3 waits))
+      | inr put ↦ inr (put-in channel t h put)
     ]
+
+    -- what waits goes on to wait, as it is, or was put in once more
+    still : Coming to k.peer → Coming to' p
+    still c = elim (emitted-from (pace_of k.peer now) k.peer.outbox sound c.answer.channel x.0 has) [
+      | inl old ↦ record {
+        answer = c.answer;
+        low = c.low;
+        waits = waits;
+        sent = x.0;
+        has = has;
+        number = x.2;
+        went = ap (λ (t : Sent). went_at c.answer.time t.transmission) (one-sent joined from to k.peer c.answer.channel c.sent x.0 k.joint k.is k.connected c.low c.has old (x.2 ∙ sym c.number)) ∙ c.went;
+        peer = came.peer;
+        is = came.is;
+        there = came.kept.acknowledgements c.answer (subst (λ (x : Peering). Has x.outbox.acknowledgements c.answer) (same-peer to c.peer k.other c.is k.other_is) c.there);
+      }
+      | inr put ↦
+          let way = put-in c.answer.channel x.0 has put in record {
+            answer = record { channel = c.answer.channel; number = x.0.command.number; time = way.0 };
+            low = c.low;
+            waits = waits-of p.outbox.senders c.answer.channel x.0.command.number x.0 has refl;
+            sent = x.0;
+            has = has;
+            number = refl;
+            went = way.4;
+            peer = way.1;
+            is = way.2;
+            there = way.3;
+          }
+    ]
+      where
+        waits : Waits p.outbox.senders c.answer.channel c.answer.number
+        waits = emitted-waits (pace_of k.peer now) k.peer.outbox c.answer.channel c.answer.number sound c.waits
+
+        x : (t : Sent) × Has waits.0.sender.sent t × (t.command.number ≡ c.answer.number)
+        x = Has-mapped (λ (t : Sent). t.command.number) waits.0.sender.sent c.answer.number waits.2
+
+        has : HasSent p.outbox.senders c.answer.channel x.0
+        has = (waits.0, waits.1, x.1)
 
     by : (k.peer.outbox.senders ≡ p0.outbox.senders) ⊎ ((outstanding_over k.peer.outbox.senders < outstanding_over p0.outbox.senders) ⊎ Coming to k.peer)
         → (p.outbox.senders ≡ p0.outbox.senders) ⊎ ((outstanding_over p.outbox.senders < outstanding_over p0.outbox.senders) ⊎ Coming to' p)
     by (inr (inl less)) = inr (inl (let a = e.least in omega arith))
-    by (inr (inr c)) = inr (inr (record {
-      answer = c.answer;
-      low = c.low;
-      waits = emitted-waits (pace_of k.peer now) k.peer.outbox c.answer.channel c.answer.number sound c.waits;
-      peer = came.peer;
-      is = came.is;
-      there = came.kept.acknowledgements c.answer (subst (λ (x : Peering). Has x.outbox.acknowledgements c.answer) (same-peer to c.peer k.other c.is k.other_is) c.there);
-    }))
+    by (inr (inr c)) = inr (inr (still c))
     by (inl same) = elim e.how [
       | inl stays ↦ inl (stays ∙ same)
       | inr b ↦ elim b [
@@ -174,21 +242,21 @@ sending-many joined D now there zero p0 q0 from to from' to' m k = subst (λ (x 
 sending-many joined D now there (suc n) p0 q0 from to from' to' m k = sending-many joined D now there n p0 q0 m.0 m.1 from' to' m.3 (sending-one joined D now there p0 q0 from to m.0 m.1 m.2 k)
 
 -- an acknowledgement that waits goes and comes, or waits still
-answers-many : (joined : Bool) (now there n : ℕ) (from to from' to' : End) (q p : Peering) (a : Acknowledgement) → PutsMany now there n from to from' to' → Joint joined from to → from.peer ≡ Some q → q.state ≡ state.Connected
-    → to.peer ≡ Some p → p.state ≡ state.Connected → a.channel < 255 → Waits p.outbox.senders a.channel a.number → Has q.outbox.acknowledgements a
+answers-many : (joined : Bool) (now there n : ℕ) (from to from' to' : End) (q p : Peering) (a : Acknowledgement) (t : Sent) → PutsMany now there n from to from' to' → Joint joined from to → from.peer ≡ Some q → q.state ≡ state.Connected
+    → to.peer ≡ Some p → p.state ≡ state.Connected → a.channel < 255 → HasSent p.outbox.senders a.channel t → t.command.number ≡ a.number → went_at a.time t.transmission ≡ true → Has q.outbox.acknowledgements a
     → (r : Peering) × (to'.peer ≡ Some r) × ((outstanding_over r.outbox.senders < outstanding_over p.outbox.senders) ⊎ ((s : Peering) × (from'.peer ≡ Some s) × Has s.outbox.acknowledgements a))
-answers-many joined now there zero from to from' to' q p a m j is on other_is other_on low w has =
+answers-many joined now there zero from to from' to' q p a t m j is on other_is other_on low w number went_so has =
     (p, ap (λ (x : End). x.peer) m.1 ∙ other_is, inr (q, ap (λ (x : End). x.peer) m.0 ∙ is, has))
-answers-many joined now there (suc n) from to from' to' q p a m j is on other_is other_on low w has = elim ((go-or-stay (pace_of q now) q.outbox).acknowledgements a has) [
+answers-many joined now there (suc n) from to from' to' q p a t m j is on other_is other_on low w number went_so has = elim ((go-or-stay (pace_of q now) q.outbox).acknowledgements a has) [
   | inl stays ↦ elim came.kept.senders [
     | inl same ↦
-        let r = answers-many joined now there n m.0 m.1 from' to' (put_out q now) came.peer a m.3 next g.peer on came.is came.connected low (subst (λ (l : List SendingEnd). Waits l a.channel a.number) (sym same) w) stays in
+        let r = answers-many joined now there n m.0 m.1 from' to' (put_out q now) came.peer a t m.3 next g.peer on came.is came.connected low (subst (λ (l : List SendingEnd). HasSent l a.channel t) (sym same) w) number went_so stays in
         (r.0, r.1, elim r.2 [ inl less ↦ inl (subst (λ (l : List SendingEnd). outstanding_over r.0.outbox.senders < outstanding_over l) same less) | inr s ↦ inr s ])
     | inr less ↦ (rest.other, rest.other_is, inl (let l = kept-least came.peer rest.other rest.other_kept in omega arith))
   ]
   | inr went ↦
       let put = g.put (acknowledgement_of a) went in
-      let less = came-less joined there (now % 65536) m.0 o.new to o.arrived p put.0 a o.come put.1 out other_is other_on low w put.3 put.2 (put.5 refl) in
+      let less = came-less joined there (now % 65536) m.0 o.new to o.arrived p put.0 a t o.come put.1 out other_is other_on low w number went_so put.3 put.2 (put.5 refl) in
       let it : less.0 ≡ arrives.peer = same-peer o.arrived less.0 arrives.peer less.1 arrives.is in
       let sooner : outstanding_over arrives.peer.outbox.senders < outstanding_over p.outbox.senders = subst (λ (x : Peering). outstanding_over x.outbox.senders < outstanding_over p.outbox.senders) it less.2 in
       let taken = kept-least arrives.peer takes.peer takes.kept in
@@ -223,8 +291,8 @@ answers-many joined now there (suc n) from to from' to' q p a m j is on other_is
 
 -- all acknowledgements that wait go and come, or wait still; what comes takes its command away
 pub answers-all : (joined : Bool) (D : ℕ → Sent → Type 0) (now there n : ℕ) (from to from' to' : End) (q p : Peering) → PutsMany now there n from to from' to' → Joint joined from to → from.peer ≡ Some q → q.state ≡ state.Connected
-    → to.peer ≡ Some p → p.state ≡ state.Connected → ((channel : ℕ) (t : Sent) → HasSent p.outbox.senders channel t → D channel t ⊎ AnswersAt q channel t.command.number)
-    → (r : Peering) × (to'.peer ≡ Some r) × (s : Peering) × (from'.peer ≡ Some s) × ((channel : ℕ) (t : Sent) → HasSent r.outbox.senders channel t → D channel t ⊎ AnswersAt s channel t.command.number)
+    → to.peer ≡ Some p → p.state ≡ state.Connected → ((channel : ℕ) (t : Sent) → HasSent p.outbox.senders channel t → D channel t ⊎ AnswersAt q channel t)
+    → (r : Peering) × (to'.peer ≡ Some r) × (s : Peering) × (from'.peer ≡ Some s) × ((channel : ℕ) (t : Sent) → HasSent r.outbox.senders channel t → D channel t ⊎ AnswersAt s channel t)
 answers-all joined D now there zero from to from' to' q p m j is on other_is other_on all =
     (p, ap (λ (x : End). x.peer) m.1 ∙ other_is, q, ap (λ (x : End). x.peer) m.0 ∙ is, all)
 answers-all joined D now there (suc n) from to from' to' q p m j is on other_is other_on all =
@@ -251,22 +319,22 @@ answers-all joined D now there (suc n) from to from' to' q p m j is on other_is 
     came : Came to m.1 p
     came = then-came to o.arrived m.1 p arrives takes
 
-    left : (channel : ℕ) (t : Sent) → HasSent came.peer.outbox.senders channel t → D channel t ⊎ AnswersAt (put_out q now) channel t.command.number
+    left : (channel : ℕ) (t : Sent) → HasSent came.peer.outbox.senders channel t → D channel t ⊎ AnswersAt (put_out q now) channel t
     left channel t h = by (all channel t old)
       where
         old : HasSent p.outbox.senders channel t
         old = came.kept.sent channel t h
 
-        by : D channel t ⊎ AnswersAt q channel t.command.number → D channel t ⊎ AnswersAt (put_out q now) channel t.command.number
+        by : D channel t ⊎ AnswersAt q channel t → D channel t ⊎ AnswersAt (put_out q now) channel t
         by (inl d) = inl d
         by (inr w) = elim ((go-or-stay (pace_of q now) q.outbox).acknowledgements a w.1) [
-          | inl stays ↦ inr (w.0, stays)
+          | inl stays ↦ inr (w.0, stays, w.2)
           | inr went ↦
               let put = g.put (acknowledgement_of a) went in
               let low = low-channel joined to from p channel t.command.number (joint-swap joined from to j) other_is (old.0, old.1, Has-nums old.0.sender.sent t old.2) in
-              let none = came-none joined there (now % 65536) m.0 o.new to o.arrived p put.0 a o.come put.1 out other_is other_on low put.3 put.2 (put.5 refl) in
+              let none = came-none joined there (now % 65536) m.0 o.new to o.arrived p put.0 a t o.come put.1 out other_is other_on low refl w.2 put.3 put.2 (put.5 refl) in
               let it : none.0 ≡ arrives.peer = same-peer o.arrived none.0 arrives.peer none.1 arrives.is in
-              absurd (none.2 t (subst (λ (y : Peering). HasSent y.outbox.senders channel t) (sym it) (takes.kept.sent channel t h)) refl)
+              absurd (none.2 (subst (λ (y : Peering). HasSent y.outbox.senders channel t) (sym it) (takes.kept.sent channel t h)))
         ]
           where
             a : Acknowledgement
@@ -284,7 +352,7 @@ pub record Exchanged (joined : Bool) (D : ℕ → Sent → Type 0) (now : ℕ) (
       ⊎ ((then'.other.outbox.senders ≡ p0.outbox.senders) × (first.peer.outbox.senders ≡ p0.outbox.senders) × NothingMayGo (pace_of first.peer now) first.peer.outbox)
 
 pub exchanged : (joined : Bool) (D : ℕ → Sent → Type 0) (now there : ℕ) (p0 q0 : Peering) (from to from1 to1 to2 from2 : End) → Joint joined from to → from.peer ≡ Some p0 → p0.state ≡ state.Connected → to.peer ≡ Some q0 → q0.state ≡ state.Connected
-    → PutsAll now there from to from1 to1 → PutsAll there now to1 from1 to2 from2 → ((channel : ℕ) (t : Sent) → HasSent p0.outbox.senders channel t → D channel t ⊎ OnItsWay to channel t.command.number)
+    → PutsAll now there from to from1 to1 → PutsAll there now to1 from1 to2 from2 → ((channel : ℕ) (t : Sent) → HasSent p0.outbox.senders channel t → D channel t ⊎ OnItsWay to channel t)
     → Exchanged joined D now p0 q0 from1 to1 to2 from2
 exchanged joined D now there p0 q0 from to from1 to1 to2 from2 j is on other_is other_on forth back all = record {
   first = s;
@@ -307,10 +375,10 @@ exchanged joined D now there p0 q0 from to from1 to1 to2 from2 j is on other_is 
     u : Peering
     u = t.other
 
-    at : (channel : ℕ) (x : Sent) → HasSent s.peer.outbox.senders channel x → D channel x ⊎ AnswersAt s.other channel x.command.number
+    at : (channel : ℕ) (x : Sent) → HasSent s.peer.outbox.senders channel x → D channel x ⊎ AnswersAt s.other channel x
     at channel x h = elim (s.all channel x h) [
       | inl d ↦ inl d
-      | inr w ↦ inr (w.0, subst (λ (y : Peering). Has y.outbox.acknowledgements (record { channel = channel; number = x.command.number; time = w.0 })) (same-peer to1 w.1 s.other w.2 s.other_is) w.3)
+      | inr w ↦ inr (w.0, subst (λ (y : Peering). Has y.outbox.acknowledgements (record { channel = channel; number = x.command.number; time = w.0 })) (same-peer to1 w.1 s.other w.2 s.other_is) w.3, w.4)
     ]
 
     none : (channel : ℕ) (x : Sent) → HasSent u.outbox.senders channel x → D channel x
@@ -337,7 +405,7 @@ exchanged joined D now there p0 q0 from to from1 to1 to2 from2 j is on other_is 
       | inr less ↦ inl (subst (λ (l : List SendingEnd). outstanding_over u.outbox.senders < outstanding_over l) same less)
     ]
     by (inr (inr c)) =
-        let r = answers-many joined there now back.datagrams to1 from1 to2 from2 s.other s.peer c.answer back.puts (joint-swap joined from1 to1 s.joint) s.other_is s.other_connected s.is s.connected c.low c.waits
+        let r = answers-many joined there now back.datagrams to1 from1 to2 from2 s.other s.peer c.answer c.sent back.puts (joint-swap joined from1 to1 s.joint) s.other_is s.other_connected s.is s.connected c.low c.has c.number c.went
         (subst (λ (x : Peering). Has x.outbox.acknowledgements c.answer) (same-peer to1 c.peer s.other c.is s.other_is) c.there) in
         let it : r.0 ≡ u = same-peer from2 r.0 u r.1 t.other_is in
         elim r.2 [
@@ -357,7 +425,7 @@ pub record Ticked (now : ℕ) (p q : Peering) : Type 0 where
   pub mtu : q.terms.mtu ≡ p.terms.mtu
   pub idle : NoneDue q.outbox.senders → (q.outbox.senders ≡ p.outbox.senders) × NoneLate now p.outbox.senders
   pub from : (channel : ℕ) (t : Sent) → HasSent q.outbox.senders channel t → t.transmission.due ≡ false → HasSent p.outbox.senders channel t × (has_waited_out now t ≡ false)
-  pub was : (channel : ℕ) (t : Sent) → HasSent q.outbox.senders channel t → (x : Sent) × HasSent p.outbox.senders channel x × (x.command.number ≡ t.command.number)
+  pub was : (channel : ℕ) (t : Sent) → HasSent q.outbox.senders channel t → (x : Sent) × HasSent p.outbox.senders channel x × (x.command.number ≡ t.command.number) × ((time : ℕ) → went_at time x.transmission ≡ went_at time t.transmission)
   pub still : (channel number : ℕ) → Waits p.outbox.senders channel number → Waits q.outbox.senders channel number
   pub acknowledgements : q.outbox.acknowledgements ≡ p.outbox.acknowledgements
 
@@ -397,6 +465,14 @@ all-marks-none bound now (x ∷ xs) h =
         | inr j ↦ λ t m. rest.1 s j t m
       ]),
     )
+
+-- marks leave the times of sends
+went-marked : (bound now : ℕ) (x : Sent) (time : ℕ) → went_at time (marked bound now x).transmission ≡ went_at time x.transmission
+went-marked bound now x time = by (transmission.is_late now x.transmission)
+  where
+    by : (b : Bool) → went_at time (cond b (record x.transmission { timeout = transmission.grown_time bound x.transmission.timeout; due = true }) x.transmission) ≡ went_at time x.transmission
+    by true = refl
+    by false = refl
 
 -- what is sent after the marks
 sent-marked : (bound now : ℕ) (xs : List SendingEnd) (channel : ℕ) (t : Sent) → HasSent (map (marked_sender bound now) xs) channel t → (x : SendingEnd) × (slice_get xs channel ≡ Some x) × Has (map (marked bound now) x.sender.sent) t
@@ -447,7 +523,7 @@ ticked-so p now stays = by (has_ended p.outbox now p.patience p.heard) (has_late
           mtu = refl;
           idle = λ h. all-marks-none (growth_bound p) now p.outbox.senders h;
           from = λ channel t h due. (let m = sent-marked (growth_bound p) now p.outbox.senders channel t h in let k = from-marked (growth_bound p) now m.0.sender.sent t m.2 due in ((m.0, m.1, k.0), k.1));
-          was = λ channel t h. (let m = sent-marked (growth_bound p) now p.outbox.senders channel t h in let k = Has-mapped (marked (growth_bound p) now) m.0.sender.sent t m.2 in (k.0, (m.0, m.1, k.1), ap (λ (y : Sent). y.command.number) k.2));
+          was = λ channel t h. (let m = sent-marked (growth_bound p) now p.outbox.senders channel t h in let k = Has-mapped (marked (growth_bound p) now) m.0.sender.sent t m.2 in (k.0, (m.0, m.1, k.1), ap (λ (y : Sent). y.command.number) k.2, λ time. sym (went-marked (growth_bound p) now k.0 time) ∙ ap (λ (y : Sent). went_at time y.transmission) k.2));
           still = waits-marked (growth_bound p) now p.outbox.senders;
           acknowledgements = refl;
         }))
@@ -458,7 +534,7 @@ ticked-so p now stays = by (has_ended p.outbox now p.patience p.heard) (has_late
           mtu = refl;
           idle = λ h. (refl, λ s k t m. none-of (has_waited_out now) s.sender.sent t (none-of (λ (y : SendingEnd). list_any (has_waited_out now) y.sender.sent) p.outbox.senders s (or-both _ _ f).1 k) m);
           from = λ channel t h due. (h, none-of (has_waited_out now) h.0.sender.sent t (none-of (λ (y : SendingEnd). list_any (has_waited_out now) y.sender.sent) p.outbox.senders h.0 (or-both _ _ f).1 (Has-at p.outbox.senders channel h.0 h.1)) h.2);
-          was = λ channel t h. (t, h, refl);
+          was = λ channel t h. (t, h, refl, λ time. refl);
           still = λ channel number w. w;
           acknowledgements = refl;
         }))
@@ -541,10 +617,10 @@ pub record Rounded (joined : Bool) (D E : ℕ → Sent → Type 0) (now there : 
   pub due_one : (channel : ℕ) (t : Sent) → HasSent between.outbox.senders channel t → t.transmission.due ≡ false
   pub none_two : (channel : ℕ) (t : Sent) → HasSent progresses.two.outbox.senders channel t → E channel t
   pub due_two : (channel : ℕ) (t : Sent) → HasSent progresses.two.outbox.senders channel t → t.transmission.due ≡ false
-  pub way : (channel : ℕ) (t : Sent) → HasSent progresses.one.outbox.senders channel t → HasSent between.outbox.senders channel t ⊎ OnItsWay d.two channel t.command.number
+  pub way : (channel : ℕ) (t : Sent) → HasSent progresses.one.outbox.senders channel t → HasSent between.outbox.senders channel t ⊎ OnItsWay d.two channel t
 
 rounded : (joined : Bool) (D E : ℕ → Sent → Type 0) (now there : ℕ) (c d : Connection) (p q : Peering) → Invariant joined c → IsOpen c.one p → IsOpen c.two q → (r : RoundOfBoth now there c d)
-    → ((channel : ℕ) (t : Sent) → HasSent (ticked p now).outbox.senders channel t → D channel t ⊎ OnItsWay c.two channel t.command.number)
+    → ((channel : ℕ) (t : Sent) → HasSent (ticked p now).outbox.senders channel t → D channel t ⊎ OnItsWay c.two channel t)
     → ((channel : ℕ) (t : Sent) → HasSent (ticked q there).outbox.senders channel t → E channel t) → Rounded joined D E now there p q r
 rounded joined D E now there c d p q i open_one open_two r waits_one waits_two = record {
   progresses = record {
@@ -590,7 +666,7 @@ rounded joined D E now there c d p q i open_one open_two r waits_one waits_two =
     tick_two : Ticked there q q0
     tick_two = two-ticks now there c d q open_two r
 
-    waits : (channel : ℕ) (t : Sent) → HasSent p0.outbox.senders channel t → D channel t ⊎ OnItsWay r.two channel t.command.number
+    waits : (channel : ℕ) (t : Sent) → HasSent p0.outbox.senders channel t → D channel t ⊎ OnItsWay r.two channel t
     waits channel t h = elim (waits_one channel t h) [
       | inl x ↦ inl x
       | inr w ↦ inr (
@@ -599,6 +675,7 @@ rounded joined D E now there c d p q i open_one open_two r waits_one waits_two =
         two_is,
         subst (λ (l : List Acknowledgement). Has l (record { channel = channel; number = t.command.number; time = w.0 })) (sym tick_two.acknowledgements)
             (subst (λ (x : Peering). Has x.outbox.acknowledgements (record { channel = channel; number = t.command.number; time = w.0 })) (same-peer c.two w.1 q w.2 open_two.is) w.3),
+        w.4,
       )
     ]
 
@@ -693,7 +770,7 @@ less-or-none joined D E now there p q c d r k none_one none_two = elim k.progres
 
 -- all that waits at the one end was acknowledged, by what waits to go at the other, where nothing waits
 record Fresh (c : Connection) (p q : Peering) : Type 0 where
-  one : (channel : ℕ) (t : Sent) → HasSent p.outbox.senders channel t → OnItsWay c.two channel t.command.number
+  one : (channel : ℕ) (t : Sent) → HasSent p.outbox.senders channel t → OnItsWay c.two channel t
   two : NothingSent q
 
 fresh-after : (joined : Bool) (D E : ℕ → Sent → Type 0) (now there : ℕ) (p q : Peering) (c d : Connection) (r : RoundOfBoth now there c d) (k : Rounded joined D E now there p q r) → NothingSent k.between → NothingSent k.progresses.two
@@ -753,7 +830,7 @@ fresh-rounds joined (m ∷ moments) c d p q i is_one is_two on_one on_two f r fe
     k : Rounded joined None' None' m.0 m.1 r.0 r.1 r.5
     k = rounded joined None' None' m.0 m.1 c r.4 r.0 r.1 i r.2 r.3 r.5
         (λ channel t h. (let w = (one-ticks m.0 m.1 c r.4 r.0 r.2 r.5).was channel t h in
-        inr (subst (λ n. OnItsWay c.two channel n) w.2 (f.one channel w.0 (subst (λ (x : Peering). HasSent x.outbox.senders channel w.0) same_one w.1)))))
+        inr (on-its-way c.two channel w.0 t w.2 w.3 (f.one channel w.0 (subst (λ (x : Peering). HasSent x.outbox.senders channel w.0) same_one w.1)))))
         (λ channel t h. (let w = (two-ticks m.0 m.1 c r.4 r.1 r.3 r.5).was channel t h in f.two channel w.0 (subst (λ (x : Peering). HasSent x.outbox.senders channel w.0) same_two w.1)))
 
 pub all-get-through : (joined : Bool) (now there : ℕ) (moments : List (ℕ × ℕ)) (c b d : Connection) (p q : Peering) → Invariant joined c → IsOpen c.one p → IsOpen c.two q → AllOver now p → AllOver there q

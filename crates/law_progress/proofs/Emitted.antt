@@ -34,16 +34,16 @@ abbrev pub AreReliable : List Sent → Type 0
 AreReliable sent = (t : Sent) → Has sent t → t.command.reliable ≡ true
 
 -- a sender puts out what is due next: fewer are outstanding, or a reliable command went, and waits
-record Stepped (s : Sender) (n : Next) : Type 0 where
+record Stepped (now : ℕ) (s : Sender) (n : Next) : Type 0 where
   least : outstanding_at n.sender ≤ outstanding_at s
-  how : (outstanding_at n.sender < outstanding_at s) ⊎ ((n.command.reliable ≡ true) × Has (nums n.sender.sent) n.command.number)
+  how : (outstanding_at n.sender < outstanding_at s) ⊎ ((n.command.reliable ≡ true) × (t : Sent) × Has n.sender.sent t × (t.command.number ≡ n.command.number) × (t.transmission.last ≡ now))
   kept : (x : ℕ) → Has (nums s.sent) x → Has (nums n.sender.sent) x
   reliable : AreReliable n.sender.sent
   unreliable : n.command.reliable ≡ false → outstanding_at n.sender < outstanding_at s
-  from : (t : Sent) → Has n.sender.sent t → Has s.sent t ⊎ ((n.command.reliable ≡ true) × (n.command.number ≡ t.command.number))
+  from : (t : Sent) → Has n.sender.sent t → Has s.sent t ⊎ ((n.command.reliable ≡ true) × (n.command.number ≡ t.command.number) × (t.transmission.last ≡ now))
 
-stepped : (o : Occasion) (s : Sender) (n : Next) → AreReliable s.sent → Goes o s n → Stepped s n
-stepped o s n all (First c rest q may is) = subst (λ (x : Next). Stepped s x) is (by c.reliable refl)
+stepped : (o : Occasion) (s : Sender) (n : Next) → AreReliable s.sent → Goes o s n → Stepped o.now s n
+stepped o s n all (First c rest q may is) = subst (λ (x : Next). Stepped o.now s x) is (by c.reliable refl)
   where
     p : Sent
     p = begun o.now o.timeout c
@@ -58,16 +58,16 @@ stepped o s n all (First c rest q may is) = subst (λ (x : Next). Stepped s x) i
     first : Bool → Next
     first b = record { command = c; added = cond b (length c.body) 0; sender = record s { queued = rest; sent = cond b (s.sent ++ p ∷ []) s.sent } }
 
-    by : (b : Bool) → c.reliable ≡ b → Stepped s (first c.reliable)
-    by true e = subst (λ b. Stepped s (first b)) (sym e) (record {
+    by : (b : Bool) → c.reliable ≡ b → Stepped o.now s (first c.reliable)
+    by true e = subst (λ b. Stepped o.now s (first b)) (sym e) (record {
       least = (let k : length (s.sent ++ p ∷ []) ≡ length s.sent + 1 = longer s.sent in let f : length s.queued ≡ suc (length rest) = fewer in omega arith);
-      how = inr (e, Has-nums (s.sent ++ p ∷ []) p (Has-push s.sent p));
+      how = inr (e, p, Has-push s.sent p, refl, refl);
       kept = λ x h. Has-more s.sent (p ∷ []) x h;
       reliable = λ t h. elim (Has-pushed s.sent p t h) [ inl same ↦ subst (λ (y : Sent). y.command.reliable ≡ true) same e | inr old ↦ all t old ];
       unreliable = λ f. absurd (let z : true ≡ false = sym e ∙ f in cc);
-      from = λ t h. elim (Has-pushed s.sent p t h) [ inl same ↦ inr (e, ap (λ (y : Sent). y.command.number) same) | inr old ↦ inl old ];
+      from = λ t h. elim (Has-pushed s.sent p t h) [ inl same ↦ inr (e, ap (λ (y : Sent). y.command.number) same, ap (λ (y : Sent). y.transmission.last) (sym same)) | inr old ↦ inl old ];
     })
-    by false e = subst (λ b. Stepped s (first b)) (sym e) (record {
+    by false e = subst (λ b. Stepped o.now s (first b)) (sym e) (record {
       least = (let k : length (cond false (s.sent ++ p ∷ []) s.sent) ≡ length s.sent = refl in let f : length s.queued ≡ suc (length rest) = fewer in omega arith);
       how = inl (let k : length (cond false (s.sent ++ p ∷ []) s.sent) ≡ length s.sent = refl in let f : length s.queued ≡ suc (length rest) = fewer in omega arith);
       kept = λ x h. h;
@@ -75,13 +75,13 @@ stepped o s n all (First c rest q may is) = subst (λ (x : Next). Stepped s x) i
       unreliable = λ z. (let k : length (cond false (s.sent ++ p ∷ []) s.sent) ≡ length s.sent = refl in let f : length s.queued ≡ suc (length rest) = fewer in omega arith);
       from = λ t h. inl h;
     })
-stepped o s n all (Again i p there due is) = subst (λ (x : Next). Stepped s x) is (record {
+stepped o s n all (Again i p there due is) = subst (λ (x : Next). Stepped o.now s x) is (record {
   least = (let k = set-length s.sent i (again o.now p) in omega arith);
-  how = inr (all p has, subst (λ (l : List ℕ). Has l p.command.number) (sym same) (Has-nums s.sent p has));
+  how = inr (all p has, again o.now p, Has-at (slice_set s.sent i (again o.now p)) i (again o.now p) (set-same s.sent i (again o.now p) p there), refl, refl);
   kept = λ x h. subst (λ (l : List ℕ). Has l x) (sym same) h;
   reliable = λ t h. elim (Has-set s.sent i (again o.now p) t h) [ inl now ↦ subst (λ (y : Sent). y.command.reliable ≡ true) now (all p has) | inr old ↦ all t old ];
   unreliable = λ f. absurd (let z : true ≡ false = sym (all p has) ∙ f in cc);
-  from = λ t h. elim (Has-set s.sent i (again o.now p) t h) [ inl now ↦ inr (all p has, ap (λ (y : Sent). y.command.number) now) | inr old ↦ inl old ];
+  from = λ t h. elim (Has-set s.sent i (again o.now p) t h) [ inl now ↦ inr (all p has, ap (λ (y : Sent). y.command.number) now, ap (λ (y : Sent). y.transmission.last) (sym now)) | inr old ↦ inl old ];
 })
   where
     has : Has s.sent p
@@ -90,36 +90,39 @@ stepped o s n all (Again i p there due is) = subst (λ (x : Next). Stepped s x) 
     same : nums (slice_set s.sent i (again o.now p)) ≡ nums s.sent
     same = set-nums s.sent i o.now p there
 
--- a reliable command of a channel was put in, and waits
-pub record Went (ms : List Message) (ys : List SendingEnd) : Type 0 where
+-- a reliable command of a channel was put in at this moment, and waits
+pub record Went (now : ℕ) (ms : List Message) (ys : List SendingEnd) : Type 0 where
   pub channel : ℕ
   pub end : SendingEnd
   pub there : slice_get ys channel ≡ Some end
   pub command : DataCommand
   pub reliable : command.reliable ≡ true
   pub put : Has ms (message_of channel command)
-  pub waits : Has (nums end.sender.sent) command.number
+  pub sent : Sent
+  pub waits : Has end.sender.sent sent
+  pub number : sent.command.number ≡ command.number
+  pub last : sent.transmission.last ≡ now
 
 -- each sender has the channel of its place, and what waits is reliable
 abbrev pub AreSound : List SendingEnd → Type 0
 AreSound senders = (k : ℕ) (s : SendingEnd) → slice_get senders k ≡ Some s → (s.channel ≡ k) × AreReliable s.sender.sent
 
 -- the channels were xs, and are ys since these messages were put in
-pub record Emitted (xs : List SendingEnd) (ms : List Message) (ys : List SendingEnd) : Type 0 where
+pub record Emitted (now : ℕ) (xs : List SendingEnd) (ms : List Message) (ys : List SendingEnd) : Type 0 where
   pub least : outstanding_over ys ≤ outstanding_over xs
   pub sound : AreSound ys
-  pub how : (ys ≡ xs) ⊎ ((outstanding_over ys < outstanding_over xs) ⊎ Went ms ys)
+  pub how : (ys ≡ xs) ⊎ ((outstanding_over ys < outstanding_over xs) ⊎ Went now ms ys)
 
 -- nothing of a channel went
-more : (xs : List SendingEnd) (ms : List Message) (ys : List SendingEnd) (m : Message) → Emitted xs ms ys → Emitted xs (ms ++ m ∷ []) ys
-more xs ms ys m e = record {
+more : (now : ℕ) (xs : List SendingEnd) (ms : List Message) (ys : List SendingEnd) (m : Message) → Emitted now xs ms ys → Emitted now xs (ms ++ m ∷ []) ys
+more now xs ms ys m e = record {
   least = e.least;
   sound = e.sound;
   how = elim e.how [
     | inl same ↦ inl same
     | inr b ↦ elim b [
       | inl less ↦ inr (inl less)
-      | inr w ↦ inr (inr (record { channel = w.channel; end = w.end; there = w.there; command = w.command; reliable = w.reliable; put = Has-push_left ms m (message_of w.channel w.command) w.put; waits = w.waits }))
+      | inr w ↦ inr (inr (record { channel = w.channel; end = w.end; there = w.there; command = w.command; reliable = w.reliable; put = Has-push_left ms m (message_of w.channel w.command) w.put; sent = w.sent; waits = w.waits; number = w.number; last = w.last }))
     ]
   ];
 }
@@ -130,9 +133,9 @@ sound-set xs k s new there same reliable all j y e = elim (get-set xs k j new y 
   | inr w ↦ all j y w.1
 ]
 
-puts : (xs : List SendingEnd) (ms : List Message) (ys : List SendingEnd) (k : ℕ) (s : SendingEnd) (n : Next) → slice_get ys k ≡ Some s → Emitted xs ms ys → Stepped s.sender n
-    → Emitted xs (ms ++ message_of s.channel n.command ∷ []) (slice_set ys k (record s { sender = n.sender }))
-puts xs ms ys k s n there e p = record {
+puts : (now : ℕ) (xs : List SendingEnd) (ms : List Message) (ys : List SendingEnd) (k : ℕ) (s : SendingEnd) (n : Next) → slice_get ys k ≡ Some s → Emitted now xs ms ys → Stepped now s.sender n
+    → Emitted now xs (ms ++ message_of s.channel n.command ∷ []) (slice_set ys k (record s { sender = n.sender }))
+puts now xs ms ys k s n there e p = record {
   least = (let a = total in let b = e.least in let c = p.least in omega arith);
   sound = sound-set ys k s new there refl p.reliable e.sound;
   how = elim p.how [
@@ -144,7 +147,10 @@ puts xs ms ys k s n there e p = record {
       command = n.command;
       reliable = w.0;
       put = subst (λ j. Has (ms ++ message_of s.channel n.command ∷ []) (message_of j n.command)) (e.sound k s there).0 (Has-push ms (message_of s.channel n.command));
-      waits = w.1;
+      sent = w.1;
+      waits = w.2;
+      number = w.3;
+      last = w.4;
     }))
   ];
 }
@@ -155,9 +161,9 @@ puts xs ms ys k s n there e p = record {
     total : outstanding_over (slice_set ys k new) + outstanding_at s.sender ≡ outstanding_over ys + outstanding_at n.sender
     total = over-set ys k s new there
 
-drops : (xs : List SendingEnd) (ms : List Message) (ys : List SendingEnd) (k : ℕ) (s : SendingEnd) (n : Next) → slice_get ys k ≡ Some s → n.command.reliable ≡ false → Emitted xs ms ys → Stepped s.sender n
-    → Emitted xs ms (slice_set ys k (record s { sender = with_skipped n.sender }))
-drops xs ms ys k s n there kind e p = record {
+drops : (now : ℕ) (xs : List SendingEnd) (ms : List Message) (ys : List SendingEnd) (k : ℕ) (s : SendingEnd) (n : Next) → slice_get ys k ≡ Some s → n.command.reliable ≡ false → Emitted now xs ms ys → Stepped now s.sender n
+    → Emitted now xs ms (slice_set ys k (record s { sender = with_skipped n.sender }))
+drops now xs ms ys k s n there kind e p = record {
   least = (let a = total in let b = e.least in let c = p.unreliable kind in let d = skipped-length n.sender.queued in omega arith);
   sound = sound-set ys k s new there refl p.reliable e.sound;
   how = inr (inl (let a = total in let b = e.least in let c = p.unreliable kind in let d = skipped-length n.sender.queued in omega arith));
@@ -169,15 +175,15 @@ drops xs ms ys k s n there kind e p = record {
     total : outstanding_over (slice_set ys k new) + outstanding_at s.sender ≡ outstanding_over ys + outstanding_at (with_skipped n.sender)
     total = over-set ys k s new there
 
-pub emitted : (pace : Pace) (o : Outbox) → AreSound o.senders → Emitted o.senders (filled pace o).messages (filled pace o).outbox.senders
-emitted pace o all = by-filling pace o (λ f. Emitted o.senders f.messages f.outbox.senders) (record {
+pub emitted : (pace : Pace) (o : Outbox) → AreSound o.senders → Emitted pace.now o.senders (filled pace o).messages (filled pace o).outbox.senders
+emitted pace o all = by-filling pace o (λ f. Emitted pace.now o.senders f.messages f.outbox.senders) (record {
   closes = λ f e. e;
-  acknowledges = λ f a rest t e. more o.senders f.messages f.outbox.senders _ e;
-  controls = λ f n t e. more o.senders f.messages f.outbox.senders _ e;
-  puts_unsequenced = λ f u rest t is e. more o.senders f.messages f.outbox.senders _ e;
+  acknowledges = λ f a rest t e. more pace.now o.senders f.messages f.outbox.senders _ e;
+  controls = λ f n t e. more pace.now o.senders f.messages f.outbox.senders _ e;
+  puts_unsequenced = λ f u rest t is e. more pace.now o.senders f.messages f.outbox.senders _ e;
   drops_unsequenced = λ f u rest t is e. e;
-  puts_data = λ f k s n t there due e. puts o.senders f.messages f.outbox.senders k s n there e (stepped _ s.sender n (e.sound k s there).1 (goes-of _ s.sender n due));
-  drops_data = λ f k s n t there due kind e. drops o.senders f.messages f.outbox.senders k s n there kind e (stepped _ s.sender n (e.sound k s there).1 (goes-of _ s.sender n due));
+  puts_data = λ f k s n t there due e. puts pace.now o.senders f.messages f.outbox.senders k s n there e (stepped _ s.sender n (e.sound k s there).1 (goes-of _ s.sender n due));
+  drops_data = λ f k s n t there due kind e. drops pace.now o.senders f.messages f.outbox.senders k s n there kind e (stepped _ s.sender n (e.sound k s there).1 (goes-of _ s.sender n due));
 }) (record { least = omega arith; sound = all; how = inl refl })
 
 -- what waits on a channel
@@ -195,61 +201,61 @@ waits-set xs k s new channel number there kept w = elim (same-number k channel) 
 
 -- what waits goes on to wait while datagrams are filled
 pub emitted-waits : (pace : Pace) (o : Outbox) (channel number : ℕ) → AreSound o.senders → Waits o.senders channel number → Waits (filled pace o).outbox.senders channel number
-emitted-waits pace o channel number all w = (by-filling pace o (λ f. Emitted o.senders f.messages f.outbox.senders × Waits f.outbox.senders channel number) (record {
+emitted-waits pace o channel number all w = (by-filling pace o (λ f. Emitted pace.now o.senders f.messages f.outbox.senders × Waits f.outbox.senders channel number) (record {
   closes = λ f e. e;
-  acknowledges = λ f a rest t e. (more o.senders f.messages f.outbox.senders _ e.0, e.1);
-  controls = λ f n t e. (more o.senders f.messages f.outbox.senders _ e.0, e.1);
-  puts_unsequenced = λ f u rest t is e. (more o.senders f.messages f.outbox.senders _ e.0, e.1);
+  acknowledges = λ f a rest t e. (more pace.now o.senders f.messages f.outbox.senders _ e.0, e.1);
+  controls = λ f n t e. (more pace.now o.senders f.messages f.outbox.senders _ e.0, e.1);
+  puts_unsequenced = λ f u rest t is e. (more pace.now o.senders f.messages f.outbox.senders _ e.0, e.1);
   drops_unsequenced = λ f u rest t is e. e;
   puts_data = λ f k s n t there due e. (let p = stepped _ s.sender n (e.0.sound k s there).1 (goes-of _ s.sender n due) in
-      (puts o.senders f.messages f.outbox.senders k s n there e.0 p, waits-set f.outbox.senders k s (record s { sender = n.sender }) channel number there p.kept e.1));
+      (puts pace.now o.senders f.messages f.outbox.senders k s n there e.0 p, waits-set f.outbox.senders k s (record s { sender = n.sender }) channel number there p.kept e.1));
   drops_data = λ f k s n t there due kind e. (let p = stepped _ s.sender n (e.0.sound k s there).1 (goes-of _ s.sender n due) in
-      (drops o.senders f.messages f.outbox.senders k s n there kind e.0 p, waits-set f.outbox.senders k s (record s { sender = with_skipped n.sender }) channel number there p.kept e.1));
+      (drops pace.now o.senders f.messages f.outbox.senders k s n there kind e.0 p, waits-set f.outbox.senders k s (record s { sender = with_skipped n.sender }) channel number there p.kept e.1));
 }) (record { least = omega arith; sound = all; how = inl refl }, w)).1
 
--- a reliable command of this number was put in
-abbrev pub PutIn : List Message → ℕ → ℕ → Type 0
-PutIn ms channel number = (c : DataCommand) × (c.reliable ≡ true) × (c.number ≡ number) × Has ms (message_of channel c)
+-- this reliable command was put in at this moment
+abbrev pub PutIn : ℕ → List Message → ℕ → Sent → Type 0
+PutIn now ms channel t = (c : DataCommand) × (c.reliable ≡ true) × (c.number ≡ t.command.number) × Has ms (message_of channel c) × (t.transmission.last ≡ now)
 
 -- all that waits waited before, or was put in
-abbrev AllFrom : List SendingEnd → List Message → List SendingEnd → Type 0
-AllFrom xs ms ys = (channel : ℕ) (t : Sent) → HasSent ys channel t → HasSent xs channel t ⊎ PutIn ms channel t.command.number
+abbrev AllFrom : ℕ → List SendingEnd → List Message → List SendingEnd → Type 0
+AllFrom now xs ms ys = (channel : ℕ) (t : Sent) → HasSent ys channel t → HasSent xs channel t ⊎ PutIn now ms channel t
 
-more-from : (xs : List SendingEnd) (ms : List Message) (ys : List SendingEnd) (m : Message) → AllFrom xs ms ys → AllFrom xs (ms ++ m ∷ []) ys
-more-from xs ms ys m all channel t h = elim (all channel t h) [ inl old ↦ inl old | inr w ↦ inr (w.0, w.1, w.2, Has-push_left ms m (message_of channel w.0) w.3) ]
+more-from : (now : ℕ) (xs : List SendingEnd) (ms : List Message) (ys : List SendingEnd) (m : Message) → AllFrom now xs ms ys → AllFrom now xs (ms ++ m ∷ []) ys
+more-from now xs ms ys m all channel t h = elim (all channel t h) [ inl old ↦ inl old | inr w ↦ inr (w.0, w.1, w.2, Has-push_left ms m (message_of channel w.0) w.3, w.4) ]
 
-set-from : (xs : List SendingEnd) (ms : List Message) (ys : List SendingEnd) (k : ℕ) (s new : SendingEnd) (more : List Message) → slice_get ys k ≡ Some s → AllFrom xs ms ys → ((m : Message) → Has ms m → Has more m)
-    → ((t : Sent) → Has new.sender.sent t → Has s.sender.sent t ⊎ PutIn more k t.command.number) → AllFrom xs more (slice_set ys k new)
-set-from xs ms ys k s new more there all grows from channel t h = elim (get-set ys k channel new h.0 h.1) [
+set-from : (now : ℕ) (xs : List SendingEnd) (ms : List Message) (ys : List SendingEnd) (k : ℕ) (s new : SendingEnd) (more : List Message) → slice_get ys k ≡ Some s → AllFrom now xs ms ys → ((m : Message) → Has ms m → Has more m)
+    → ((t : Sent) → Has new.sender.sent t → Has s.sender.sent t ⊎ PutIn now more k t) → AllFrom now xs more (slice_set ys k new)
+set-from now xs ms ys k s new more there all grows from channel t h = elim (get-set ys k channel new h.0 h.1) [
   | inl w ↦ elim (from t (subst (λ (y : SendingEnd). Has y.sender.sent t) (sym w.1) h.2)) [
     | inl old ↦ was (all channel t (s, subst (λ j. slice_get ys j ≡ Some s) w.0 there, old))
-    | inr put ↦ inr (subst (λ j. PutIn more j t.command.number) w.0 put)
+    | inr put ↦ inr (subst (λ j. PutIn now more j t) w.0 put)
   ]
   | inr w ↦ was (all channel t (h.0, w.1, h.2))
 ]
   where
-    was : HasSent xs channel t ⊎ PutIn ms channel t.command.number → HasSent xs channel t ⊎ PutIn more channel t.command.number
+    was : HasSent xs channel t ⊎ PutIn now ms channel t → HasSent xs channel t ⊎ PutIn now more channel t
     was (inl old) = inl old
-    was (inr w) = inr (w.0, w.1, w.2, grows (message_of channel w.0) w.3)
+    was (inr w) = inr (w.0, w.1, w.2, grows (message_of channel w.0) w.3, w.4)
 
-pub emitted-from : (pace : Pace) (o : Outbox) → AreSound o.senders → AllFrom o.senders (filled pace o).messages (filled pace o).outbox.senders
-emitted-from pace o all = (by-filling pace o (λ f. Emitted o.senders f.messages f.outbox.senders × AllFrom o.senders f.messages f.outbox.senders) (record {
+pub emitted-from : (pace : Pace) (o : Outbox) → AreSound o.senders → AllFrom pace.now o.senders (filled pace o).messages (filled pace o).outbox.senders
+emitted-from pace o all = (by-filling pace o (λ f. Emitted pace.now o.senders f.messages f.outbox.senders × AllFrom pace.now o.senders f.messages f.outbox.senders) (record {
   closes = λ f e. e;
-  acknowledges = λ f a rest t e. (more o.senders f.messages f.outbox.senders _ e.0, more-from o.senders f.messages f.outbox.senders _ e.1);
-  controls = λ f n t e. (more o.senders f.messages f.outbox.senders _ e.0, more-from o.senders f.messages f.outbox.senders _ e.1);
-  puts_unsequenced = λ f u rest t is e. (more o.senders f.messages f.outbox.senders _ e.0, more-from o.senders f.messages f.outbox.senders _ e.1);
+  acknowledges = λ f a rest t e. (more pace.now o.senders f.messages f.outbox.senders _ e.0, more-from pace.now o.senders f.messages f.outbox.senders _ e.1);
+  controls = λ f n t e. (more pace.now o.senders f.messages f.outbox.senders _ e.0, more-from pace.now o.senders f.messages f.outbox.senders _ e.1);
+  puts_unsequenced = λ f u rest t is e. (more pace.now o.senders f.messages f.outbox.senders _ e.0, more-from pace.now o.senders f.messages f.outbox.senders _ e.1);
   drops_unsequenced = λ f u rest t is e. e;
   puts_data = λ f k s n t there due e. (let p = stepped _ s.sender n (e.0.sound k s there).1 (goes-of _ s.sender n due) in (
-    puts o.senders f.messages f.outbox.senders k s n there e.0 p,
-    set-from o.senders f.messages f.outbox.senders k s (record s { sender = n.sender }) (f.messages ++ message_of s.channel n.command ∷ []) there e.1 (λ m h. Has-push_left f.messages (message_of s.channel n.command) m h)
+    puts pace.now o.senders f.messages f.outbox.senders k s n there e.0 p,
+    set-from pace.now o.senders f.messages f.outbox.senders k s (record s { sender = n.sender }) (f.messages ++ message_of s.channel n.command ∷ []) there e.1 (λ m h. Has-push_left f.messages (message_of s.channel n.command) m h)
         (λ x h. elim (p.from x h) [
           | inl old ↦ inl old
-          | inr w ↦ inr (n.command, w.0, w.1, subst (λ j. Has (f.messages ++ message_of s.channel n.command ∷ []) (message_of j n.command)) (e.0.sound k s there).0 (Has-push f.messages (message_of s.channel n.command)))
+          | inr w ↦ inr (n.command, w.0, w.1, subst (λ j. Has (f.messages ++ message_of s.channel n.command ∷ []) (message_of j n.command)) (e.0.sound k s there).0 (Has-push f.messages (message_of s.channel n.command)), w.2)
         ]),
   ));
   drops_data = λ f k s n t there due kind e. (let p = stepped _ s.sender n (e.0.sound k s there).1 (goes-of _ s.sender n due) in (
-    drops o.senders f.messages f.outbox.senders k s n there kind e.0 p,
-    set-from o.senders f.messages f.outbox.senders k s (record s { sender = with_skipped n.sender }) f.messages there e.1 (λ m h. h)
+    drops pace.now o.senders f.messages f.outbox.senders k s n there kind e.0 p,
+    set-from pace.now o.senders f.messages f.outbox.senders k s (record s { sender = with_skipped n.sender }) f.messages there e.1 (λ m h. h)
         (λ x h. elim (p.from x h) [ inl old ↦ inl old | inr w ↦ absurd (let z : true ≡ false = sym w.0 ∙ kind in cc) ]),
   ));
 }) (record { least = omega arith; sound = all; how = inl refl }, λ channel t h. inl h)).1

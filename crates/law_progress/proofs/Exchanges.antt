@@ -7,6 +7,8 @@ use Rattle.enet_codec.specs.Message.{Message, acknowledge}
 use Rattle.enet_fragment.specs.declared.data.DataCommand.{DataCommand}
 use Rattle.enet_fragment.specs.DataCommand.{data_of, message_of, read_of, wire_body}
 use Rattle.enet_receiver.specs.Members.{Has}
+use Rattle.enet_rtt.specs.Transmission.{went_at}
+use Rattle.enet_sender.specs.Sender.{Sender, position_of}
 use Rattle.enet_sender.specs.declared.sent.Sent.{Sent}
 use Rattle.enet_sender.specs.Due.{SendingEnd}
 use Rattle.enet_outbox.specs.declared.parts.Acknowledgement.{Acknowledgement}
@@ -34,10 +36,11 @@ use Rattle.law_progress.specs.Peers.{Awaits, IsAnswered, IsRemoved}
 use Rattle.law_progress.proofs.Carried.{nums, Has-nums, waits-in_time, none-left}
 use Rattle.law_progress.proofs.Emitted.{AreReliable, AreSound, Waits}
 use Rattle.law_progress.proofs.Filling.{Has-push}
+use Rattle.law_progress.proofs.Found.{placed}
 use Rattle.law_progress.proofs.NotStopped.{Reaches, not-stopped}
 use Rattle.law_progress.proofs.Obeyed.{Kept, kept-self, kept-least, kept-then, hears-kept}
 use Rattle.law_progress.proofs.PeerAnswers.{answers-forth}
-use Rattle.law_progress.proofs.Removed.{removed}
+use Rattle.law_progress.proofs.Removed.{removed-at}
 use Rattle.law_progress.proofs.SomethingGoes.{below-length, same-number}
 use Rattle.law_progress.proofs.Trips.{Has-map, Images-has}
 use Rattle.law_progress.proofs.Waiting.{Has-mapped}
@@ -80,6 +83,29 @@ linked joined own other p channel j is connected low =
       outgoing = sends.1;
       greatest = k.greatest;
     }
+
+-- no other command that waits has its number
+pub alone : (joined : Bool) (own other : End) (p : Peering) (channel : ℕ) (t : Sent) → Joint joined own other → own.peer ≡ Some p → p.state ≡ state.Connected → channel < 255 → (h : HasSent p.outbox.senders channel t)
+    → (i : ℕ) × (position_of t.command.number h.0.sender.sent ≡ Some i) × (slice_get h.0.sender.sent i ≡ Some t)
+alone joined own other p channel t j is connected low h =
+    let k = linked joined own other p channel j is connected low in
+    let here : k.link.outgoing ≡ h.0.sender = k.outgoing ∙ ap sender_in h.1 in
+    let near = k.sound.numbers.unacked in
+    placed h.0.sender.sent t h.2
+    (λ u behind e.
+    none-left k.mtu k.sound.link.sent t.command.number k.sound.link.carried k.sound.link.unacked k.link.outgoing.sent k.sound.shows.rising (λ m i. (let n = near m i in (n.1, n.2))) (k.sound.shows.images k.sending) u
+    (subst (λ (o : Sender). Has (drop_first (λ (q : Sent). q.command.number == t.command.number) o.sent) u) (sym here) behind) e)
+
+-- so two that have the same are one
+pub one-sent : (joined : Bool) (own other : End) (p : Peering) (channel : ℕ) (t u : Sent) → Joint joined own other → own.peer ≡ Some p → p.state ≡ state.Connected → channel < 255
+    → HasSent p.outbox.senders channel t → HasSent p.outbox.senders channel u → u.command.number ≡ t.command.number → u ≡ t
+one-sent joined own other p channel t u j is connected low h k same =
+    let a = alone joined own other p channel t j is connected low h in
+    let b = alone joined own other p channel u j is connected low k in
+    let end : k.0 ≡ h.0 = some-is (sym k.1 ∙ h.1) in
+    let place : Some b.0 ≡ Some a.0 = sym b.1 ∙ (λ i. position_of (same i) (end i).sender.sent) ∙ a.1 in
+    let at : b.0 ≡ a.0 = some-is place in
+    some-is (sym b.2 ∙ (λ i. slice_get (end i).sender.sent (at i)) ∙ a.2)
 
 -- what waits is in time, as far as the numbers have come
 pub timely : (joined : Bool) (own other : End) (p : Peering) (channel number : ℕ) → Joint joined own other → own.peer ≡ Some p → p.state ≡ state.Connected → channel < 255 → Waits p.outbox.senders channel number
@@ -393,31 +419,42 @@ acknowledged-in-time joined from to p put a j is connected low w message logged 
     one-number : {m n t u : ℕ} → acknowledge m t ≡ acknowledge n u → m ≡ n
     one-number {m} {n} {t} {u} e = cc
 
+-- a command that was sent waits
+pub waits-of : (senders : List SendingEnd) (channel number : ℕ) (t : Sent) → HasSent senders channel t → t.command.number ≡ number → Waits senders channel number
+waits-of senders channel number t h same = (h.0, h.1, subst (λ n. Has (nums h.0.sender.sent) n) same (Has-nums h.0.sender.sent t h.2))
+
 -- an acknowledgement that comes takes its command away
-pub came-less : (joined : Bool) (now time : ℕ) (from : End) (puts : List Put) (to new : End) (p : Peering) (put : Put) (a : Acknowledgement) → AllCome now time from puts to new → Has puts put → Joint joined from to
-    → to.peer ≡ Some p → p.state ≡ state.Connected → a.channel < 255 → Waits p.outbox.senders a.channel a.number → put.message ≡ acknowledgement_of a → Has from.log put → put.sent_then ≡ sent_on a.channel to
+took-away : (joined : Bool) (now time : ℕ) (from to : End) (p : Peering) (m : Message) (a : Acknowledgement) (t : Sent) → Joint joined from to → to.peer ≡ Some p → p.state ≡ state.Connected → a.channel < 255
+    → (h : HasSent p.outbox.senders a.channel t) → t.command.number ≡ a.number → went_at a.time t.transmission ≡ true → m ≡ acknowledgement_of a → IsRemoved p a.channel a.number h.0 (obeyed p now (Some time) m)
+took-away joined now time from to p m a t j is connected low h same went message =
+    let placed = alone joined to from p a.channel t (joint-swap joined from to j) is connected low h in
+    subst (λ (m : Message). IsRemoved p a.channel a.number h.0 (obeyed p now (Some time) m)) (sym message)
+    (removed-at p now (Some time) (acknowledgement_of a) a.number a.time h.0 connected refl refl low h.1 placed.0 t (ap (λ n. position_of n h.0.sender.sent) (sym same) ∙ placed.1) placed.2 went)
+
+pub came-less : (joined : Bool) (now time : ℕ) (from : End) (puts : List Put) (to new : End) (p : Peering) (put : Put) (a : Acknowledgement) (t : Sent) → AllCome now time from puts to new → Has puts put → Joint joined from to
+    → to.peer ≡ Some p → p.state ≡ state.Connected → a.channel < 255 → HasSent p.outbox.senders a.channel t → t.command.number ≡ a.number → went_at a.time t.transmission ≡ true
+    → put.message ≡ acknowledgement_of a → Has from.log put → put.sent_then ≡ sent_on a.channel to
     → (q : Peering) × (new.peer ≡ Some q) × (outstanding_over q.outbox.senders < outstanding_over p.outbox.senders)
-came-less joined now time from [] to new p put a come has j is connected low w message logged marked = absurd has
-came-less joined now time from (x ∷ puts) to new p put a come (inr has) j is connected low w message logged marked =
+came-less joined now time from [] to new p put a t come has j is connected low w number went message logged marked = absurd has
+came-less joined now time from (x ∷ puts) to new p put a t come (inr has) j is connected low w number went message logged marked =
     let k = one-came now time from x to come.0 p come.1 is in
     elim k.kept.senders [
       | inl same ↦
-          let still : Waits k.peer.outbox.senders a.channel a.number = subst (λ (l : List SendingEnd). Waits l a.channel a.number) (sym same) w in
-          let rest = came-less joined now time from puts come.0 new k.peer put a come.2 has (one-joint joined now time from x to come.0 come.1 j) k.is k.connected low still message logged (marked ∙ ap (λ (l : List Put). reached a.channel 0 (messages_of l)) (sym k.log)) in
+          let still : HasSent k.peer.outbox.senders a.channel t = subst (λ (l : List SendingEnd). HasSent l a.channel t) (sym same) w in
+          let rest = came-less joined now time from puts come.0 new k.peer put a t come.2 has (one-joint joined now time from x to come.0 come.1 j) k.is k.connected low still number went message logged (marked ∙ ap (λ (l : List Put). reached a.channel 0 (messages_of l)) (sym k.log)) in
           (rest.0, rest.1, subst (λ (l : List SendingEnd). outstanding_over rest.0.outbox.senders < outstanding_over l) same rest.2)
       | inr less ↦
           let rest = all-came now time from puts come.0 new k.peer come.2 k.is k.connected in
           let least = kept-least k.peer rest.peer rest.kept in
           (rest.peer, rest.is, omega arith)
     ]
-came-less joined now time from (x ∷ puts) to new p put a come (inl same) j is connected low w message logged marked = elim come.1.after [
+came-less joined now time from (x ∷ puts) to new p put a t come (inl same) j is connected low w number went message logged marked = elim come.1.after [
   | inl h ↦
       let k = one-came now time from x to come.0 p come.1 is in
       let it : h.0 ≡ p = same-peer to h.0 p h.1 is in
       let after : come.0 ≡ with_peer to (obeyed p now (Some time) x.message).after = subst (λ (y : Peering). come.0 ≡ with_peer to (obeyed y now (Some time) x.message).after) it h.3 in
       let peer : k.peer ≡ (obeyed p now (Some time) x.message).after = same-peer come.0 k.peer (obeyed p now (Some time) x.message).after k.is (ap (λ (e : End). e.peer) after) in
-      let away : IsRemoved p a.channel a.number w.0 (obeyed p now (Some time) x.message) = subst (λ (m : Message). IsRemoved p a.channel a.number w.0 (obeyed p now (Some time) m)) (sym (ap (λ (y : Put). y.message) same ∙ message))
-      (removed p now (Some time) (acknowledgement_of a) a.number a.time w.0 connected refl refl low w.1 w.2) in
+      let away : IsRemoved p a.channel a.number w.0 (obeyed p now (Some time) x.message) = took-away joined now time from to p x.message a t j is connected low w number went (ap (λ (y : Put). y.message) same ∙ message) in
       let rest = all-came now time from puts come.0 new k.peer come.2 k.is k.connected in
       let least = kept-least k.peer rest.peer rest.kept in
       elim k.kept.senders [
@@ -429,15 +466,7 @@ came-less joined now time from (x ∷ puts) to new p put a come (inl same) j is 
             absurd (omega arith)
         | inr less ↦ (rest.peer, rest.is, omega arith)
       ]
-  | inr late ↦ absurd (late.0 (subst (λ (y : Put). InTime to from y) (sym same) (acknowledged-in-time joined from to p put a j is connected low w message logged marked)))
-]
-
--- whether a command of this number waits
-waits-or-not : (sent : List Sent) (number : ℕ) → Has (nums sent) number ⊎ (Has (nums sent) number → ⊥)
-waits-or-not [] number = inr (λ h. h)
-waits-or-not (x ∷ xs) number = elim (same-number x.command.number number) [
-  | inl is ↦ inl (inl is)
-  | inr apart ↦ elim (waits-or-not xs number) [ inl h ↦ inl (inr h) | inr none ↦ inr (λ h. elim h [ inl is ↦ apart is | inr k ↦ none k ]) ]
+  | inr late ↦ absurd (late.0 (subst (λ (y : Put). InTime to from y) (sym same) (acknowledged-in-time joined from to p put a j is connected low (waits-of p.outbox.senders a.channel a.number t w number) message logged marked)))
 ]
 
 abbrev NoneOf : List SendingEnd → ℕ → ℕ → Type 0
@@ -456,14 +485,15 @@ away-none joined from to p a w o j is connected low away t h e =
     let near = k.sound.numbers.unacked in
     none-left k.mtu k.sound.link.sent a.number k.sound.link.carried k.sound.link.unacked k.link.outgoing.sent k.sound.shows.rising (λ m i. (let n = near m i in (n.1, n.2))) (k.sound.shows.images k.sending) t there e
 
-pub came-none : (joined : Bool) (now time : ℕ) (from : End) (puts : List Put) (to new : End) (p : Peering) (put : Put) (a : Acknowledgement) → AllCome now time from puts to new → Has puts put → Joint joined from to
-    → to.peer ≡ Some p → p.state ≡ state.Connected → a.channel < 255 → put.message ≡ acknowledgement_of a → Has from.log put → put.sent_then ≡ sent_on a.channel to
-    → (q : Peering) × (new.peer ≡ Some q) × NoneOf q.outbox.senders a.channel a.number
-came-none joined now time from [] to new p put a come has j is connected low message logged marked = absurd has
-came-none joined now time from (x ∷ puts) to new p put a come (inr has) j is connected low message logged marked =
+pub came-none : (joined : Bool) (now time : ℕ) (from : End) (puts : List Put) (to new : End) (p : Peering) (put : Put) (a : Acknowledgement) (t : Sent) → AllCome now time from puts to new → Has puts put → Joint joined from to
+    → to.peer ≡ Some p → p.state ≡ state.Connected → a.channel < 255 → t.command.number ≡ a.number → went_at a.time t.transmission ≡ true → put.message ≡ acknowledgement_of a → Has from.log put → put.sent_then ≡ sent_on a.channel to
+    → (q : Peering) × (new.peer ≡ Some q) × (HasSent q.outbox.senders a.channel t → ⊥)
+came-none joined now time from [] to new p put a t come has j is connected low number went message logged marked = absurd has
+came-none joined now time from (x ∷ puts) to new p put a t come (inr has) j is connected low number went message logged marked =
     let k = one-came now time from x to come.0 p come.1 is in
-    came-none joined now time from puts come.0 new k.peer put a come.2 has (one-joint joined now time from x to come.0 come.1 j) k.is k.connected low message logged (marked ∙ ap (λ (l : List Put). reached a.channel 0 (messages_of l)) (sym k.log))
-came-none joined now time from (x ∷ puts) to new p put a come (inl same) j is connected low message logged marked = by (slice_get p.outbox.senders a.channel) refl
+    came-none joined now time from puts come.0 new k.peer put a t come.2 has (one-joint joined now time from x to come.0 come.1 j) k.is k.connected low number went message logged (marked ∙ ap (λ (l : List Put). reached a.channel 0 (messages_of l)) (sym k.log))
+came-none joined now time from (x ∷ puts) to new p put a t come (inl same) j is connected low number went message logged marked =
+    (rest.peer, rest.is, λ h. let there = rest.kept.sent a.channel t h in gone there (k.kept.sent a.channel t there))
   where
     k : Came to come.0 p
     k = one-came now time from x to come.0 p come.1 is
@@ -471,28 +501,15 @@ came-none joined now time from (x ∷ puts) to new p put a come (inl same) j is 
     rest : Came come.0 new k.peer
     rest = all-came now time from puts come.0 new k.peer come.2 k.is k.connected
 
-    -- where it is none then, it is none at last
-    last : NoneOf k.peer.outbox.senders a.channel a.number → (q : Peering) × (new.peer ≡ Some q) × NoneOf q.outbox.senders a.channel a.number
-    last none = (rest.peer, rest.is, λ t h e. none t (rest.kept.sent a.channel t h) e)
-
-    none-before : NoneOf p.outbox.senders a.channel a.number → (q : Peering) × (new.peer ≡ Some q) × NoneOf q.outbox.senders a.channel a.number
-    none-before none = last (λ t h e. none t (k.kept.sent a.channel t h) e)
-
-    waited : Waits p.outbox.senders a.channel a.number → (q : Peering) × (new.peer ≡ Some q) × NoneOf q.outbox.senders a.channel a.number
-    waited w = elim come.1.after [
+    -- it isn't there once the acknowledgement came
+    gone : HasSent k.peer.outbox.senders a.channel t → HasSent p.outbox.senders a.channel t → ⊥
+    gone there w = elim come.1.after [
       | inl h ↦
           let it : h.0 ≡ p = same-peer to h.0 p h.1 is in
           let after : come.0 ≡ with_peer to (obeyed p now (Some time) x.message).after = subst (λ (y : Peering). come.0 ≡ with_peer to (obeyed y now (Some time) x.message).after) it h.3 in
           let peer : k.peer ≡ (obeyed p now (Some time) x.message).after = same-peer come.0 k.peer (obeyed p now (Some time) x.message).after k.is (ap (λ (e : End). e.peer) after) in
-          let away : IsRemoved p a.channel a.number w.0 (obeyed p now (Some time) x.message) = subst (λ (m : Message). IsRemoved p a.channel a.number w.0 (obeyed p now (Some time) m)) (sym (ap (λ (y : Put). y.message) same ∙ message))
-          (removed p now (Some time) (acknowledgement_of a) a.number a.time w.0 connected refl refl low w.1 w.2) in
-          last (subst (λ (y : Peering). NoneOf y.outbox.senders a.channel a.number) (sym peer) (away-none joined from to p a w (obeyed p now (Some time) x.message) j is connected low away))
-      | inr late ↦ absurd (late.0 (subst (λ (y : Put). InTime to from y) (sym same) (acknowledged-in-time joined from to p put a j is connected low w message logged marked)))
-    ]
-
-    by : (o : Option SendingEnd) → slice_get p.outbox.senders a.channel ≡ o → (q : Peering) × (new.peer ≡ Some q) × NoneOf q.outbox.senders a.channel a.number
-    by None e = none-before (λ t h f. absurd (let z : Some h.0 ≡ None = sym h.1 ∙ e in cc))
-    by (Some s) e = elim (waits-or-not s.sender.sent a.number) [
-      | inl h ↦ waited (s, e, h)
-      | inr none ↦ none-before (λ t h f. none (subst (λ n. Has (nums s.sender.sent) n) f (Has-nums s.sender.sent t (subst (λ (y : SendingEnd). Has y.sender.sent t) (some-is (sym h.1 ∙ e)) h.2))))
+          let away : IsRemoved p a.channel a.number w.0 (obeyed p now (Some time) x.message) = took-away joined now time from to p x.message a t j is connected low w number went (ap (λ (y : Put). y.message) same ∙ message) in
+          away-none joined from to p a (waits-of p.outbox.senders a.channel a.number t w number) (obeyed p now (Some time) x.message) j is connected low away t
+          (subst (λ (y : Peering). HasSent y.outbox.senders a.channel t) peer there) number
+      | inr late ↦ absurd (late.0 (subst (λ (y : Put). InTime to from y) (sym same) (acknowledged-in-time joined from to p put a j is connected low (waits-of p.outbox.senders a.channel a.number t w number) message logged marked)))
     ]

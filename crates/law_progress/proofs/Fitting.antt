@@ -253,9 +253,9 @@ fits-acknowledge p now channel number time f = by-state (is_connecting p.state)
     by matched.Data = fits-settled q g
     by (matched.Control what) = fits-settled (with_answer p.state what q) (fits-answer q p.state what g)
 
-    by-state : (x : Bool) → Fits (cond x p (on_match (matched_by p.outbox channel number) p q))
+    by-state : (x : Bool) → Fits (cond x p (on_match (matched_by p.outbox channel number time) p q))
     by-state true = f
-    by-state false = by (matched_by p.outbox channel number)
+    by-state false = by (matched_by p.outbox channel number time)
 
 lesser-mtu : (a b : ℕ) → mtu_of a b ≤ 4096
 lesser-mtu a b = least (min a b)

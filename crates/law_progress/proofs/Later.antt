@@ -299,7 +299,7 @@ abbrev at_later : Peering → Peering
 at_later p = record p { state = state.DisconnectLater }
 
 acknowledge-fewer : (p : Peering) (now channel number time : ℕ) → Goes_on p (on_acknowledge (at_later p) now channel number time)
-acknowledge-fewer p now channel number time = by (matched_by p.outbox channel number)
+acknowledge-fewer p now channel number time = by (matched_by p.outbox channel number time)
   where
     old : Peering
     old = at_later p

@@ -131,7 +131,7 @@ same-stays p q senders mtu acks k = record {
 }
 
 acknowledge-stays : (p : Peering) (now channel number time : ℕ) → Stays p (on_acknowledge (connected p) now channel number time)
-acknowledge-stays p now channel number time = by (matched_by p.outbox channel number)
+acknowledge-stays p now channel number time = by (matched_by p.outbox channel number time)
   where
     old : Peering
     old = connected p

@@ -44,7 +44,7 @@ settled-goes q h = by (is_later q.state && is_done q.outbox)
     by false = h
 
 acknowledge-goes : (p : Peering) (now channel number time : ℕ) → Goes (on_acknowledge (at_later p) now channel number time)
-acknowledge-goes p now channel number time = by (matched_by p.outbox channel number)
+acknowledge-goes p now channel number time = by (matched_by p.outbox channel number time)
   where
     old : Peering
     old = at_later p

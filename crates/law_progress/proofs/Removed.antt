@@ -1,9 +1,11 @@
 -- An acknowledgement that comes takes its command away.
-use Rattle.std.proofs.Common.{◌≡◌, ℕ, suc, ◌+◌, ◌<◌, ◌&&◌, ◌==◌, eqb, ltb, not, Bool, true, false, cond, List, [], ◌∷◌, length, map, refl, sym, ap, subst, ◌∙◌, inl, inr, arith, Option, Some, None}
+use Rattle.std.proofs.Common.{◌≡◌, ℕ, zero, suc, ◌+◌, ◌<◌, ◌&&◌, ◌==◌, eqb, ltb, not, Bool, true, false, cond, List, [], ◌∷◌, length, map, refl, sym, ap, subst, ◌∙◌, inl, inr, arith, Option, Some, None}
+use Rattle.std.proofs.lemmas.Bool.{eq-eqb}
 use Rattle.std.proofs.lemmas.Bool.Decides.{nat_tests}
-use Rattle.std.specs.List.{prefix_len, slice_get, slice_set}
+use Rattle.std.specs.List.{slice_get, slice_set, remove}
 use Rattle.enet_codec.specs.Message.{Message, acknowledge}
-use Rattle.enet_sender.specs.Sender.{position_of, after_acknowledgement, size_at}
+use Rattle.enet_rtt.specs.Transmission.{went_at}
+use Rattle.enet_sender.specs.Sender.{position_of, without_place, after_acknowledgement, size_at, size_of}
 use Rattle.enet_sender.specs.declared.sent.Sent.{Sent}
 use Rattle.enet_sender.specs.Due.{SendingEnd}
 use Rattle.enet_outbox.specs.declared.parts.Matched.TheVariants as matched
@@ -15,53 +17,20 @@ use Rattle.enet_peer.specs.Peering.{Peering}
 use Rattle.enet_peer.specs.CommandEffect.{obeyed, is_allowed, stopped, answered, on_acknowledge, on_match, sampled}
 use Rattle.enet_peer.specs.CommandEffect as effect
 use Rattle.law_connection.specs.LinkSteps.{Has}
-use Rattle.law_progress.specs.Peers.{IsRemoved}
-use Rattle.law_progress.proofs.Trips.{removes-one}
+use Rattle.law_progress.specs.Peers.{IsRemoved, WentThen}
+use Rattle.law_progress.proofs.Found.{found}
+use Rattle.law_progress.proofs.Waiting.{Has-at, Has-mapped}
 use Rattle.law_progress.proofs.SomethingGoes.{set-same}
 
--- a command of this number is found
-found : (n : ℕ) (sent : List Sent) → Has (map (λ (p : Sent). p.command.number) sent) n → (bytes : ℕ) × (size_at sent (position_of n sent) ≡ Some bytes)
-found n [] h = absurd h
-found n (x ∷ xs) h = go (eqb x.command.number n) refl (λ k. found n xs k)
-  where
-    before : ℕ
-    before = prefix_len (λ (p : Sent). not (eqb p.command.number n)) xs
+one-less : {X : Type 0} (xs : List X) (i : ℕ) (x : X) → slice_get xs i ≡ Some x → length (remove xs i) + 1 ≡ length xs
+one-less [] i x e = absurd (cc)
+one-less (y ∷ ys) zero x e = omega arith
+one-less (y ∷ ys) (suc i) x e = let rest = one-less ys i x e in omega arith
 
-    some_place : (m : ℕ) → ltb 0 (suc m) ≡ true
-    some_place m = grind (arith, nat_tests)
-
-    at : (b : Bool) → Option ℕ
-    at b = let place : ℕ = cond (not b) (1 + before) 0 in cond (ltb place (suc (length xs))) (Some place) None
-
-    here : eqb x.command.number n ≡ true → size_at (x ∷ xs) (position_of n (x ∷ xs)) ≡ Some (length x.command.body)
-    here t = ap (λ b. size_at (x ∷ xs) (let place : ℕ = cond (not b) (1 + before) 0 in cond (ltb place (suc (length xs))) (Some place) None)) t ∙ ap (λ c. size_at (x ∷ xs) (cond c (Some 0) None)) (some_place (length xs))
-
-    unlike : (m : ℕ) → m ≡ n → eqb m n ≡ false → ⊥
-    unlike m e t = grind (arith, nat_tests)
-
-    behind : eqb x.command.number n ≡ false → Has (map (λ (p : Sent). p.command.number) (x ∷ xs)) n → Has (map (λ (p : Sent). p.command.number) xs) n
-    behind t (inl e) = absurd (unlike x.command.number e t)
-    behind t (inr k) = k
-
-    further : (bytes k : ℕ) → size_at xs (cond (ltb k (length xs)) (Some k) None) ≡ Some bytes → size_at (x ∷ xs) (cond (ltb (1 + k) (suc (length xs))) (Some (1 + k)) None) ≡ Some bytes
-    further bytes k e =
-        let one : 1 + k ≡ suc k = omega arith in
-        let same : ltb (1 + k) (suc (length xs)) ≡ ltb k (length xs) = grind (arith, nat_tests) in
-        (λ i. size_at (x ∷ xs) (cond (same i) (Some (one i)) None)) ∙ by (ltb k (length xs)) e
-      where
-        by : (b : Bool) → size_at xs (cond b (Some k) None) ≡ Some bytes → size_at (x ∷ xs) (cond b (Some (suc k)) None) ≡ Some bytes
-        by true e = e
-        by false e = absurd (cc)
-
-    go : (b : Bool) → eqb x.command.number n ≡ b → (Has (map (λ (p : Sent). p.command.number) xs) n → (bytes : ℕ) × (size_at xs (position_of n xs) ≡ Some bytes)) → (bytes : ℕ) × (size_at (x ∷ xs) (position_of n (x ∷ xs)) ≡ Some bytes)
-    go true t rest = (length x.command.body, here t)
-    go false t rest =
-        let k = rest (behind t h) in
-        (k.0, ap (λ b. size_at (x ∷ xs) (let place : ℕ = cond (not b) (1 + before) 0 in cond (ltb place (suc (length xs))) (Some place) None)) t ∙ further k.0 before k.1)
-
-pub removed : (p : Peering) (now : ℕ) (sent : Option ℕ) (m : Message) (number time : ℕ) (s : SendingEnd) → p.state ≡ state.Connected → m.head.acknowledge ≡ false → m.body ≡ acknowledge number time → m.head.channel < 255
-    → slice_get p.outbox.senders m.head.channel ≡ Some s → Has (map (λ (x : Sent). x.command.number) s.sender.sent) number → IsRemoved p m.head.channel number s (obeyed p now sent m)
-removed p now sent m number time s connected quiet body low there h = by-message
+pub removed-at : (p : Peering) (now : ℕ) (sent : Option ℕ) (m : Message) (number time : ℕ) (s : SendingEnd) → p.state ≡ state.Connected → m.head.acknowledge ≡ false → m.body ≡ acknowledge number time → m.head.channel < 255
+    → slice_get p.outbox.senders m.head.channel ≡ Some s → (i : ℕ) (t : Sent) → position_of number s.sender.sent ≡ Some i → slice_get s.sender.sent i ≡ Some t → went_at time t.transmission ≡ true
+    → IsRemoved p m.head.channel number s (obeyed p now sent m)
+removed-at p now sent m number time s connected quiet body low there i t place at went = by-message
   where
     channel : ℕ
     channel = m.head.channel
@@ -76,6 +45,9 @@ removed p now sent m number time s connected quiet body low there h = by-message
     after : SendingEnd
     after = record s { sender = after_acknowledgement s.sender number }
 
+    less : length after.sender.sent + 1 ≡ length s.sender.sent
+    less = ap (λ o. length (without_place s.sender.sent o) + 1) place ∙ one-less s.sender.sent i t at
+
     gone : Peering
     gone = sampled (record p { outbox = record p.outbox { senders = slice_set p.outbox.senders channel after } }) now time
 
@@ -84,7 +56,7 @@ removed p now sent m number time s connected quiet body low there h = by-message
 
     good-gone : Good gone
     good-gone = subst (λ b. IsRemoved p channel number s (cond (b && true && effect.is_answered_in gone.state m.body) (effect.answered_at gone m.head sent) (record { stop = None; after = gone }))) (sym quiet)
-        (record { stop = refl; connected = connected; after = after; there = set-same p.outbox.senders channel after s there; is = refl; less = removes-one number s.sender.sent h })
+        (record { stop = refl; connected = connected; after = after; there = set-same p.outbox.senders channel after s there; is = refl; less = less })
 
     -- a connected peer isn't settled
     good-settled : Good (settled gone)
@@ -94,11 +66,11 @@ removed p now sent m number time s connected quiet body low there h = by-message
     outbox-after = ap (λ b. cond b (record p.outbox { control = Rattle.enet_senders.specs.Controlling.after_acknowledgement p.outbox.control number }) (acknowledged_on p.outbox channel number (slice_get p.outbox.senders channel))) apart
         ∙ ap (acknowledged_on p.outbox channel number) there
 
-    matches : outbox.matched_by p.outbox channel number ≡ matched.Data
+    matches : outbox.matched_by p.outbox channel number time ≡ matched.Data
     matches =
-        let f = found number s.sender.sent h in
-        ap (λ b. cond b (outbox.as_control (Rattle.enet_senders.specs.Controlling.acknowledged_control p.outbox.control number)) (matched_on (slice_get p.outbox.senders channel) number)) apart
-        ∙ ap (λ o. matched_on o number) there ∙ ap as_data f.1
+        ap (λ b. cond b (outbox.as_control (Rattle.enet_senders.specs.Controlling.acknowledged_control p.outbox.control number time)) (matched_on (slice_get p.outbox.senders channel) number time)) apart
+        ∙ ap (λ o. matched_on o number time) there
+        ∙ ap as_data (ap (size_at time s.sender.sent) place ∙ ap (size_of time) at ∙ ap (λ b. cond b (Some (length t.command.body)) None) went)
 
     good-accepted : Good (effect.accepted p now channel number time)
     good-accepted = subst (λ x. Good (on_match x p (effect.acknowledged p now channel number time))) (sym matches)
@@ -123,3 +95,13 @@ removed p now sent m number time s connected quiet body low there h = by-message
     by-message = subst (λ b. IsRemoved p channel number s (cond (effect.is_connect b) (stopped p Rattle.enet_codec.specs.declared.stop.Stop.TheVariants.BadCommand) (cond (is_allowed p.state b) (effect.unless_refused p m (effect.by_body p now sent m b)) (stopped p Rattle.enet_codec.specs.declared.stop.Stop.TheVariants.NotConnected)))) (sym body)
         (subst (λ t. IsRemoved p channel number s (cond (is_allowed t (acknowledge number time)) (effect.unless_refused p m (effect.by_body p now sent m (acknowledge number time))) (stopped p Rattle.enet_codec.specs.declared.stop.Stop.TheVariants.NotConnected))) (sym connected)
         (plain p.state (acknowledge number time) good))
+
+pub removed : (p : Peering) (now : ℕ) (sent : Option ℕ) (m : Message) (number time : ℕ) (s : SendingEnd) → p.state ≡ state.Connected → m.head.acknowledge ≡ false → m.body ≡ acknowledge number time → m.head.channel < 255
+    → slice_get p.outbox.senders m.head.channel ≡ Some s → Has (map (λ (x : Sent). x.command.number) s.sender.sent) number → WentThen s.sender.sent number time → IsRemoved p m.head.channel number s (obeyed p now sent m)
+removed p now sent m number time s connected quiet body low there h went =
+    let x = Has-mapped (λ (x : Sent). x.command.number) s.sender.sent number h in
+    let f = found (λ (x : Sent). x.command.number == number) s.sender.sent x.0 x.1 (eq-eqb x.0.command.number number x.2) in
+    removed-at p now sent m number time s connected quiet body low there f.0 f.2 f.1 f.3 (went f.2 (Has-at s.sender.sent f.0 f.2 f.3) (is-equal f.2.command.number number f.4))
+  where
+    is-equal : (m n : ℕ) → (m == n) ≡ true → m ≡ n
+    is-equal m n t = grind (arith, nat_tests)

@@ -40,7 +40,7 @@ settles from to p q put channel c time pace o low w connected fit answered = rec
   goes = (let r = all.2 in r.acknowledgements a waits);
   end = s.0;
   there = s.1;
-  removed = λ now sent. removed p now sent (acknowledgement_of a) c.number time s.0 connected refl refl low s.1 s.2;
+  removed = λ now sent went. removed p now sent (acknowledgement_of a) c.number time s.0 connected refl refl low s.1 s.2 went;
 }
   where
     a : Acknowledgement

@@ -1,7 +1,8 @@
 -- An acknowledgement that comes for a command of channel 0xFF takes it away.
-use Rattle.std.proofs.Common.{◌≡◌, ℕ, zero, suc, ◌+◌, ◌==◌, eqb, true, List, [], ◌∷◌, length, map, refl, sym, ap, subst, ◌∙◌, arith, Option, Some, None}
+use Rattle.std.proofs.Common.{◌≡◌, ℕ, zero, suc, ◌+◌, ◌==◌, eqb, cond, true, List, [], ◌∷◌, length, map, refl, sym, ap, subst, ◌∙◌, arith, Option, Some, None}
 use Rattle.std.proofs.lemmas.Bool.Decides.{nat_tests}
 use Rattle.std.specs.List.{position, slice_get, remove}
+use Rattle.enet_rtt.specs.Transmission.{went_at}
 use Rattle.enet_senders.specs.Controlling as controlling
 use Rattle.enet_senders.specs.declared.control.SentControl.{SentControl}
 use Rattle.enet_receiver.specs.Members.{Has}
@@ -13,18 +14,18 @@ use Rattle.enet_outbox.specs.Emission.{acknowledgement_of}
 use Rattle.enet_peer.specs.declared.parts.PeerState.TheVariants as state
 use Rattle.enet_peer.specs.Peering.{Peering}
 use Rattle.enet_peer.specs.CommandEffect.{obeyed, on_match, acknowledged}
-use Rattle.law_progress.specs.Peers.{IsTakenAway}
+use Rattle.law_progress.specs.Peers.{IsTakenAway, ControlWentThen}
 use Rattle.law_progress.proofs.Found.{found}
-use Rattle.law_progress.proofs.Waiting.{Has-mapped}
+use Rattle.law_progress.proofs.Waiting.{Has-at, Has-mapped}
 
 one-less : {X : Type 0} (xs : List X) (i : ℕ) (x : X) → slice_get xs i ≡ Some x → length (remove xs i) + 1 ≡ length xs
 one-less [] i x e = absurd (cc)
 one-less (y ∷ ys) zero x e = omega arith
 one-less (y ∷ ys) (suc i) x e = let rest = one-less ys i x e in omega arith
 
-pub taken-away : (p : Peering) (now : ℕ) (sent : Option ℕ) (number time : ℕ) → p.state ≡ state.Connected → Has (map (λ (t : SentControl). t.command.number) p.outbox.control.sent) number
+pub taken-away : (p : Peering) (now : ℕ) (sent : Option ℕ) (number time : ℕ) → p.state ≡ state.Connected → Has (map (λ (t : SentControl). t.command.number) p.outbox.control.sent) number → ControlWentThen p.outbox.control.sent number time
     → IsTakenAway p number (obeyed p now sent (acknowledgement_of (record { channel = 0xFF; number = number; time = time })))
-taken-away p now sent number time connected h = subst (λ (x : Peering). IsTakenAway x number (obeyed x now sent (acknowledgement_of a))) at (goes (as_control (controlling.acknowledged_control p.outbox.control number)) is)
+taken-away p now sent number time connected h went_all = subst (λ (x : Peering). IsTakenAway x number (obeyed x now sent (acknowledgement_of a))) at (goes (as_control (controlling.acknowledged_control p.outbox.control number time)) is)
   where
     open' : Peering
     open' = record p { state = state.Connected }
@@ -38,11 +39,17 @@ taken-away p now sent number time connected h = subst (λ (x : Peering). IsTaken
     same : (m n : ℕ) → m ≡ n → eqb m n ≡ true
     same m n e = grind (arith, nat_tests)
 
-    place : (i : ℕ) × (position (λ (t : SentControl). t.command.number == number) p.outbox.control.sent ≡ Some i) × (t : SentControl) × (slice_get p.outbox.control.sent i ≡ Some t)
+    place : (i : ℕ) × (position (λ (t : SentControl). t.command.number == number) p.outbox.control.sent ≡ Some i) × (t : SentControl) × (slice_get p.outbox.control.sent i ≡ Some t) × ((t.command.number == number) ≡ true)
     place = let w = Has-mapped (λ (t : SentControl). t.command.number) p.outbox.control.sent number h in found (λ (t : SentControl). t.command.number == number) p.outbox.control.sent w.0 w.1 (same w.0.command.number number w.2)
 
-    is : as_control (controlling.acknowledged_control p.outbox.control number) ≡ matched.Control place.2.command.control
-    is = ap (λ o. as_control (controlling.control_at p.outbox.control.sent o)) place.1 ∙ ap (λ o. as_control (controlling.control_of o)) place.3
+    is-equal : (m n : ℕ) → (m == n) ≡ true → m ≡ n
+    is-equal m n t = grind (arith, nat_tests)
+
+    went : went_at time place.2.transmission ≡ true
+    went = went_all place.2 (Has-at p.outbox.control.sent place.0 place.2 place.3) (is-equal place.2.command.number number place.4)
+
+    is : as_control (controlling.acknowledged_control p.outbox.control number time) ≡ matched.Control place.2.command.control
+    is = ap (λ o. as_control (controlling.control_at time p.outbox.control.sent o)) place.1 ∙ ap (λ o. as_control (controlling.control_of time o)) place.3 ∙ ap (λ b. as_control (cond b (Some place.2.command.control) None)) went
 
     gone : Peering
     gone = acknowledged open' now 0xFF number time

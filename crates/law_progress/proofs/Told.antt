@@ -76,13 +76,13 @@ answer-goes Leaves (control.ThrottleConfigure interval acceleration deceleration
 
 acknowledgement-goes : (k : Kind) (p : Peering) (moment channel number time : ℕ) → Goes k (on_acknowledge (in_state k p) moment channel number time)
 acknowledgement-goes Asks p moment channel number time = inl refl
-acknowledgement-goes Answers p moment channel number time = by (matched_by p.outbox channel number)
+acknowledgement-goes Answers p moment channel number time = by (matched_by p.outbox channel number time)
   where
     by : (m : Matched) → Goes Answers (on_match m (in_state Answers p) (acknowledged (in_state Answers p) moment channel number time))
     by matched.Nothing = inl refl
     by matched.Data = inl refl
     by (matched.Control what) = answer-goes Answers what (acknowledged (in_state Answers p) moment channel number time)
-acknowledgement-goes Leaves p moment channel number time = by (matched_by p.outbox channel number)
+acknowledgement-goes Leaves p moment channel number time = by (matched_by p.outbox channel number time)
   where
     by : (m : Matched) → Goes Leaves (on_match m (in_state Leaves p) (acknowledged (in_state Leaves p) moment channel number time))
     by matched.Nothing = inl refl

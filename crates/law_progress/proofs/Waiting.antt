@@ -290,9 +290,9 @@ fair-acknowledge R most p now channel number time h = by-state (is_connecting p.
     by matched.Data = fair-settled R most q a
     by (matched.Control what) = fair-settled R most (with_answer p.state what q) (fair-answer R most q p.state what a)
 
-    by-state : (b : Bool) → Fair R most (cond b p (on_match (matched_by p.outbox channel number) p q))
+    by-state : (b : Bool) → Fair R most (cond b p (on_match (matched_by p.outbox channel number time) p q))
     by-state true = h
-    by-state false = by (matched_by p.outbox channel number)
+    by-state false = by (matched_by p.outbox channel number time)
 
 fair-verify : (R : Transmission → Type 0) (most : ℕ) (p : Peering) (v : Verify) (s : PeerState) → Fair R most p → Fair R most (on_verify_in s p v)
 fair-verify R most p v state.Connecting h = by (confirmed p.offer v)

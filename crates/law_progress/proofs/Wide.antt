@@ -52,9 +52,9 @@ wide-acknowledge p now channel number time h = by-state (is_connecting p.state)
     by matched.Data = wide-settled q h
     by (matched.Control what) = wide-settled (with_answer p.state what q) (wide-answer q p.state what h)
 
-    by-state : (b : Bool) → IsWide (cond b p (on_match (matched_by p.outbox channel number) p q))
+    by-state : (b : Bool) → IsWide (cond b p (on_match (matched_by p.outbox channel number time) p q))
     by-state true = h
-    by-state false = by (matched_by p.outbox channel number)
+    by-state false = by (matched_by p.outbox channel number time)
 
 pub at-least : (a b : ℕ) → 576 ≤ mtu_of a b
 at-least a b = more (min (min a b) 4096)

@@ -1,6 +1,7 @@
 -- What a connected peer makes of a command that its sender waits for.
 use Rattle.std.specs.Prelude.{◌≡◌, ℕ, ◌+◌, ◌<◌, ◌≤◌, ◌&&◌, not, Bool, true, false, length, map, Some, None, slice_get}
 use Rattle.enet_codec.specs.declared.packet.Packet.{Packet}
+use Rattle.enet_rtt.specs.Transmission.{went_at}
 use Rattle.enet_fragment.specs.declared.data.DataCommand.{DataCommand}
 use Rattle.enet_fragment.specs.DataCommand.{data_of, message_of}
 use Rattle.enet_receiver.specs.Foresight.{ReceivingEnd}
@@ -13,6 +14,7 @@ use Rattle.enet_senders.specs.Controlling as controlling
 use Rattle.enet_senders.specs.declared.control.Control.{Control}
 use Rattle.enet_senders.specs.declared.control.Control.TheVariants as control
 use Rattle.enet_senders.specs.declared.control.Numbered.{Numbered}
+use Rattle.enet_senders.specs.declared.control.SentControl.{SentControl}
 use Rattle.enet_outbox.specs.declared.parts.Unsequenced.{Unsequenced}
 use Rattle.enet_outbox.specs.Outbox.{is_crowded, with_acknowledgement}
 use Rattle.enet_peer.specs.declared.parts.PeerState.TheVariants as state
@@ -63,6 +65,14 @@ pub record Comes (from to : End) (q : Peering) (put : Put) (channel : ℕ) (c : 
 pub record IsAnswered (q : Peering) (channel time : ℕ) (c : DataCommand) (o : Outcome) : Type 0 where
   pub stop : o.stop ≡ None
   pub waits : o.after.outbox ≡ with_acknowledgement q.outbox (record { channel = channel; number = c.number; time = time })
+
+-- the sent command of this number, of which there is one at most, went at this time of 16 bits
+abbrev pub WentThen : List Sent → ℕ → ℕ → Type 0
+WentThen sent number time = (t : Sent) → Has sent t → t.command.number ≡ number → went_at time t.transmission ≡ true
+
+-- the same on channel 0xFF
+abbrev pub ControlWentThen : List SentControl → ℕ → ℕ → Type 0
+ControlWentThen sent number time = (t : SentControl) → Has sent t → t.command.number ≡ number → went_at time t.transmission ≡ true
 
 -- the command of this number is gone from its channel's sender, which is else as it was; the peer is connected as before
 pub record IsRemoved (p : Peering) (channel number : ℕ) (s : SendingEnd) (o : Outcome) : Type 0 where

@@ -51,7 +51,7 @@ ghost use Rattle.law_connection.specs.Connection.{Put, End, Connection};
 ghost use Rattle.law_connection.specs.Invariant.{Invariant};
 ghost use Rattle.law_progress.specs.Links.{Waits, AreShort, AllDispatched, IsUp, AreTimed, GetsThrough};
 ghost use Rattle.law_progress.specs.Outboxes.{AreFit, AllFit, NothingMayGo, WaitsForSome, GoOrStay, IsPutOut, AreQuiet, HasNew, AreSome, IsSpent, ready};
-ghost use Rattle.law_progress.specs.Peers.{Awaits, Comes, IsAnswered, IsRemoved, IsHeard, IsTakenAway, TakesIn};
+ghost use Rattle.law_progress.specs.Peers.{Awaits, Comes, IsAnswered, IsRemoved, IsHeard, IsTakenAway, TakesIn, WentThen, ControlWentThen};
 ghost use Rattle.law_progress.specs.Settled.{IsSettled};
 ghost use Rattle.law_progress.specs.Delivered.{IsDelivered};
 ghost use Rattle.law_progress.specs.Attempts.{LastsAtMost, LastsFor, TellsWhenLeft};
@@ -128,11 +128,12 @@ pub fn nothing_is_held_back()
 /// stop, and its acknowledgement waits to go: from the first end to the second and back. There is room where the reliable packets that are
 /// held and the packets that the user hasn't taken are below the limits, for the next packet in order where the latter are, and where fewer
 /// than 8,192 acknowledgements wait to go. `removed`: an acknowledgement that comes takes the sent command of its number away, and no
-/// other. `unreliable_forth`, `unreliable_back`: an unreliable data command that comes in time is taken in, too, without a stop while there
-/// is room, however many acknowledgements wait. `controls`: each reliable command of channel 0xFF but CONNECT, and but VERIFY_CONNECT at a peer
-/// that answered a CONNECT itself, is acknowledged while fewer than 8,192 acknowledgements wait to go, and DISCONNECT, which drops those that
-/// wait, always. `unsequenced`: an unsequenced packet is taken in without a stop where there is room for it, however many wait.
-/// `controls_removed`: the acknowledgement that comes takes the sent command of channel 0xFF of its number away, and no other.
+/// other, where that went at the time that it repeats. `unreliable_forth`, `unreliable_back`: an unreliable data command that comes in
+/// time is taken in, too, without a stop while there is room, however many acknowledgements wait. `controls`: each reliable command of
+/// channel 0xFF but CONNECT, and but VERIFY_CONNECT at a peer that answered a CONNECT itself, is acknowledged while fewer than 8,192
+/// acknowledgements wait to go, and DISCONNECT, which drops those that wait, always. `unsequenced`: an unsequenced packet is taken in
+/// without a stop where there is room for it, however many wait. `controls_removed`: the acknowledgement that comes takes the sent command
+/// of channel 0xFF of its number away, and no other, where that went at the time that it repeats.
 pub fn what_waits_is_answered()
     ensures forth { (joined : Bool) (d : Connection) (p q : Peering) (put : Put) (channel : ℕ) (c : DataCommand) (now time : ℕ) → Invariant joined d → channel < 255
         → Awaits d.one d.two p q put channel c → IsAnswered q channel time c (obeyed q now (Some time) put.message) }
@@ -140,14 +141,14 @@ pub fn what_waits_is_answered()
         → Awaits d.two d.one p q put channel c → IsAnswered q channel time c (obeyed q now (Some time) put.message) }
     ensures removed { (p : Peering) (now : ℕ) (sent : Option ℕ) (m : Message) (number time : ℕ) (s : SendingEnd) → p.state ≡ state.Connected → m.head.acknowledge ≡ false
         → m.body ≡ acknowledge number time → m.head.channel < 255 → slice_get p.outbox.senders m.head.channel ≡ Some s → Has (map (λ (x : Sent). x.command.number) s.sender.sent) number
-        → IsRemoved p m.head.channel number s (obeyed p now sent m) }
+        → WentThen s.sender.sent number time → IsRemoved p m.head.channel number s (obeyed p now sent m) }
     ensures unreliable_forth { (joined : Bool) (d : Connection) (q : Peering) (put : Put) (channel : ℕ) (c : DataCommand) (now : ℕ) (sent : Option ℕ) → Invariant joined d → channel < 255
         → Comes d.one d.two q put channel c → (obeyed q now sent put.message).stop ≡ None }
     ensures unreliable_back { (joined : Bool) (d : Connection) (q : Peering) (put : Put) (channel : ℕ) (c : DataCommand) (now : ℕ) (sent : Option ℕ) → Invariant joined d → channel < 255
         → Comes d.two d.one q put channel c → (obeyed q now sent put.message).stop ≡ None }
     ensures controls { (q : Peering) (n : Numbered) (now time : ℕ) → q.state ≡ state.Connected → IsHeard q n time (obeyed q now (Some time) (control_message n)) }
     ensures controls_removed { (p : Peering) (now : ℕ) (sent : Option ℕ) (number time : ℕ) → p.state ≡ state.Connected → Has (map (λ (t : SentControl). t.command.number) p.outbox.control.sent) number
-        → IsTakenAway p number (obeyed p now sent (acknowledgement_of (record { channel = 0xFF; number = number; time = time }))) }
+        → ControlWentThen p.outbox.control.sent number time → IsTakenAway p number (obeyed p now sent (acknowledgement_of (record { channel = 0xFF; number = number; time = time }))) }
     ensures unsequenced { (q : Peering) (u : Unsequenced) (now : ℕ) (sent : Option ℕ) → TakesIn q u → (obeyed q now sent (unsequenced_of u)).stop ≡ None }
 {}
 
@@ -155,7 +156,8 @@ pub fn what_waits_is_answered()
 ///
 /// Where a reliable data command that the one end waits for comes to the other in time, and there is room, and fewer than 8,192
 /// acknowledgements wait to go there, its acknowledgement is in one of the datagrams that this end puts out next, at most one more than it
-/// has commands ready to go; and where that acknowledgement comes back, it takes the command away, and no other: from the first end to the
+/// has commands ready to go; and where that acknowledgement comes back, and the command went at the time that it repeats, as in each datagram that
+/// tells its sent time, it takes the command away, and no other: from the first end to the
 /// second (`forth`) and back (`back`).
 pub fn each_trip_takes_one_away()
     ensures forth { (joined : Bool) (d : Connection) (p q : Peering) (put : Put) (channel : ℕ) (c : DataCommand) (now time : ℕ) (pace : Pace) → Invariant joined d → channel < 255

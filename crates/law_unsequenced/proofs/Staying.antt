@@ -215,7 +215,7 @@ acknowledged-same p channel number = by-control (channel == 0xFF)
     by-control false = by (slice_get o.senders channel)
 
 on_acknowledge-stays : (p : Peering) (now channel number time : ℕ) → StaysAt p (on_acknowledge p now channel number time)
-on_acknowledge-stays p now channel number time = if-peer (StaysAt p) (is_connecting p.state) p (accepted p now channel number time) (stays (core p)) (by (matched_by p.outbox channel number))
+on_acknowledge-stays p now channel number time = if-peer (StaysAt p) (is_connecting p.state) p (accepted p now channel number time) (stays (core p)) (by (matched_by p.outbox channel number time))
   where
     gone : Peering
     gone = record p { outbox = after_acknowledgement p.outbox channel number }
