@@ -12,6 +12,9 @@ const CHANNELS: u8 = 4;
 /// The channels of a peer that has all of them.
 const ALL: u8 = 255;
 
+/// So many packets of 500 bytes a window of 65,536 lets go at once.
+const AT_ONCE: u32 = 131;
+
 /// Each peer has so many commands in flight on four channels, and acknowledges the oldest one every PACE milliseconds, for COUNT
 /// milliseconds of 1 ms. Nobody asks when something is due.
 pub fn take_oldest(alloc: Global, seed: u64, size: Size) -> Result<Digest> {
@@ -109,14 +112,25 @@ fn fill_channels(house: &mut House, size: Size) -> Result<()> {
 }
 
 fn release_by_turns(house: &mut House, size: Size) -> Result<()> {
+    let began = house.clock;
+    let pace = size.pace.max(1);
     for ms in 0..size.count {
         house.tick(1);
-        if ms % size.pace.max(1) == 0 {
-            release(house, ms / size.pace.max(1))?;
+        if ms % pace == 0 {
+            release(house, ms / pace, sent_at(began, ms / pace, pace))?;
         }
         house.send_all();
     }
     Ok(())
+}
+
+// When the packet at this place went: the first ones at the beginning, and each other as the one that stands AT_ONCE before it was released.
+fn sent_at(began: u32, place: u32, pace: u32) -> u32 {
+    if place < AT_ONCE {
+        return began;
+    }
+    let behind = (place - AT_ONCE).wrapping_mul(pace);
+    began.wrapping_add(behind).wrapping_add(1)
 }
 
 fn tell_each(house: &mut House, channel: u8) -> Result<()> {
@@ -127,14 +141,13 @@ fn tell_each(house: &mut House, channel: u8) -> Result<()> {
     Ok(())
 }
 
-// Each peer acknowledges the packet that went at this place, as one that was under way for five seconds. The channels' turns go round, and
-// number 1 of each had gone before.
-fn release(house: &mut House, place: u32) -> Result<()> {
+// Each peer acknowledges the packet that went at this place, and at that time. The channels' turns go round, and number 1 of each had gone
+// before.
+fn release(house: &mut House, place: u32, sent: u32) -> Result<()> {
     let channel = (place % u32::from(ALL)) as u8;
     let number = (place / u32::from(ALL) % 65_536) as u16;
     for guest in 0..house.len() {
         let guest = house.guest(guest)?;
-        let sent = house.clock.wrapping_sub(5000);
         house.acknowledge(guest, channel, number.wrapping_add(2), sent)?;
     }
     Ok(())

@@ -271,13 +271,22 @@ impl House {
         }
     }
 
-    /// Each guest gets a packet on each channel, and says that it was under way for five seconds: what goes to it next isn't late soon.
+    /// Each guest gets a packet on each channel, and acknowledges it after five seconds, 16 in 5 ms: what goes to it next isn't late soon.
     pub fn delay(&mut self, channels: u8) -> Result<()> {
+        let sent = self.clock;
         for number in 0..self.len() {
             let guest = self.guest(number)?;
             self.tell_each(guest, channels)?;
             self.send_all();
-            self.acknowledge_each(guest, channels)?;
+        }
+        self.tick(5000);
+        self.acknowledge_all(channels, sent)
+    }
+
+    fn acknowledge_all(&mut self, channels: u8, sent: u32) -> Result<()> {
+        for number in 0..self.len() {
+            let guest = self.guest(number)?;
+            self.acknowledge_each(guest, channels, sent)?;
             if number % 16 == 15 {
                 self.tick(5);
             }
@@ -292,8 +301,7 @@ impl House {
         Ok(())
     }
 
-    fn acknowledge_each(&mut self, guest: Guest, channels: u8) -> Result<()> {
-        let sent = self.clock.wrapping_sub(5000);
+    fn acknowledge_each(&mut self, guest: Guest, channels: u8, sent: u32) -> Result<()> {
         for channel in 0..channels {
             self.acknowledge(guest, channel, 1, sent)?;
         }
