@@ -420,7 +420,7 @@ acknowledged-in-time joined from to p put a j is connected low w message logged 
     one-number {m} {n} {t} {u} e = cc
 
 -- a command that was sent waits
-pub waits-of : (senders : List SendingEnd) (channel number : ℕ) (t : Sent) → HasSent senders channel t → t.command.number ≡ number → Waits senders channel number
+abbrev pub waits-of : (senders : List SendingEnd) (channel number : ℕ) (t : Sent) → HasSent senders channel t → t.command.number ≡ number → Waits senders channel number
 waits-of senders channel number t h same = (h.0, h.1, subst (λ n. Has (nums h.0.sender.sent) n) same (Has-nums h.0.sender.sent t h.2))
 
 -- an acknowledgement that comes takes its command away

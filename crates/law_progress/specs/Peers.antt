@@ -1,5 +1,5 @@
 -- What a connected peer makes of a command that its sender waits for.
-use Rattle.std.specs.Prelude.{◌≡◌, ℕ, ◌+◌, ◌<◌, ◌≤◌, ◌&&◌, not, Bool, true, false, length, map, Some, None, slice_get}
+use Rattle.std.specs.Prelude.{◌≡◌, ℕ, ◌+◌, ◌<◌, ◌≤◌, ◌&&◌, not, Bool, true, false, List, length, map, Some, None, slice_get}
 use Rattle.enet_codec.specs.declared.packet.Packet.{Packet}
 use Rattle.enet_rtt.specs.Transmission.{went_at}
 use Rattle.enet_fragment.specs.declared.data.DataCommand.{DataCommand}
