@@ -4,6 +4,7 @@ use Rattle.std.proofs.lemmas.Bool.Decides.{nat_tests}
 use Rattle.enet_codec.specs.Message.{Message}
 use Rattle.enet_codec.specs.declared.stop.Stop.{Stop}
 use Rattle.enet_codec.specs.declared.stop.Stop.TheVariants as stop
+use Rattle.enet_rtt.specs.Transmission.{went_at}
 use Rattle.enet_senders.specs.Controlling as controlling
 use Rattle.enet_senders.specs.declared.control.Control.{Control}
 use Rattle.enet_senders.specs.declared.control.Control.TheVariants as control
@@ -211,8 +212,8 @@ came-pinged now time from (x ∷ puts) to new put n come (inl same) ping message
     free (inr goes) = inr (subst (λ (m : Message). (obeyed q now (Some time) m).stop ≡ None) said goes)
 
 -- ---- its acknowledgement comes, and takes it away
-abbrev pub NoneOf : List SentControl → ℕ → Type 0
-NoneOf sent number = (t : SentControl) → Has sent t → t.command.number ≡ number → ⊥
+abbrev pub NoneOf : List SentControl → ℕ → ℕ → Type 0
+NoneOf sent number time = (t : SentControl) → Has sent t → t.command.number ≡ number → went_at time t.transmission ≡ true → ⊥
 
 same-number : (m n : ℕ) → (m ≡ n) ⊎ (m ≡ n → ⊥)
 same-number m n = by (m == n) refl
@@ -221,8 +222,8 @@ same-number m n = by (m == n) refl
     by true e = inl (grind (arith, nat_tests))
     by false e = inr (λ h. grind (arith, nat_tests))
 
-one-away : (p : Peering) (now time number then' : ℕ) → p.state ≡ state.Connected → IsLone is_ping p.outbox.control → NoneOf (obeyed p now (Some time) (acknowledgement_of (record { channel = 0xFF; number = number; time = then' }))).after.outbox.control.sent number
-one-away p now time number then' on lone t h e = by lone
+one-away : (p : Peering) (now time number then' : ℕ) → p.state ≡ state.Connected → IsLone is_ping p.outbox.control → NoneOf (obeyed p now (Some time) (acknowledgement_of (record { channel = 0xFF; number = number; time = then' }))).after.outbox.control.sent number then'
+one-away p now time number then' on lone t h e went = by lone
   where
     m : Message
     m = acknowledgement_of (record { channel = 0xFF; number = number; time = then' })
@@ -238,16 +239,19 @@ one-away p now time number then' on lone t h e = by lone
     by (Idle a b) = subst (λ (l : List SentControl). Has l t) b before
     by (Queued n ok a b) = subst (λ (l : List SentControl). Has l t) b before
     by (Sent x ok a b) =
-        let z = taken-away p now (Some time) number then' on (waits p.outbox.control.sent before) in
+        let z = taken-away p now (Some time) number then' on (waits p.outbox.control.sent before) (λ u k same. ap (λ (y : SentControl). went_at then' y.transmission) (only u k ∙ sym (only t before)) ∙ went) in
         none-at (obeyed p now (Some time) m).after.outbox.control.sent (z.less ∙ ap (λ (l : List SentControl). length l) b) h
       where
+        only : (u : SentControl) → Has p.outbox.control.sent u → u ≡ x
+        only u k = elim (subst (λ (l : List SentControl). Has l u) b k) [ inl same ↦ sym same | inr none ↦ absurd none ]
+
         waits : (xs : List SentControl) → Has xs t → Has (map (λ (y : SentControl). y.command.number) xs) number
         waits [] k = absurd k
         waits (y ∷ xs) (inl same) = inl (ap (λ (z : SentControl). z.command.number) same ∙ e)
         waits (y ∷ xs) (inr k) = inr (waits xs k)
 
 pub came-away : (now time : ℕ) (from : End) (puts : List Put) (to new : End) (p : Peering) (put : Put) (number then' : ℕ) → AllCome now time from puts to new → Has puts put → to.peer ≡ Some p → p.state ≡ state.Connected → IsLone is_ping p.outbox.control
-    → put.message ≡ acknowledgement_of (record { channel = 0xFF; number = number; time = then' }) → Has from.log put → (q : Peering) × (new.peer ≡ Some q) × NoneOf q.outbox.control.sent number
+    → put.message ≡ acknowledgement_of (record { channel = 0xFF; number = number; time = then' }) → Has from.log put → (q : Peering) × (new.peer ≡ Some q) × NoneOf q.outbox.control.sent number then'
 came-away now time from [] to new p put number then' come has is on lone message logged = absurd has
 came-away now time from (x ∷ puts) to new p put number then' come (inr has) is on lone message logged =
     let k = stood-one now time from x to come.0 p come.1 is lone in
@@ -260,7 +264,7 @@ came-away now time from (x ∷ puts) to new p put number then' come (inl same) i
       subst (λ (y : Message). come.0 ≡ with_peer to (obeyed p now (Some time) y).after) said (subst (λ (y : Peering). come.0 ≡ with_peer to (obeyed y now (Some time) x.message).after) it h.3) in
       let peer : k.peer ≡ (obeyed p now (Some time) m).after = same-peer come.0 k.peer (obeyed p now (Some time) m).after k.is (ap (λ (e : End). e.peer) after) in
       let rest = stood-all now time from puts come.0 new k.peer come.2 k.is k.on k.lone in
-      (rest.peer, rest.is, λ t j e. none t (subst (λ (y : Peering). Has y.outbox.control.sent t) peer (rest.leaves.controls t j)) e)
+      (rest.peer, rest.is, λ t j e went. none t (subst (λ (y : Peering). Has y.outbox.control.sent t) peer (rest.leaves.controls t j)) e went)
   | inr late ↦ absurd (late.0 (subst (λ (y : Put). InTime to from y) (sym same) (in-time to from put logged (ap (λ (y : Message). y.head.channel) message))))
 ]
   where
@@ -270,5 +274,5 @@ came-away now time from (x ∷ puts) to new p put number then' come (inl same) i
     said : x.message ≡ m
     said = ap (λ (y : Put). y.message) same ∙ message
 
-    none : NoneOf (obeyed p now (Some time) m).after.outbox.control.sent number
+    none : NoneOf (obeyed p now (Some time) m).after.outbox.control.sent number then'
     none = one-away p now time number then' on lone

@@ -18,7 +18,7 @@ use Rattle.enet_rtt.specs.Timing.{timeout}
 use Rattle.law_connection.specs.Connection.{End}
 use Rattle.law_connection.proofs.Lists.{Has-push, Has-push_left}
 use Rattle.law_progress.specs.Exchanges.{PutsOne, PutsMany}
-use Rattle.law_progress.proofs.BothRounds.{AnswersAt}
+use Rattle.law_progress.proofs.BothRounds.{AnswersAt, went-last}
 use Rattle.law_progress.proofs.Controls.{GoesControl, Heads, Repeats, goes-control}
 use Rattle.law_progress.proofs.Exchanges.{same-peer, put_out, Gone, gone, Came, all-came, took-all}
 use Rattle.law_progress.proofs.Kept.{go-or-stay}
@@ -27,38 +27,39 @@ use Rattle.enet_world.proofs.Pinged.{leaves-then, Stood, stood-all, stood-takes,
 use Rattle.enet_world.proofs.Pings.{IsLone, Idle, Queued, Sent, is_ping, filled-lone}
 
 -- ---- a datagram is filled
-record From (o : Outbox) (f : Filling) : Type 0 where
-  from : (t : SentControl) → Has f.outbox.control.sent t → Has o.control.sent t ⊎ Has f.messages (controlling.message_of t.command)
+record From (now : ℕ) (o : Outbox) (f : Filling) : Type 0 where
+  from : (t : SentControl) → Has f.outbox.control.sent t → Has o.control.sent t ⊎ (Has f.messages (controlling.message_of t.command) × (t.transmission.last ≡ now))
 
--- what waits then waited, or was put in
-pinged-from : (pace : Pace) (o : Outbox) (t : SentControl) → Has (filled pace o).outbox.control.sent t → Has o.control.sent t ⊎ Has (filled pace o).messages (controlling.message_of t.command)
+-- what waits then waited, or was put in at this moment
+pinged-from : (pace : Pace) (o : Outbox) (t : SentControl) → Has (filled pace o).outbox.control.sent t → Has o.control.sent t ⊎ (Has (filled pace o).messages (controlling.message_of t.command) × (t.transmission.last ≡ pace.now))
 pinged-from pace o t h = (let all = made in all.from t h)
   where
-    later : (f : Filling) (m : Message) (x : SentControl) → Has o.control.sent x ⊎ Has f.messages (controlling.message_of x.command) → Has o.control.sent x ⊎ Has (f.messages ++ m ∷ []) (controlling.message_of x.command)
+    later : (f : Filling) (m : Message) (x : SentControl) → Has o.control.sent x ⊎ (Has f.messages (controlling.message_of x.command) × (x.transmission.last ≡ pace.now)) → Has o.control.sent x ⊎ (Has (f.messages ++ m ∷ []) (controlling.message_of x.command) × (x.transmission.last ≡ pace.now))
     later f m x (inl k) = inl k
-    later f m x (inr k) = inr (Has-push_left f.messages m (controlling.message_of x.command) k)
+    later f m x (inr k) = inr (Has-push_left f.messages m (controlling.message_of x.command) k.0, k.1)
 
     -- it is the one that was put in
-    now : (f : Filling) (n : controlling.Next) (x : SentControl) → n.command ≡ x.command → Has o.control.sent x ⊎ Has (f.messages ++ controlling.message_of n.command ∷ []) (controlling.message_of x.command)
-    now f n x e = inr (subst (λ m. Has (f.messages ++ controlling.message_of n.command ∷ []) m) (ap controlling.message_of e) (Has-push f.messages (controlling.message_of n.command)))
+    now : (f : Filling) (n : controlling.Next) (x : SentControl) → n.command ≡ x.command → x.transmission.last ≡ pace.now
+        → Has o.control.sent x ⊎ (Has (f.messages ++ controlling.message_of n.command ∷ []) (controlling.message_of x.command) × (x.transmission.last ≡ pace.now))
+    now f n x e last = inr (subst (λ m. Has (f.messages ++ controlling.message_of n.command ∷ []) m) (ap controlling.message_of e) (Has-push f.messages (controlling.message_of n.command)), last)
 
-    goes : (f : Filling) (n : controlling.Next) → From o f → GoesControl pace.now pace.timeout f.outbox.control n → (x : SentControl) → Has n.commands.sent x
-        → Has o.control.sent x ⊎ Has (f.messages ++ controlling.message_of n.command ∷ []) (controlling.message_of x.command)
+    goes : (f : Filling) (n : controlling.Next) → From pace.now o f → GoesControl pace.now pace.timeout f.outbox.control n → (x : SentControl) → Has n.commands.sent x
+        → Has o.control.sent x ⊎ (Has (f.messages ++ controlling.message_of n.command ∷ []) (controlling.message_of x.command) × (x.transmission.last ≡ pace.now))
     goes f n k (Heads y rest q is) x j = by (controlling.is_reliable y.control) (subst (λ (z : controlling.Next). Has z.commands.sent x) (sym is) j)
       where
-        by : (b : Bool) → Has (cond b (f.outbox.control.sent ++ controlling.begun pace.now pace.timeout y ∷ []) f.outbox.control.sent) x → Has o.control.sent x ⊎ Has (f.messages ++ controlling.message_of n.command ∷ []) (controlling.message_of x.command)
+        by : (b : Bool) → Has (cond b (f.outbox.control.sent ++ controlling.begun pace.now pace.timeout y ∷ []) f.outbox.control.sent) x → Has o.control.sent x ⊎ (Has (f.messages ++ controlling.message_of n.command ∷ []) (controlling.message_of x.command) × (x.transmission.last ≡ pace.now))
         by false i = later f (controlling.message_of n.command) x (k.from x i)
         by true i = elim (Has-pushed f.outbox.control.sent (controlling.begun pace.now pace.timeout y) x i) [
-          | inl same ↦ now f n x (sym (ap (λ (z : controlling.Next). z.command) is) ∙ ap (λ (z : SentControl). z.command) same)
+          | inl same ↦ now f n x (sym (ap (λ (z : controlling.Next). z.command) is) ∙ ap (λ (z : SentControl). z.command) same) (ap (λ (z : SentControl). z.transmission.last) (sym same))
           | inr old ↦ later f (controlling.message_of n.command) x (k.from x old)
         ]
     goes f n k (Repeats i p there due is) x j = elim (Has-set f.outbox.control.sent i (controlling.again pace.now p) x (subst (λ (z : controlling.Next). Has z.commands.sent x) (sym is) j)) [
-      | inl same ↦ now f n x (sym (ap (λ (z : controlling.Next). z.command) is) ∙ ap (λ (z : SentControl). z.command) same)
+      | inl same ↦ now f n x (sym (ap (λ (z : controlling.Next). z.command) is) ∙ ap (λ (z : SentControl). z.command) same) (ap (λ (z : SentControl). z.transmission.last) (sym same))
       | inr old ↦ later f (controlling.message_of n.command) x (k.from x old)
     ]
 
-    made : From o (filled pace o)
-    made = by-filling pace o (From o) (record {
+    made : From pace.now o (filled pace o)
+    made = by-filling pace o (From pace.now o) (record {
       closes = λ f k. record { from = k.from };
       acknowledges = λ f a rest e k. record { from = λ x j. later f _ x (k.from x j) };
       controls = λ f n e k. record { from = goes f n k (goes-control pace.now pace.timeout f.outbox.control n e) };
@@ -105,7 +106,7 @@ pub record Pinging (D : SentControl → Type 0) (from to : End) : Type 0 where
   pub other_is : to.peer ≡ Some other
   pub other_on : other.state ≡ state.Connected
   pub other_lone : IsLone is_ping other.outbox.control
-  pub all : (t : SentControl) → Has peer.outbox.control.sent t → D t ⊎ AnswersAt other 0xFF t.command.number
+  pub all : (t : SentControl) → Has peer.outbox.control.sent t → D t ⊎ AnswersAt other 0xFF t.command.number t.transmission
 
 pinging-one : (D : SentControl → Type 0) (now there : ℕ) (from to from' to' : End) → PutsOne now there from to from' to' → Pinging D from to → Pinging D from' to'
 pinging-one D now there from to from' to' o k = record {
@@ -145,21 +146,21 @@ pinging-one D now there from to from' to' o k = record {
     still : (a : Acknowledgement) → Has arrives.peer.outbox.acknowledgements a → Has takes.peer.outbox.acknowledgements a
     still a h = subst (λ (x : Peering). Has x.outbox.acknowledgements a) (same-peer to' taken.peer takes.peer taken.is takes.is) (taken.kept.acknowledgements a h)
 
-    all : (t : SentControl) → Has p.outbox.control.sent t → D t ⊎ AnswersAt takes.peer 0xFF t.command.number
+    all : (t : SentControl) → Has p.outbox.control.sent t → D t ⊎ AnswersAt takes.peer 0xFF t.command.number t.transmission
     all t h = by (pinged-from (pace_of k.peer now) k.peer.outbox t h)
       where
-        by : Has k.peer.outbox.control.sent t ⊎ Has (filled (pace_of k.peer now) k.peer.outbox).messages (controlling.message_of t.command) → D t ⊎ AnswersAt takes.peer 0xFF t.command.number
+        by : Has k.peer.outbox.control.sent t ⊎ (Has (filled (pace_of k.peer now) k.peer.outbox).messages (controlling.message_of t.command) × (t.transmission.last ≡ now)) → D t ⊎ AnswersAt takes.peer 0xFF t.command.number t.transmission
         by (inl old) = elim (k.all t old) [
           | inl d ↦ inl d
           | inr w ↦
               let a : Acknowledgement = record { channel = 0xFF; number = t.command.number; time = w.0 } in
-              inr (w.0, still a (subst (λ (x : Peering). Has x.outbox.acknowledgements a) (same-peer o.arrived came.peer arrives.peer came.is arrives.is) (came.kept.acknowledgements a w.1)))
+              inr (w.0, still a (subst (λ (x : Peering). Has x.outbox.acknowledgements a) (same-peer o.arrived came.peer arrives.peer came.is arrives.is) (came.kept.acknowledgements a w.1)), w.2)
         ]
         by (inr goes) =
-            let put = g.put (controlling.message_of t.command) goes in
+            let put = g.put (controlling.message_of t.command) goes.0 in
             let a : Acknowledgement = record { channel = 0xFF; number = t.command.number; time = now % 65536 } in
             let r = came-pinged there (now % 65536) from' o.new to o.arrived put.0 t.command o.come put.1 (sent-lone is_ping p.outbox.control lone t h) put.3 put.2 in
-            inr (now % 65536, still a (subst (λ (x : Peering). Has x.outbox.acknowledgements a) (same-peer o.arrived r.0 arrives.peer r.1 arrives.is) r.2))
+            inr (now % 65536, still a (subst (λ (x : Peering). Has x.outbox.acknowledgements a) (same-peer o.arrived r.0 arrives.peer r.1 arrives.is) r.2), went-last t.transmission now goes.1)
 
 pub pinging-many : (D : SentControl → Type 0) (now there n : ℕ) (from to from' to' : End) → PutsMany now there n from to from' to' → Pinging D from to → Pinging D from' to'
 pinging-many D now there zero from to from' to' m k = subst (λ (x : End). Pinging D x to') (sym m.0) (subst (λ (x : End). Pinging D from x) (sym m.1) k)
@@ -167,8 +168,8 @@ pinging-many D now there (suc n) from to from' to' m k = pinging-many D now ther
 
 -- its acknowledgement goes and takes it away, or waits still
 pub answers-pinged : (D : SentControl → Type 0) (now there n : ℕ) (from to from' to' : End) (q p : Peering) → PutsMany now there n from to from' to' → from.peer ≡ Some q → q.state ≡ state.Connected
-    → to.peer ≡ Some p → p.state ≡ state.Connected → IsLone is_ping p.outbox.control → ((t : SentControl) → Has p.outbox.control.sent t → D t ⊎ AnswersAt q 0xFF t.command.number)
-    → (r : Peering) × (to'.peer ≡ Some r) × (s : Peering) × (from'.peer ≡ Some s) × ((t : SentControl) → Has r.outbox.control.sent t → D t ⊎ AnswersAt s 0xFF t.command.number)
+    → to.peer ≡ Some p → p.state ≡ state.Connected → IsLone is_ping p.outbox.control → ((t : SentControl) → Has p.outbox.control.sent t → D t ⊎ AnswersAt q 0xFF t.command.number t.transmission)
+    → (r : Peering) × (to'.peer ≡ Some r) × (s : Peering) × (from'.peer ≡ Some s) × ((t : SentControl) → Has r.outbox.control.sent t → D t ⊎ AnswersAt s 0xFF t.command.number t.transmission)
 answers-pinged D now there zero from to from' to' q p m is on other_is other_on lone all = (p, ap (λ (x : End). x.peer) m.1 ∙ other_is, q, ap (λ (x : End). x.peer) m.0 ∙ is, all)
 answers-pinged D now there (suc n) from to from' to' q p m is on other_is other_on lone all =
     answers-pinged D now there n m.0 m.1 from' to' (put_out q now) takes.peer m.3 g.peer on takes.is takes.on takes.lone left
@@ -185,20 +186,20 @@ answers-pinged D now there (suc n) from to from' to' q p m is on other_is other_
     takes : Stood there m.1 arrives.peer
     takes = stood-takes there o.events o.arrived m.0 m.1 arrives.peer o.takes arrives.is arrives.on arrives.lone
 
-    left : (t : SentControl) → Has takes.peer.outbox.control.sent t → D t ⊎ AnswersAt (put_out q now) 0xFF t.command.number
+    left : (t : SentControl) → Has takes.peer.outbox.control.sent t → D t ⊎ AnswersAt (put_out q now) 0xFF t.command.number t.transmission
     left t h = by (all t (arrives.leaves.controls t then'))
       where
         then' : Has arrives.peer.outbox.control.sent t
         then' = takes.leaves.controls t h
 
-        by : D t ⊎ AnswersAt q 0xFF t.command.number → D t ⊎ AnswersAt (put_out q now) 0xFF t.command.number
+        by : D t ⊎ AnswersAt q 0xFF t.command.number t.transmission → D t ⊎ AnswersAt (put_out q now) 0xFF t.command.number t.transmission
         by (inl d) = inl d
         by (inr w) = elim ((go-or-stay (pace_of q now) q.outbox).acknowledgements a w.1) [
-          | inl stays ↦ inr (w.0, stays)
+          | inl stays ↦ inr (w.0, stays, w.2)
           | inr went ↦
               let put = g.put (acknowledgement_of a) went in
               let none = came-away there (now % 65536) m.0 o.new to o.arrived p put.0 t.command.number w.0 o.come put.1 other_is other_on lone put.3 put.2 in
-              absurd (none.2 t (subst (λ (y : Peering). Has y.outbox.control.sent t) (same-peer o.arrived arrives.peer none.0 arrives.is none.1) then') refl)
+              absurd (none.2 t (subst (λ (y : Peering). Has y.outbox.control.sent t) (same-peer o.arrived arrives.peer none.0 arrives.is none.1) then') refl w.2)
         ]
           where
             a : Acknowledgement

@@ -10,6 +10,7 @@ use Rattle.enet_fragment.specs.DataCommand.{message_of}
 use Rattle.enet_receiver.specs.Members.{Has}
 use Rattle.enet_rtt.specs.Transmission as transmission
 use Rattle.enet_rtt.specs.Transmission.{went_at}
+use Rattle.enet_rtt.specs.declared.transmission.Transmission.{Transmission}
 use Rattle.enet_rtt.specs.declared.expiry.Expiry.TheVariants.{No, Resend, End as Ends}
 use Rattle.enet_sender.specs.Sender.{left, marked, is_late as has_waited_out}
 use Rattle.enet_sender.specs.declared.sent.Sent.{Sent}
@@ -58,16 +59,16 @@ pub record Coming (other : End) (p : Peering) : Type 0 where
 abbrev pub OnItsWay : End → ℕ → Sent → Type 0
 OnItsWay other channel t = (time : ℕ) × (q : Peering) × (other.peer ≡ Some q) × Has q.outbox.acknowledgements (record { channel = channel; number = t.command.number; time = time }) × (went_at time t.transmission ≡ true)
 
-abbrev pub AnswersAt : Peering → ℕ → Sent → Type 0
-AnswersAt q channel t = (time : ℕ) × Has q.outbox.acknowledgements (record { channel = channel; number = t.command.number; time = time }) × (went_at time t.transmission ≡ true)
+abbrev pub AnswersAt : Peering → ℕ → ℕ → Transmission → Type 0
+AnswersAt q channel number t = (time : ℕ) × Has q.outbox.acknowledgements (record { channel = channel; number = number; time = time }) × (went_at time t ≡ true)
 
 -- so too of a command that has the same number, and the same sends
 pub on-its-way : (other : End) (channel : ℕ) (x t : Sent) → x.command.number ≡ t.command.number → ((time : ℕ) → went_at time x.transmission ≡ went_at time t.transmission) → OnItsWay other channel x → OnItsWay other channel t
 on-its-way other channel x t number went w = (w.0, w.1, w.2, subst (λ n. Has w.1.outbox.acknowledgements (record { channel = channel; number = n; time = w.0 })) number w.3, sym (went w.0) ∙ w.4)
 
 -- the time that a datagram tells is that of the last send of each command that it carries
-pub went-last : (t : Sent) (now : ℕ) → t.transmission.last ≡ now → went_at (now % 65536) t.transmission ≡ true
-went-last t now last = by _ _ _ (eq-eqb (now % 65536) (t.transmission.last % 65536) (ap (λ n. n % 65536) (sym last)))
+pub went-last : (t : Transmission) (now : ℕ) → t.last ≡ now → went_at (now % 65536) t ≡ true
+went-last t now last = by _ _ _ (eq-eqb (now % 65536) (t.last % 65536) (ap (λ n. n % 65536) (sym last)))
   where
     by : (a b c : Bool) → b ≡ true → (a || b || c) ≡ true
     by true b c e = refl
@@ -159,7 +160,7 @@ sending-one joined D now there p0 q0 from to from' to' o k = record {
           sent = w.sent;
           has = has;
           number = w.number;
-          went = went-last w.sent now w.last;
+          went = went-last w.sent.transmission now w.last;
           peer = way.0;
           is = way.1;
           there = way.2;
@@ -168,7 +169,7 @@ sending-one joined D now there p0 q0 from to from' to' o k = record {
     put-in : (channel : ℕ) (t : Sent) → HasSent p.outbox.senders channel t → PutIn now (filled (pace_of k.peer now) k.peer.outbox).messages channel t → OnItsWay to' channel t
     put-in channel t h put =
         let way = goes channel put.0 put.1 put.3 (waits-of p.outbox.senders channel put.0.number t h (sym put.2)) in
-        (now % 65536, way.0, way.1, subst (λ n. Has way.0.outbox.acknowledgements (record { channel = channel; number = n; time = now % 65536 })) put.2 way.2, went-last t now put.4)
+        (now % 65536, way.0, way.1, subst (λ n. Has way.0.outbox.acknowledgements (record { channel = channel; number = n; time = now % 65536 })) put.2 way.2, went-last t.transmission now put.4)
 
     all : (channel : ℕ) (t : Sent) → HasSent p.outbox.senders channel t → D channel t ⊎ OnItsWay to' channel t
     all channel t h = elim (emitted-from (pace_of k.peer now) k.peer.outbox sound channel t h) [
@@ -291,8 +292,8 @@ answers-many joined now there (suc n) from to from' to' q p a t m j is on other_
 
 -- all acknowledgements that wait go and come, or wait still; what comes takes its command away
 pub answers-all : (joined : Bool) (D : ℕ → Sent → Type 0) (now there n : ℕ) (from to from' to' : End) (q p : Peering) → PutsMany now there n from to from' to' → Joint joined from to → from.peer ≡ Some q → q.state ≡ state.Connected
-    → to.peer ≡ Some p → p.state ≡ state.Connected → ((channel : ℕ) (t : Sent) → HasSent p.outbox.senders channel t → D channel t ⊎ AnswersAt q channel t)
-    → (r : Peering) × (to'.peer ≡ Some r) × (s : Peering) × (from'.peer ≡ Some s) × ((channel : ℕ) (t : Sent) → HasSent r.outbox.senders channel t → D channel t ⊎ AnswersAt s channel t)
+    → to.peer ≡ Some p → p.state ≡ state.Connected → ((channel : ℕ) (t : Sent) → HasSent p.outbox.senders channel t → D channel t ⊎ AnswersAt q channel t.command.number t.transmission)
+    → (r : Peering) × (to'.peer ≡ Some r) × (s : Peering) × (from'.peer ≡ Some s) × ((channel : ℕ) (t : Sent) → HasSent r.outbox.senders channel t → D channel t ⊎ AnswersAt s channel t.command.number t.transmission)
 answers-all joined D now there zero from to from' to' q p m j is on other_is other_on all =
     (p, ap (λ (x : End). x.peer) m.1 ∙ other_is, q, ap (λ (x : End). x.peer) m.0 ∙ is, all)
 answers-all joined D now there (suc n) from to from' to' q p m j is on other_is other_on all =
@@ -319,13 +320,13 @@ answers-all joined D now there (suc n) from to from' to' q p m j is on other_is 
     came : Came to m.1 p
     came = then-came to o.arrived m.1 p arrives takes
 
-    left : (channel : ℕ) (t : Sent) → HasSent came.peer.outbox.senders channel t → D channel t ⊎ AnswersAt (put_out q now) channel t
+    left : (channel : ℕ) (t : Sent) → HasSent came.peer.outbox.senders channel t → D channel t ⊎ AnswersAt (put_out q now) channel t.command.number t.transmission
     left channel t h = by (all channel t old)
       where
         old : HasSent p.outbox.senders channel t
         old = came.kept.sent channel t h
 
-        by : D channel t ⊎ AnswersAt q channel t → D channel t ⊎ AnswersAt (put_out q now) channel t
+        by : D channel t ⊎ AnswersAt q channel t.command.number t.transmission → D channel t ⊎ AnswersAt (put_out q now) channel t.command.number t.transmission
         by (inl d) = inl d
         by (inr w) = elim ((go-or-stay (pace_of q now) q.outbox).acknowledgements a w.1) [
           | inl stays ↦ inr (w.0, stays, w.2)
@@ -375,7 +376,7 @@ exchanged joined D now there p0 q0 from to from1 to1 to2 from2 j is on other_is 
     u : Peering
     u = t.other
 
-    at : (channel : ℕ) (x : Sent) → HasSent s.peer.outbox.senders channel x → D channel x ⊎ AnswersAt s.other channel x
+    at : (channel : ℕ) (x : Sent) → HasSent s.peer.outbox.senders channel x → D channel x ⊎ AnswersAt s.other channel x.command.number x.transmission
     at channel x h = elim (s.all channel x h) [
       | inl d ↦ inl d
       | inr w ↦ inr (w.0, subst (λ (y : Peering). Has y.outbox.acknowledgements (record { channel = channel; number = x.command.number; time = w.0 })) (same-peer to1 w.1 s.other w.2 s.other_is) w.3, w.4)
@@ -467,10 +468,10 @@ all-marks-none bound now (x ∷ xs) h =
     )
 
 -- marks leave the times of sends
-went-marked : (bound now : ℕ) (x : Sent) (time : ℕ) → went_at time (marked bound now x).transmission ≡ went_at time x.transmission
-went-marked bound now x time = by (transmission.is_late now x.transmission)
+pub went-marked : (bound now : ℕ) (x : Transmission) (time : ℕ) → went_at time (transmission.marked bound now x) ≡ went_at time x
+went-marked bound now x time = by (transmission.is_late now x)
   where
-    by : (b : Bool) → went_at time (cond b (record x.transmission { timeout = transmission.grown_time bound x.transmission.timeout; due = true }) x.transmission) ≡ went_at time x.transmission
+    by : (b : Bool) → went_at time (cond b (record x { timeout = transmission.grown_time bound x.timeout; due = true }) x) ≡ went_at time x
     by true = refl
     by false = refl
 
@@ -523,7 +524,7 @@ ticked-so p now stays = by (has_ended p.outbox now p.patience p.heard) (has_late
           mtu = refl;
           idle = λ h. all-marks-none (growth_bound p) now p.outbox.senders h;
           from = λ channel t h due. (let m = sent-marked (growth_bound p) now p.outbox.senders channel t h in let k = from-marked (growth_bound p) now m.0.sender.sent t m.2 due in ((m.0, m.1, k.0), k.1));
-          was = λ channel t h. (let m = sent-marked (growth_bound p) now p.outbox.senders channel t h in let k = Has-mapped (marked (growth_bound p) now) m.0.sender.sent t m.2 in (k.0, (m.0, m.1, k.1), ap (λ (y : Sent). y.command.number) k.2, λ time. sym (went-marked (growth_bound p) now k.0 time) ∙ ap (λ (y : Sent). went_at time y.transmission) k.2));
+          was = λ channel t h. (let m = sent-marked (growth_bound p) now p.outbox.senders channel t h in let k = Has-mapped (marked (growth_bound p) now) m.0.sender.sent t m.2 in (k.0, (m.0, m.1, k.1), ap (λ (y : Sent). y.command.number) k.2, λ time. sym (went-marked (growth_bound p) now k.0.transmission time) ∙ ap (λ (y : Sent). went_at time y.transmission) k.2));
           still = waits-marked (growth_bound p) now p.outbox.senders;
           acknowledgements = refl;
         }))

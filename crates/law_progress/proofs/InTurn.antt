@@ -149,7 +149,7 @@ played joined D E now there c d p q i open_one open_two r waits_one waits_two = 
     t2 = took-all r.events_two r.two_out d.one d.two b.peer r.takes_two b.is b.connected
 
     -- what waited at the other end, once the one end has put out all
-    at_two : (channel : ℕ) (t : Sent) → HasSent q0.outbox.senders channel t → E channel t ⊎ AnswersAt p0 channel t
+    at_two : (channel : ℕ) (t : Sent) → HasSent q0.outbox.senders channel t → E channel t ⊎ AnswersAt p0 channel t.command.number t.transmission
     at_two channel t h = elim (waits_two q0 s2.is channel t h) [
       | inl e ↦ inl e
       | inr w ↦ inr (
