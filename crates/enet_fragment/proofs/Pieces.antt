@@ -7,7 +7,7 @@ use Rattle.std.proofs.lemmas.List.Folds.{list_all-map}
 use Rattle.std.proofs.lemmas.Bool.Decides.{nat_tests}
 use Rattle.std.specs.List.{list_all}
 use Rattle.enet_fragment.specs.Assembly.{pieces_in, first_piece, marked, missing_in}
-use Rattle.enet_fragment.specs.Private.Assembly.{written_at}
+use Rattle.enet_fragment.specs.Collected.{written_at}
 use Rattle.enet_fragment.specs.PartialPacket.{joined}
 
 -- the marks are those that are marked
@@ -101,7 +101,7 @@ pieces_in-unmarked cut bytes (x ∷ rest) (suc i) =
     ∙ ap (λ r. marked x (first_piece cut bytes (length rest)) ∷ r) (pieces_in-unmarked cut (drop cut bytes) rest i)
 
 -- a write at the front
-front_of : (at : ℕ) (new bytes : List ℕ) → at ≡ 0 → written_at at new bytes ≡ new ++ drop (length new) bytes
+pub front_of : (at : ℕ) (new bytes : List ℕ) → at ≡ 0 → written_at at new bytes ≡ new ++ drop (length new) bytes
 front_of at new bytes e = rw e (rw zero-add refl)
 
 -- a write past the front leaves the front, and what follows it is written as much earlier
@@ -111,7 +111,7 @@ take-written cut at new bytes h k =
     take-append-le cut (take at bytes) (new ++ drop (at + length new) bytes) enough
     ∙ sym (ap (λ b. take cut b) (sym (take-append-drop at bytes)) ∙ take-append-le cut (take at bytes) (drop at bytes) enough)
 
-drop-written : (cut at : ℕ) (new bytes : List ℕ) → cut + at ≤ length bytes → drop cut (written_at (cut + at) new bytes) ≡ written_at at new (drop cut bytes)
+pub drop-written : (cut at : ℕ) (new bytes : List ℕ) → cut + at ≤ length bytes → drop cut (written_at (cut + at) new bytes) ≡ written_at at new (drop cut bytes)
 drop-written cut at new bytes h =
     let enough : cut ≤ length (take (cut + at) bytes) = omega (arith, length-take-le (cut + at) bytes h) in
     let same : cut + at + length new ≡ cut + (at + length new) = omega arith in

@@ -1,6 +1,7 @@
 -- The packet that an assembly or a gathering stands for, where every piece has come.
-use Rattle.std.proofs.Common.{ℕ, zero, suc, ◌≡◌, ◌<◌, ◌≤◌, ◌^◌, ◌&&◌, Bool, true, false, eqb, ltb, List, [], ◌∷◌, length, get_or, Option, Some, None, is_some, IsSome, refl, sym, ap, subst, ◌∙◌, arith, IsTrue, ◌↔◌}
+use Rattle.std.proofs.Common.{ℕ, zero, suc, ◌≡◌, ◌-◌, ◌<◌, ◌≤◌, ◌^◌, ◌&&◌, Bool, true, false, eqb, ltb, List, [], ◌∷◌, length, get_or, Option, Some, None, is_some, IsSome, refl, sym, ap, subst, ◌∙◌, arith, IsTrue, ◌↔◌}
 use Rattle.std.proofs.Math.ListN.{set, replicate}
+use Rattle.std.proofs.lemmas.List.{length-set}
 use Rattle.std.proofs.lemmas.List.Sums.{list_all-from_AllPass}
 use Rattle.std.proofs.lemmas.Bool.Decides.{nat_tests}
 use borrow.Author.Tests.{eqb-true}
@@ -10,12 +11,14 @@ use Rattle.enet_fragment.specs.declared.partial_packet.State.{State}
 use Rattle.enet_fragment.specs.declared.partial_packet.State.TheVariants as states
 use Rattle.enet_fragment.specs.Place.{told_piece_len, is_sound}
 use Rattle.enet_fragment.specs.PartialPacket.{PartialPacket, count_of, piece_at, IsWhole, is_same_cut, belongs, with_piece, without_piece}
-use Rattle.enet_fragment.specs.Assembly.{making_of, missing_in}
+use Rattle.enet_fragment.specs.Assembly.{making_of, missing_in, AreKept}
+use Rattle.enet_fragment.specs.Collected.{written_at}
 use Rattle.enet_fragment.specs.Whole.{is_whole, whole_of}
 use Rattle.enet_fragment.specs.Gathered.{gathered, IsKept}
 use Rattle.enet_fragment.proofs.Places.{Fits, Fits-from_test}
 use Rattle.enet_fragment.proofs.Pieces.{length-pieces_in, list_all-pieces_in}
-use Rattle.enet_fragment.proofs.Laws.{IsWhole-tested, count_of-whole_of, piece_at-whole_of, belongs-below}
+use Rattle.enet_fragment.proofs.Views.{AreKept-after, making_of-after, IsWhole-counted, mark_of, others_of, inside_of}
+use Rattle.enet_fragment.proofs.Laws.{IsWhole-tested, count_of-whole_of, piece_at-whole_of, belongs-below, is_whole-with_piece}
 
 -- no mark is missing
 all_marks : (came : List Bool) → missing_in came ≡ 0 → replicate (length came) true ≡ came
@@ -97,3 +100,34 @@ last_test value false last belongs e h f = cc
 pub no_last_test : (value tests last belongs : Bool) → value ≡ tests → value ≡ false → belongs ≡ (tests && last) → value ≡ belongs
 no_last_test value true last belongs e h f = cc
 no_last_test value false last belongs e h f = h ∙ sym f
+
+-- a packet of which one piece was missing, with this one
+pub last-whole : (bytes new after : List ℕ) (came : List Bool) (missing : ℕ) (cut : Option ℕ) (m : PartialPacket) (p : Place) (told : ℕ) → after ≡ written_at p.offset new bytes → told ≡ told_piece_len p → AreKept bytes came missing cut → making_of bytes came cut ≡ m → belongs m p ≡ true → piece_at m p.number ≡ None → p.len ≡ length new → missing ≡ 1 → whole_of after (count_of m) (Some told) ≡ with_piece m p new
+last-whole bytes new after came missing cut m p told e f k v b none l one =
+    let marks : List Bool = set came p.number true in
+    let made : making_of after marks (Some told) ≡ with_piece m p new = making_of-after bytes new after came missing cut m p told e f k v b l in
+    let less : AreKept after marks (missing - 1) (Some told) = AreKept-after bytes new after came missing cut m p told e f k v b none l in
+    let all : (missing - 1) ≡ 0 = omega arith in
+    let whole : IsWhole (with_piece m p new) = (IsWhole-counted after marks (missing - 1) (Some told) (with_piece m p new) made less.counted).0 (ap (λ n. eqb n 0) all) in
+    let many : count_of (with_piece m p new) ≡ count_of m = length-set m.pieces p.number (Some new) in
+    ap (λ n. whole_of after n (Some told)) (sym many)
+    ∙ (ap (λ t. whole_of after (count_of (with_piece m p new)) (Some t)) f
+    ∙ whole_of-making after marks (missing - 1) (Some told) (with_piece m p new) made less.counted whole)
+
+-- a packet that misses a piece isn't whole
+misses : (pieces : List (Option (List ℕ))) (i : ℕ) → i < length pieces → get_or pieces i None ≡ None → list_all is_some pieces ≡ false
+misses [] i h e = absurd (omega arith)
+misses (None ∷ rest) i h e = refl
+misses (Some x ∷ rest) zero h e = cc
+misses (Some x ∷ rest) (suc i) h e = misses rest i (omega arith) e
+
+pub is_whole-missing : (m : PartialPacket) (p : Place) → belongs m p ≡ true → piece_at m p.number ≡ None → is_whole m ≡ false
+is_whole-missing m p b none = misses m.pieces p.number (belongs-below m p b) none
+
+-- nor does a piece make it whole that isn't the last one missing
+pub is_whole-still : (bytes new : List ℕ) (came : List Bool) (missing : ℕ) (cut : Option ℕ) (m after : PartialPacket) (p : Place) → after ≡ with_piece m p new → AreKept bytes came missing cut → making_of bytes came cut ≡ m → belongs m p ≡ true → piece_at m p.number ≡ None → eqb missing 1 ≡ false → is_whole after ≡ false
+is_whole-still bytes new came missing cut m after p e k v b none more =
+    let unmarked : get_or came p.number false ≡ false = sym (mark_of bytes came cut m p.number v) ∙ ap is_some none in
+    ap (λ (q : PartialPacket). is_whole q) e
+    ∙ (is_whole-with_piece m p new
+    ∙ (others_of bytes came missing cut m p.number v k.counted (inside_of bytes came cut m p v b) unmarked ∙ more))

@@ -1,5 +1,5 @@
 -- What the fields of an assembly mean.
-use Rattle.std.specs.Prelude.{ℕ, zero, suc, ◌≡◌, ◌-◌, ◌*◌, ◌≤◌, ◌<◌, ◌^◌, Bool, if◌then◌else◌, Option, Some, None, List, [], ◌∷◌, ◌++◌, length, take, drop, replicate, slice_index_or, unwrap_or, true, false}
+use Rattle.std.specs.Prelude.{ℕ, zero, suc, ◌≡◌, ◌-◌, ◌*◌, ◌≤◌, ◌<◌, ◌^◌, Bool, if◌then◌else◌, Option, Some, None, List, [], ◌∷◌, length, take, drop, unwrap_or, true, false}
 use Rattle.std.specs.Option.{ForSome, ForNone}
 use Rattle.enet_fragment.specs.PartialPacket.{PartialPacket}
 
@@ -35,15 +35,3 @@ pub record AreKept (bytes : List ℕ) (came : List Bool) (missing : ℕ) (cut : 
   pub counted : missing ≡ missing_in came
   pub in_range : ForSome cut (λ c. (length came - 1) * c ≤ length bytes)
   pub nothing_told : ForNone cut (missing ≡ length came)
-
--- so many bytes: these, and zeros past them
-abbrev pub filled_up : ℕ → List ℕ → List ℕ
-filled_up total bytes = bytes ++ replicate (total - length bytes) 0
-
--- what an assembly's fields keep, which stand for the packet of their bytes with zeros past them: there is room for the whole
--- packet, and where the last piece has come its bytes are all there
-pub record AreHeld (bytes : List ℕ) (room total : ℕ) (came : List Bool) (missing : ℕ) (cut : Option ℕ) : Type 0 where
-  pub kept : AreKept (filled_up total bytes) came missing cut
-  pub within : length bytes ≤ total
-  pub roomy : total ≤ room
-  pub reached : slice_index_or came (length came - 1) false ≡ true → length bytes ≡ total

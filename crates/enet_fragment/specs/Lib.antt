@@ -3,6 +3,9 @@ pub mod Cutting
 pub mod Place
 pub mod PartialPacket
 pub mod Assembly
+pub mod Memory
+pub mod Collected
+pub mod Stored
 pub mod Whole
 pub mod Gathered
 pub mod Marks

@@ -4,27 +4,34 @@
 //! (`planned`; clauses `enough`, `least`, `none`). `piece` gives each piece's offset and length, which are those of the
 //! pieces in order (`piece_span`), and the pieces one after another are the body (`pieces_make_the_body`). `Assembly::put`
 //! and `foresee` answer Bad, Again, Whole or New exactly by the definition `put_outcome`, where Whole is decided by the set
-//! of numbers that have come, and `put` changes exactly what `after_put` says, nothing for Again and Bad; `unmark` takes
-//! back one piece alone; `is_whole` is that the piece of every number has come; `finish` gives the pieces' bytes in the
-//! order of their numbers, and for want of memory hands back the same assembly; `Assembly::new` fails with E1 alone; `word`
-//! gives the marks of what has come, 32 to a word. `Marks` has them: each call on the list of marks, exactly.
-//! `PartialPacket`, a packet that came or is coming, does the same, but the piece that makes it whole is finished in the call
-//! that brings it (`add`), so that handing the body out (`into_body`) takes no memory. `DataCommand::command` is the command
-//! on the wire, and what is written so is read again as itself (`what_is_read_was_written`). A huge count or total is had in
-//! full or is E1, never a wrapped size.
+//! of numbers that have come, and `put` changes exactly what `after_put` says, nothing for Again and Bad, and nothing where it
+//! can't have memory (E1); `unmark` takes back one piece alone; `is_whole` is that the piece of every number has come; `finish`
+//! gives the pieces' bytes in the order of their numbers, and for want of memory hands back the same assembly; `Assembly::new`
+//! fails with E1 alone; `word` gives the marks of what has come, 32 to a word. `Marks` has them: each call on the list of
+//! marks, exactly. `PartialPacket`, a packet that came or is coming, does the same, but the piece that makes it whole is
+//! finished in the call that brings it (`add`), so that handing the body out (`into_body`) takes no memory.
+//! `PartialPacket::memory`, what it has taken for its pieces, is at most `memory_bound`: twice the bytes of the pieces that
+//! came, 64 for each of them, a bit for each piece of the packet, and 512 bytes. So a piece that comes early takes no room for
+//! those before it. `DataCommand::command` is the command on the wire, and what is written so is read again as itself
+//! (`what_is_read_was_written`). A huge count or total is E1 at the last piece or had in full, never a wrapped size.
 //! Only tested, in `check_numbers` and `check_peer`: that calls succeed with ample memory; by hand, not by the gate, that each
-//! allocation may fail (two in `new`, one in `finish`).
-//! Neither: how much time and memory the calls take. By the code, an assembly takes `total` bytes and one bit a piece,
-//! `put` copies the piece once and fills what it is the first to skip with zeros, so each byte at most once over all puts;
-//! it walks over nothing else. `finish` copies nothing.
+//! allocation may fail (one in `new`, two at most in `put`, two in `finish`).
+//! Neither: how much time the calls take, and what the allocator gives for what is asked of it. By the code, `put` copies its
+//! piece once and walks over nothing else; but where the room of the pieces in order is full, it doubles, which copies each
+//! byte once more at most over all puts. `finish`, and the piece that makes a `PartialPacket` whole, copy each byte once more
+//! into a body of exactly the packet's length, over zeros where pieces had come early. An assembly from which marks were taken
+//! back keeps those pieces' bytes, too.
 #![tactic(auto)]
 
 mod assembly;
+mod buffer;
+mod collected;
 mod cutting;
 mod data;
 mod filled;
 mod marks;
 mod partial_packet;
+mod piece_store;
 mod place;
 
 pub use assembly::{Assembly, Put};

@@ -2,6 +2,7 @@
 
 ghost use Rattle.std.specs.Prelude.{◌≡◌, ℕ, ◌+◌, ◌*◌, ◌<◌, ◌↔◌, ◌==◌, Bool, true, false, IfOk, IfErr, IfSome, IsSome, length, replicate, slice_set, slice_index_or};
 ghost use Rattle.std.specs.Int.{bit_at};
+ghost use Rattle.enet_fragment.specs.Memory.{words_of};
 
 use crate::filled::filled;
 use enet_codec::Refusal;
@@ -48,6 +49,13 @@ impl Marks {
         ensures { result ≡ slice_index_or self.now i false }
     {
         i < self.count && (self.words[(i / 32) as usize] >> (i % 32)) & 1 == 1
+    }
+
+    /// How many bytes its words take.
+    pub(crate) fn memory(&self) -> usize
+        ensures { result ≡ 4 * words_of (length self.now) }
+    {
+        4 * self.words.len()
     }
 
     /// Sets a mark.

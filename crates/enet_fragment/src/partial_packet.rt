@@ -1,13 +1,15 @@
 //! A packet that came or is coming.
 
-ghost use Rattle.std.specs.Prelude.{◌≡◌, ◌≤◌, ◌<◌, ◌^◌, IsTrue, IfOk, IfErr, OnOk, OnErr, IsSome, is_some, length};
+ghost use Rattle.std.specs.Prelude.{◌≡◌, ◌≤◌, ◌<◌, ◌^◌, None, IsTrue, IfOk, IfErr, OnOk, OnErr, is_some, length};
 ghost use Rattle.enet_fragment.specs.PartialPacket.{nothing_yet, put_outcome, belongs, piece_at, with_piece, count_of, joined};
+ghost use Rattle.enet_fragment.specs.Memory.{memory_bound};
+ghost use Rattle.enet_fragment.specs.Stored.{stored, IsStored, IsFrugal};
 ghost use Rattle.enet_fragment.specs.Place.{is_sound};
 ghost use Rattle.enet_fragment.specs.Whole.{is_whole, single_of};
 ghost use Rattle.enet_fragment.specs.Gathered.{gathered, IsKept};
 
-use crate::assembly::has_same_cut;
-use crate::{Assembly, Place, Put};
+use crate::piece_store::{PieceStore, has_same_cut};
+use crate::{Place, Put};
 use bytes::Bytes;
 use enet_codec::Refusal;
 use std::alloc::Global;
@@ -24,7 +26,7 @@ pub struct PartialPacket {
 /// The pieces so far, or the whole.
 #[derive(Drop)]
 enum State {
-    Missing(Assembly),
+    Missing(PieceStore),
     Whole {
         body: Bytes,
         count: u32,
@@ -61,7 +63,7 @@ impl PartialPacket {
         }
     }
 
-    /// The packet of which this is the first piece that came. It takes the packet's bytes and one mark a piece. Answers
+    /// The packet of which this is the first piece that came. It takes the piece's bytes and one mark a piece. Answers
     /// `Refusal::Memory` where it can't have them.
     pub fn first(alloc: Global, place: Place, bytes: &[u8]) -> Result<PartialPacket, Refusal>
         requires sound { IsTrue (is_sound place) }
@@ -75,10 +77,10 @@ impl PartialPacket {
                 Err(_) => Err(Refusal::Memory),
             };
         }
-        let mut assembly = Assembly::new(alloc, place.count, place.total)?;
-        assembly.add(place, bytes);
+        let mut store = PieceStore::new(alloc, place.count, place.total)?;
+        store.add(place, bytes)?;
         Ok(PartialPacket {
-            state: State::Missing(assembly),
+            state: State::Missing(store),
         })
     }
 
@@ -88,7 +90,7 @@ impl PartialPacket {
         ensures { result ≡ put_outcome self.now place }
     {
         match &self.state {
-            State::Missing(assembly) => assembly.foresee(place),
+            State::Missing(store) => store.foresee(place),
             State::Whole { .. } => {
                 if self.belongs(place) {
                     Put::Again
@@ -105,7 +107,7 @@ impl PartialPacket {
         ensures { result ≡ belongs self.now place }
     {
         match &self.state {
-            State::Missing(assembly) => assembly.belongs(place),
+            State::Missing(store) => store.belongs(place),
             State::Whole { body, count, cut } => {
                 place.is_sound()
                     && place.is_of_size(*count as usize, body.len())
@@ -119,7 +121,7 @@ impl PartialPacket {
         ensures { result ≡ is_some (piece_at self.now number) }
     {
         match &self.state {
-            State::Missing(assembly) => assembly.has(number),
+            State::Missing(store) => store.has(number),
             State::Whole { count, .. } => number < *count,
         }
     }
@@ -140,7 +142,7 @@ impl PartialPacket {
             cut: None,
         };
         match mem::replace(&mut self.state, nothing) {
-            State::Missing(assembly) => match grown(assembly, place, bytes) {
+            State::Missing(store) => match grown(store, place, bytes) {
                 Ok(state) => {
                     self.state = state;
                     Ok(())
@@ -170,7 +172,7 @@ impl PartialPacket {
         ensures some { 1 ≤ result }
     {
         match &self.state {
-            State::Missing(assembly) => assembly.count(),
+            State::Missing(store) => store.count(),
             State::Whole { count, .. } => *count,
         }
     }
@@ -180,8 +182,19 @@ impl PartialPacket {
         ensures { result ≡ self.now.total }
     {
         match &self.state {
-            State::Missing(assembly) => assembly.total(),
+            State::Missing(store) => store.total(),
             State::Whole { body, .. } => body.len() as u32,
+        }
+    }
+
+    /// How many bytes of memory it has taken for its pieces: at most twice their bytes, 64 for each of them, a bit for each
+    /// piece of the packet, and 512 bytes.
+    pub fn memory(&self) -> u64
+        ensures { result ≤ memory_bound self.now }
+    {
+        match &self.state {
+            State::Missing(store) => store.memory(),
+            State::Whole { body, .. } => body.len() as u64,
         }
     }
 
@@ -198,30 +211,30 @@ impl PartialPacket {
     }
 }
 
-/// The assembly with a piece that belongs to it and has not come; one body if it was the last. For want of memory it
-/// hands the assembly back as it was.
-fn grown(mut assembly: Assembly, place: Place, bytes: &[u8]) -> Result<State, Assembly>
+/// The pieces with one that belongs to them and has not come; one body if it was the last. For want of memory it hands the
+/// pieces back as they were.
+fn grown(mut store: PieceStore, place: Place, bytes: &[u8]) -> Result<State, PieceStore>
+    requires stored { IsStored store × IsFrugal store }
     requires fits { place.len ≡ length bytes.now }
-    requires belongs { IsTrue (belongs assembly place) }
-    requires missing { piece_at assembly place.number ≡ None }
-    requires told { IsSome assembly.cut }
-    ensures ok { IfOk result (λ state. gathered state ≡ with_piece assembly place bytes.now) }
-    ensures kept { IfOk result (λ state. IsKept state) }
-    ensures memory { IfErr result (λ kept. kept ≡ assembly) }
+    requires belongs { IsTrue (belongs (stored store) place) }
+    requires missing { piece_at (stored store) place.number ≡ None }
+    ensures ok { IfOk result (λ state. gathered state ≡ with_piece (stored store) place bytes.now) }
+    ensures kept { IfOk result IsKept }
+    ensures memory { IfErr result (λ kept. stored kept ≡ stored store) }
+    ensures handed_back { IfErr result (λ kept. IsKept (State.Missing kept)) }
 {
-    assembly.add(place, bytes);
-    if !assembly.is_whole() {
-        return Ok(State::Missing(assembly));
+    if store.misses_one() {
+        return match store.body_with(place, bytes) {
+            Ok(body) => Ok(State::Whole {
+                body,
+                count: place.count,
+                cut: Some(place.told_piece_len()),
+            }),
+            Err(_) => Err(store),
+        };
     }
-    match assembly.finish() {
-        Ok(body) => Ok(State::Whole {
-            body,
-            count: place.count,
-            cut: Some(place.told_piece_len()),
-        }),
-        Err(mut kept) => {
-            kept.unmark(place.number);
-            Err(kept)
-        }
+    match store.add(place, bytes) {
+        Ok(()) => Ok(State::Missing(store)),
+        Err(_) => Err(store),
     }
 }

@@ -14,7 +14,7 @@ use Rattle.enet_seq.specs.Numbering.{Numbering, wire}
 use Rattle.enet_seq.specs.Windows.{after}
 use Rattle.enet_fragment.specs.declared.place.Place.{Place}
 use Rattle.enet_fragment.specs.PartialPacket.{PartialPacket, count_of, nothing_yet, piece_at, belongs, joined}
-use Rattle.enet_fragment.specs.Private.Assembly.{written_at}
+use Rattle.enet_fragment.specs.Collected.{written_at}
 use Rattle.enet_fragment.specs.Whole.{is_whole}
 use Rattle.enet_fragment.specs.declared.data.DataCommand.{DataCommand}
 use Rattle.enet_fragment.specs.DataCommand.{piece_of, place_in_packet}

@@ -1,6 +1,6 @@
 -- What the fields of an assembly mean.
-use Rattle.std.specs.Prelude.{ℕ, ◌++◌, ◌+◌, List, length, take, drop}
+use Rattle.std.specs.Prelude.{ℕ, ◌++◌, ◌-◌, List, length, replicate}
 
--- a buffer with these bytes at this offset
-abbrev pub written_at : ℕ → List ℕ → List ℕ → List ℕ
-written_at offset bytes buffer = take offset buffer ++ (bytes ++ drop (offset + length bytes) buffer)
+-- so many bytes: these, and zeros past them
+abbrev pub filled_up : ℕ → List ℕ → List ℕ
+filled_up total bytes = bytes ++ replicate (total - length bytes) 0
