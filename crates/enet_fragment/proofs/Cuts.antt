@@ -22,10 +22,24 @@ enough_if : (empty : Bool) (len piece count : ℕ) → empty ≡ eqb len 0 → l
 enough_if true len piece count e h = grind (arith, nat_tests)
 enough_if false len piece count e h = h
 
+-- a piece has a length that every mtu allows
+some : (mtu : ℕ) → 0 < piece_length mtu
+some mtu = grind (arith, nat_tests)
+
+pub at-least : (mtu : ℕ) → 512 ≤ piece_length mtu
+at-least mtu = grind (arith, nat_tests)
+
+pub at-most : (mtu : ℕ) → piece_length mtu ≤ 4068
+at-most mtu = grind (arith, nat_tests)
+
+-- what every mtu of a peer leaves to a piece
+pub usual : (mtu : ℕ) → 540 ≤ mtu → mtu ≤ 4096 → piece_length mtu ≡ mtu - 28
+usual mtu h k = grind (arith, nat_tests)
+
 pub piece_count-enough : (len mtu : ℕ) → 28 < mtu → len ≤ piece_count len mtu * piece_length mtu
 unfolding piece_count
 piece_count-enough len mtu h =
-    enough_if (eqb len 0) len (mtu - 28) ((len - 1) / (mtu - 28) + 1) refl (enough len (mtu - 28) (omega arith))
+    enough_if (eqb len 0) len (piece_length mtu) ((len - 1) / piece_length mtu + 1) refl (enough len (piece_length mtu) (some mtu))
 
 pub concat-pieces_of : (mtu : ℕ) (body : List ℕ) → 28 < mtu → concat (pieces_of mtu body) ≡ body
 concat-pieces_of mtu body h = concat-cut_up (piece_length mtu) _ body (piece_count-enough (length body) mtu h)

@@ -4,7 +4,7 @@ use Rattle.std.proofs.lemmas.Bool.Decides.{nat_tests}
 use Rattle.enet_fragment.specs.declared.place.Place.{Place}
 use Rattle.std.proofs.Math.Nat.{div-le_self}
 use borrow.Author.Tests.{ltb-true, leb-true, eqb-true}
-use Rattle.enet_fragment.specs.Place.{told_piece_len, is_even, is_sound}
+use Rattle.enet_fragment.specs.Place.{told_piece_len, is_even, is_of_piece_length, is_sound}
 use Rattle.enet_fragment.specs.PartialPacket.{PartialPacket, count_of, piece_at, is_same_cut, belongs, have_others_come, put_outcome}
 use Rattle.enet_fragment.specs.declared.assembly.Put.{Put}
 use Rattle.enet_fragment.specs.declared.assembly.Put.TheVariants.{New, Again, Whole, Bad}
@@ -52,8 +52,9 @@ Sound-from_test p h =
     let begins : Bool = eqb p.offset (p.number * told_piece_len p) in
     let long : Bool = eqb p.len (cond (eqb (p.number + 1) p.count) (p.total - p.offset) (told_piece_len p)) in
     let room : Bool = leb ((p.count - 1) * told_piece_len p) p.total in
-    let h1 = and_first (below && limit && ends) (begins && long && room) h in
-    let h2 = and_second (below && limit && ends) (begins && long && room) h in
+    let even = and_first (below && limit && ends && (begins && long && room)) (is_of_piece_length p) h in
+    let h1 = and_first (below && limit && ends) (begins && long && room) even in
+    let h2 = and_second (below && limit && ends) (begins && long && room) even in
     let is_below : ltb p.number p.count ≡ true = and_first below limit (and_first (below && limit) ends h1) in
     let is_limit : leb p.count 16384 ≡ true = and_second below limit (and_first (below && limit) ends h1) in
     let is_ends : leb (p.offset + p.len) p.total ≡ true = and_second (below && limit) ends h1 in

@@ -1,9 +1,10 @@
 -- How a packet is cut into pieces before it is sent.
-use Rattle.std.specs.Prelude.{ℕ, zero, suc, ◌+◌, ◌-◌, ◌*◌, ◌/◌, ◌==◌, ◌&&◌, nat_le, nat_lt, if◌then◌else◌, Option, Some, None, List, [], ◌∷◌, length, take, drop, min, is_some}
+use Rattle.std.specs.Prelude.{ℕ, zero, suc, ◌+◌, ◌-◌, ◌*◌, ◌/◌, ◌==◌, ◌&&◌, nat_le, nat_lt, if◌then◌else◌, Option, Some, None, List, [], ◌∷◌, length, take, drop, min, max, is_some}
 
--- the length of each piece but the last one: what a datagram of this mtu has room for beside its headers
+-- the length of each piece but the last one: what a datagram of this mtu has room for beside its headers. An mtu is 576 to 4,096, so
+-- that no piece is meant to be below 512 or above 4,068
 abbrev pub piece_length : ℕ → ℕ
-piece_length mtu = mtu - 28
+piece_length mtu = max 512 (min 4068 (mtu - 28))
 
 -- the least number of pieces of at most that length that a packet of so many bytes can be cut into; one where it is empty
 unfoldable pub piece_count : ℕ → ℕ → ℕ

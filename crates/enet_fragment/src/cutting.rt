@@ -4,8 +4,19 @@ ghost use Rattle.std.specs.Prelude.{◌≡◌, ℕ, ◌<◌, ◌≤◌, ◌*◌,
 ghost use Rattle.std.specs.List.{concat};
 ghost use Rattle.enet_fragment.specs.Cutting.{planned, piece_span, piece_length, pieces_of};
 
+use crate::place::{LONGEST_PIECE, SHORTEST_PIECE};
 use crate::{FRAGMENT_LIMIT, FRAGMENT_OVERHEAD};
 use bytes::Bytes;
+
+/// How many bytes each piece but the last has: `mtu - 28`, where `mtu` is 576 to 4,096 (ENet 1.3). Never below 512 or above
+/// 4,068, whatever it is.
+pub fn piece_length(mtu: u32) -> u32
+    ensures { result ≡ piece_length mtu }
+{
+    mtu.saturating_sub(FRAGMENT_OVERHEAD)
+        .min(LONGEST_PIECE)
+        .max(SHORTEST_PIECE)
+}
 
 /// How many pieces a packet of so many bytes is cut into: the least number of pieces of at most `mtu - 28` bytes, and 1
 /// for an empty packet (ENet 1.3). `mtu` is 576 to 4,096. None exactly where the number is above the limit of 16,384 (our
@@ -20,7 +31,7 @@ pub fn plan(len: usize, mtu: u32) -> Option<u32>
     ensures least { IfSome result (λ count. (n : ℕ) → 1 ≤ n → len ≤ n * piece_length mtu → count ≤ n) }
     ensures none { IfNone result (16384 * piece_length mtu < len) }
 {
-    let cut = (mtu - FRAGMENT_OVERHEAD) as usize;
+    let cut = piece_length(mtu) as usize;
     let count = if len == 0 { 1 } else { (len - 1) / cut + 1 };
     if count <= FRAGMENT_LIMIT as usize {
         Some(count as u32)
@@ -43,7 +54,7 @@ pub fn piece(body: &Bytes, i: u32, mtu: u32) -> Option<(u32, u32)>
     if i >= count {
         return None;
     }
-    let cut = mtu - FRAGMENT_OVERHEAD;
+    let cut = piece_length(mtu);
     let offset = i * cut;
     let rest = body.len() - offset as usize;
     Some((offset, (cut as usize).min(rest) as u32))

@@ -35,7 +35,7 @@ mod piece_store;
 mod place;
 
 pub use assembly::{Assembly, Put};
-pub use cutting::{piece, pieces_make_the_body, plan};
+pub use cutting::{piece, piece_length, pieces_make_the_body, plan};
 pub use data::{DataCommand, what_is_read_was_written};
 pub use marks::Marks;
 pub use partial_packet::PartialPacket;

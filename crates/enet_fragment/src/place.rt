@@ -4,6 +4,13 @@ ghost use Rattle.std.specs.Prelude.{◌≡◌, ◌<◌, ◌≤◌, ◌^◌, ◌+
 
 use crate::FRAGMENT_LIMIT;
 
+/// The most bytes that a piece has: the greatest mtu, 4,096, less what stands before a piece.
+pub(crate) const LONGEST_PIECE: u32 = 4_068;
+
+/// The fewest bytes that each piece but the last has, where there are several: no mtu cuts shorter, since the least, 576,
+/// leaves a piece 548.
+pub(crate) const SHORTEST_PIECE: u32 = 512;
+
 /// The place that a fragment claims to have in its packet.
 #[derive(Clone, Copy)]
 pub struct Place {
@@ -20,11 +27,12 @@ pub struct Place {
 }
 
 impl Place {
-    ghost use Rattle.enet_fragment.specs.Place.{is_sound, is_even, told_piece_len};
+    ghost use Rattle.enet_fragment.specs.Place.{is_sound, is_even, is_of_piece_length, told_piece_len};
 
     /// Whether some packet that is cut evenly has this piece: its number is below the count, the piece ends within the packet
     /// (ENet 1.3), the count is at most the limit of 16,384, and the cut that it tells has it (our profile). A packet is cut
-    /// evenly where all pieces but the last have one length, and the last one has the rest.
+    /// evenly where all pieces but the last have one length, and the last one has the rest. Of several pieces, its length and
+    /// the one that it tells must be ones that a datagram allows: at most 4,068, and the one that it tells at least 512.
     #[tactic(auto, unfolding(crate::specs::Place::is_sound))]
     pub fn is_sound(self) -> bool
         ensures value { result ≡ is_sound self }
@@ -34,6 +42,21 @@ impl Place {
             && self.count <= FRAGMENT_LIMIT
             && self.ends_within()
             && self.is_even(self.told_piece_len())
+            && self.is_of_piece_length()
+    }
+
+    /// Whether, of several pieces, it and those that it tells of have lengths that a datagram allows.
+    #[tactic(auto, unfolding(crate::specs::Place::is_of_piece_length))]
+    fn is_of_piece_length(self) -> bool
+        requires { self.number < self.count }
+        ensures { result ≡ is_of_piece_length self }
+    {
+        if self.count == 1 {
+            return true;
+        }
+        let cut = self.told_piece_len();
+        let most = LONGEST_PIECE as usize;
+        SHORTEST_PIECE as usize <= cut && cut <= most && self.len <= most
     }
 
     /// Whether the piece ends where the packet does, or before.

@@ -6,7 +6,7 @@ use Rattle.enet_seq.specs.Numbering.{wire}
 use Rattle.enet_seq.specs.Windows.{acknowledges}
 use Rattle.enet_fragment.specs.declared.data.DataCommand.{DataCommand}
 use Rattle.enet_fragment.specs.DataCommand.{place_in_packet}
-use Rattle.enet_fragment.specs.Place.{is_sound, is_even, told_piece_len}
+use Rattle.enet_fragment.specs.Place.{is_sound, is_even, is_of_piece_length, told_piece_len}
 use Rattle.enet_packets.specs.declared.incoming_packet.IncomingPacket.{IncomingPacket}
 use Rattle.enet_receiver.specs.declared.took.Took.TheVariants.{Held, Again, Bad}
 use Rattle.enet_receiver.specs.Receiver.{Receiver}
@@ -19,7 +19,7 @@ at_least_none : (most : ℕ) → nat_le 0 most ≡ true
 at_least_none most = grind (arith, nat_tests)
 
 sound : (number : ℕ) → is_sound (place_in_packet (stand_in number)) ≡ true
-unfolding is_sound is_even told_piece_len
+unfolding is_sound is_even is_of_piece_length told_piece_len
 sound number = refl
 
 piece : (most number : ℕ) → is_piece most (stand_in number) ≡ true

@@ -13,7 +13,7 @@ ghost use Rattle.enet_outbox.specs.Outbox.{acknowledgement_limit, acknowledging,
 use crate::{Acknowledgement, Matched, Unsequenced, lists};
 use bytes::Bytes;
 use enet_codec::{CONTROL_CHANNEL, RELIABLE, Refusal, UNSEQUENCED};
-use enet_fragment::FRAGMENT_OVERHEAD;
+use enet_fragment::piece_length;
 use enet_rtt::{Expiry, Patience};
 use enet_senders::{Control, ControlChannel, Senders};
 use enet_seq::after;
@@ -418,6 +418,6 @@ fn is_unsequenced(flags: u8, len: usize, mtu: u32) -> bool
 {
     let asks_for_unsequenced = flags & UNSEQUENCED != 0;
     let asks_for_reliable = flags & RELIABLE != 0;
-    let is_long = len > (mtu - FRAGMENT_OVERHEAD) as usize;
+    let is_long = len > piece_length(mtu) as usize;
     asks_for_unsequenced && !asks_for_reliable && !is_long
 }

@@ -4,7 +4,7 @@ use Rattle.std.proofs.lemmas.Bool.{ltb-false, le-ltb}
 use Rattle.std.proofs.Math.Nat.{div-lt_iff_lt-mul}
 use Rattle.enet_codec.specs.declared.refusal.Refusal.{Refusal}
 use Rattle.enet_codec.specs.declared.refusal.Refusal.TheVariants.{NotConnected, NoSuchChannel, TooLarge, Memory}
-use Rattle.enet_fragment.specs.Cutting.{piece_count}
+use Rattle.enet_fragment.specs.Cutting.{piece_count, piece_length}
 use Rattle.enet_sender.specs.CommandChoice.{Packet, fragment_limit}
 use Rattle.enet_peer.specs.Peering.{Peering}
 use Rattle.enet_peer.specs.Calls.{Refuses, Submits, handed_back, submission_refusal, submitted}
@@ -39,5 +39,6 @@ few_if false n few = omega arith
 pub surely_few : (len mtu : ℕ) → len ≤ 8978432 → 576 ≤ mtu → ltb fragment_limit (piece_count len mtu) ≡ false
 unfolding piece_count
 surely_few len mtu short low =
-    let few : (len - 1) / (mtu - 28) < 16384 = (div-lt_iff_lt-mul (omega arith)).1 (omega arith) in
-    le-ltb 16384 _ (few_if (eqb len 0) ((len - 1) / (mtu - 28)) few)
+    let long : 548 ≤ piece_length mtu = grind arith in
+    let few : (len - 1) / piece_length mtu < 16384 = (div-lt_iff_lt-mul (omega arith)).1 (omega arith) in
+    le-ltb 16384 _ (few_if (eqb len 0) ((len - 1) / piece_length mtu) few)

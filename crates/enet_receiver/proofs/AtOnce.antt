@@ -8,7 +8,7 @@ use Rattle.enet_codec.specs.declared.command.Fragment.{Fragment}
 use Rattle.enet_seq.specs.Numbering.{wire, number_read, start_read}
 use Rattle.enet_seq.specs.Windows.{ahead, after, in_window, acknowledges}
 use Rattle.enet_seq.proofs.WindowsLemmas.{near_is_inside, inside_is_acknowledged}
-use Rattle.enet_fragment.specs.Place.{is_sound, is_even, told_piece_len}
+use Rattle.enet_fragment.specs.Place.{is_sound, is_even, is_of_piece_length, told_piece_len}
 use Rattle.enet_fragment.specs.DataCommand.{piece_or_only, fragment_place}
 use Rattle.enet_fragment.specs.declared.data.DataCommand.{DataCommand}
 use Rattle.enet_packets.specs.declared.incoming_packet.IncomingPacket.{IncomingPacket}
@@ -26,8 +26,8 @@ use Rattle.enet_receiver.proofs.Admission.{came_before-read, outcome-read, admit
 use Rattle.enet_receiver.proofs.InPlace.{handed_out_is}
 
 only_sound : (n : ℕ) → is_sound (record { number = 0; count = 1; total = n; offset = 0; len = n }) ≡ true
-unfolding is_sound is_even told_piece_len
-only_sound n = let whole : leb (0 + n) n ≡ true = grind (arith, nat_tests) in let same : eqb n (n - 0) ≡ true = grind (arith, nat_tests) in let low : leb 0 n ≡ true = grind (arith, nat_tests) in λ i. whole i && (same i && low i)
+unfolding is_sound is_even is_of_piece_length told_piece_len
+only_sound n = let whole : leb (0 + n) n ≡ true = grind (arith, nat_tests) in let same : eqb n (n - 0) ≡ true = grind (arith, nat_tests) in let low : leb 0 n ≡ true = grind (arith, nat_tests) in λ i. (whole i && (same i && low i)) && true
 
 -- a command that is its whole packet is a piece of it
 only_piece_of : (most : ℕ) (c : DataCommand) → c.fragment ≡ None → length c.body ≤ most → c.number < 65536 → is_piece most c ≡ true

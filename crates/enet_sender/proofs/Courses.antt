@@ -5,6 +5,7 @@ use Rattle.std.proofs.Math.Nat.{div-eq_of_lt}
 use Rattle.std.proofs.lemmas.Bool.Decides.{nat_tests}
 use Rattle.std.proofs.lemmas.List.FromFn.{map-range_with_len_more}
 use Rattle.std.proofs.lemmas.List.{take_all}
+use Rattle.enet_fragment.proofs.Cuts.{at-least}
 use Rattle.enet_fragment.specs.Cutting.{piece_count, piece_length}
 use Rattle.enet_fragment.specs.declared.data.DataCommand.{DataCommand}
 use Rattle.enet_sender.specs.declared.course.Course.{Course}
@@ -18,11 +19,11 @@ one_if false n e = omega arith
 -- a body that fits goes in one piece
 pub piece_count-one : (len mtu : ℕ) → 28 < mtu → len ≤ piece_length mtu → piece_count len mtu ≡ 1
 unfolding piece_count
-piece_count-one len mtu some short = one_if (eqb len 0) ((len - 1) / (mtu - 28)) (div-eq_of_lt (omega arith))
+piece_count-one len mtu some short = one_if (eqb len 0) ((len - 1) / piece_length mtu) (div-eq_of_lt (omega (arith, at-least mtu)))
 
 pub piece_count-some : (len mtu : ℕ) → 1 ≤ piece_count len mtu
 unfolding piece_count
-piece_count-some len mtu = some_if (eqb len 0) ((len - 1) / (mtu - 28))
+piece_count-some len mtu = some_if (eqb len 0) ((len - 1) / piece_length mtu)
   where
     some_if : (empty : Bool) (n : ℕ) → 1 ≤ cond empty 1 (n + 1)
     some_if true n = omega arith

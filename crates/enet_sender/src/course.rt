@@ -8,7 +8,7 @@ ghost use Rattle.enet_sender.specs.Course.{IsCourse, packet_course, start_of, fr
 
 use bytes::Bytes;
 use enet_codec::{Fragment, RELIABLE, UNRELIABLE_FRAGMENT};
-use enet_fragment::{DataCommand, FRAGMENT_OVERHEAD, piece, plan};
+use enet_fragment::{DataCommand, piece, piece_length, plan};
 use enet_seq::after;
 
 /// The course that a packet takes: the numbers given before it, and how it is cut.
@@ -42,7 +42,7 @@ pub fn is_long(len: usize, mtu: u32) -> bool
     requires { 576 ≤ mtu }
     ensures { result ≡ nat_lt (piece_length mtu) len }
 {
-    len > (mtu - FRAGMENT_OVERHEAD) as usize
+    len > piece_length(mtu) as usize
 }
 
 /// Piece `i` of a body, sharing its bytes; None for want of memory, and where `piece` gives none.
@@ -157,7 +157,7 @@ impl Course {
             count: self.pieces,
             number: i,
             total: self.total,
-            offset: i * (self.mtu - FRAGMENT_OVERHEAD),
+            offset: i * piece_length(self.mtu),
         })
     }
 

@@ -33,7 +33,7 @@ use crate::tally::count_sent_again;
 use crate::writing::{bytes_of, due_kind, is_more, put};
 use bytes::Bytes;
 use enet_codec::Refusal;
-use enet_fragment::{DataCommand, FRAGMENT_OVERHEAD};
+use enet_fragment::{DataCommand, piece_length};
 use enet_rtt::{Expiry, Patience};
 use std::alloc::Global;
 use std::collections::VecDeque;
@@ -678,7 +678,7 @@ impl Outgoing {
         ensures passes { PassesIn pending.old self.old pending.new self.new }
         ensures room { HasRoom self.new }
     {
-        if body.len() > (mtu - FRAGMENT_OVERHEAD) as usize {
+        if body.len() > piece_length(mtu) as usize {
             return self.submit_long(pending, flags, body, mtu);
         }
         self.submit_short(pending, flags, body, mtu)

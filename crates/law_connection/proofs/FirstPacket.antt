@@ -62,7 +62,7 @@ abbrev first_coming : IncomingPacket
 first_coming = with_more (earlier_or_new None first_command) first_command
 
 first-outcome : outcome wire 1000 nothing_received first_command false ≡ Held
-unfolding place.is_sound place.is_even place.told_piece_len making.belongs
+unfolding place.is_sound place.is_even place.is_of_piece_length place.told_piece_len making.belongs
 first-outcome =
     ap (λ (o : Option IncomingPacket). cond (is_piece 1000 first_command && agrees_with o first_command) (outcome_of nothing_received first_command false 1 o) Bad) (get-empty {X = IncomingPacket} nat_cmp 1)
 

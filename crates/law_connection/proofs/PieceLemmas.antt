@@ -1,12 +1,13 @@
 -- The commands of what was submitted, as they come at the receiver.
-use Rattle.std.proofs.Common.{◌≡◌, ℕ, zero, suc, ◌+◌, ◌-◌, ◌*◌, ◌/◌, ◌%◌, ◌<◌, ◌≤◌, ◌&&◌, eqb, leb, ltb, true, false, cond, min, List, [], ◌∷◌, ◌++◌, length, drop, refl, sym, ap, subst, ◌∙◌, inl, inr, arith, Option, Some, None, mul-div_cancel, mul_comm, mul-le-mul_right}
+use Rattle.std.proofs.Common.{◌≡◌, ℕ, zero, suc, ◌+◌, ◌-◌, ◌*◌, ◌/◌, ◌%◌, ◌<◌, ◌≤◌, ◌&&◌, ◌||◌, Bool, eqb, leb, ltb, true, false, cond, min, List, [], ◌∷◌, ◌++◌, length, drop, refl, sym, ap, subst, ◌∙◌, inl, inr, arith, Option, Some, None, mul-div_cancel, mul_comm, mul-le-mul_right}
 use Rattle.std.proofs.lemmas.Bool.Decides.{nat_tests}
 use Rattle.std.proofs.lemmas.List.{length-take, length-drop}
 use Rattle.enet_fragment.specs.declared.place.Place.{Place}
-use Rattle.enet_fragment.specs.Place.{told_piece_len, is_even, is_sound}
+use Rattle.enet_fragment.specs.Place.{told_piece_len, is_even, is_of_piece_length, is_sound}
 use Rattle.std.specs.Option.{is_none}
 use Rattle.enet_seq.specs.Numbering.{unbounded}
 use Rattle.enet_fragment.specs.Cutting.{piece_length}
+use Rattle.enet_fragment.proofs.Cuts.{at-least, at-most}
 use Rattle.enet_fragment.specs.PartialPacket.{PartialPacket, with_piece, nothing_yet}
 use Rattle.enet_fragment.specs.declared.data.DataCommand.{DataCommand}
 use Rattle.enet_fragment.specs.DataCommand.{piece_of, place_in_packet}
@@ -88,6 +89,8 @@ record AtPlace (size total count index len : ℕ) : Type 0 where
   tight : (count - 1) * size ≤ total
   more : size < total
   len_is : len ≡ min size (total - index * size)
+  least : 512 ≤ size
+  most : size ≤ 4068
 
 at_place : (mtu : ℕ) (c : ChosenPacket) (index : ℕ) → index < c.pieces → IsCut mtu c → is_long mtu c.packet ≡ true → AtPlace (piece_length mtu) (length c.packet.body) c.pieces index (length (piece_of_body (piece_length mtu) c.packet.body index))
 at_place mtu c index inside cut long = record {
@@ -97,6 +100,8 @@ at_place mtu c index inside cut long = record {
   tight = cut.tight;
   more = above (piece_length mtu) (length c.packet.body) long;
   len_is = piece-len (piece_length mtu) c.packet.body index;
+  least = at-least mtu;
+  most = at-most mtu;
 }
   where
     above : (m n : ℕ) → ltb m n ≡ true → m < n
@@ -147,7 +152,7 @@ told_by size total count index len a =
 
 -- it is sound
 sound_by : (size total count index len : ℕ) → AtPlace size total count index len
-    → (ltb index count && leb count 16384 && leb (index * size + len) total && (eqb (index * size) (index * size) && eqb len (cond (eqb (index + 1) count) (total - index * size) size) && leb ((count - 1) * size) total)) ≡ true
+    → (ltb index count && leb count 16384 && leb (index * size + len) total && (eqb (index * size) (index * size) && eqb len (cond (eqb (index + 1) count) (total - index * size) size) && leb ((count - 1) * size) total) && (eqb count 1 || (leb 512 size && leb size 4068 && leb len 4068))) ≡ true
 sound_by size total count index len a =
     let t1 : ltb index count ≡ true = lt-ltb index count a.inside in
     let t2 : leb count 16384 ≡ true = le-leb count 16384 a.few in
@@ -155,8 +160,26 @@ sound_by size total count index len a =
     let t4 : eqb (index * size) (index * size) ≡ true = is-eqb (index * size) (index * size) refl in
     let t5 : eqb len (cond (eqb (index + 1) count) (total - index * size) size) ≡ true = is-eqb len _ len_as in
     let t6 : leb ((count - 1) * size) total ≡ true = le-leb ((count - 1) * size) total a.tight in
-    (λ i. t1 i && t2 i && t3 i && (t4 i && t5 i && t6 i))
+    let t7 : leb 512 size ≡ true = le-leb 512 size a.least in
+    let t8 : leb size 4068 ≡ true = le-leb size 4068 a.most in
+    let t9 : leb len 4068 ≡ true = le-leb len 4068 short in
+    let t10 : (eqb count 1 || (leb 512 size && leb size 4068 && leb len 4068)) ≡ true = (λ i. eqb count 1 || (t7 i && t8 i && t9 i)) ∙ either (eqb count 1) in
+    (λ i. t1 i && t2 i && t3 i && (t4 i && t5 i && t6 i) && t10 i)
   where
+    either : (b : Bool) → (b || true) ≡ true
+    either true = refl
+    either false = refl
+
+    least_by : (m k : ℕ) → min m k ≤ m
+    least_by m k = grind (arith, nat_tests)
+
+    short : len ≤ 4068
+    short =
+        let is = a.len_is in
+        let most = a.most in
+        let less = least_by size (total - index * size) in
+        omega arith
+
     up : index * size ≤ (count - 1) * size
     up = let inside = a.inside in mul-le-mul_right size (let z : index ≤ count - 1 = omega arith in z)
 
@@ -205,25 +228,25 @@ unfolding told_piece_len
 told-long mtu c index inside cut long = told_by _ _ _ _ _ (at_place mtu c index inside cut long)
 
 sound-long : (mtu : ℕ) (c : ChosenPacket) (index : ℕ) → index < c.pieces → IsCut mtu c → is_long mtu c.packet ≡ true → is_sound (place_at (piece_length mtu) c index) ≡ true
-unfolding is_sound is_even
+unfolding is_sound is_even is_of_piece_length
 sound-long mtu c index inside cut long =
     let size = piece_length mtu in
     let total = length c.packet.body in
     let len = length (piece_of_body size c.packet.body index) in
     let place = place_at size c index in
-    subst (λ t. (ltb index c.pieces && leb c.pieces 16384 && leb (index * size + len) total && (eqb (index * size) (index * t) && eqb len (cond (eqb (index + 1) c.pieces) (total - index * size) t) && leb ((c.pieces - 1) * t) total)) ≡ true)
+    subst (λ t. (ltb index c.pieces && leb c.pieces 16384 && leb (index * size + len) total && (eqb (index * size) (index * t) && eqb len (cond (eqb (index + 1) c.pieces) (total - index * size) t) && leb ((c.pieces - 1) * t) total) && (eqb c.pieces 1 || (leb 512 t && leb t 4068 && leb len 4068))) ≡ true)
     (sym (told-long mtu c index inside cut long)) (sound_by _ _ _ _ _ (at_place mtu c index inside cut long))
 
 -- a packet that isn't cut is its own only piece
 sound-only : (len : ℕ) → is_sound (record { number = 0; count = 1; total = len; offset = 0; len = len }) ≡ true
-unfolding is_sound is_even
+unfolding is_sound is_even is_of_piece_length
 sound-only len =
     let cut = told_piece_len (record { number = 0; count = 1; total = len; offset = 0; len = len }) in
     let t1 : leb (0 + len) len ≡ true = le-leb (0 + len) len (omega arith) in
     let t2 : eqb 0 (0 * cut) ≡ true = is-eqb 0 (0 * cut) (omega arith) in
     let t3 : eqb len (len - 0) ≡ true = is-eqb len (len - 0) (omega arith) in
     let t4 : leb ((1 - 1) * cut) len ≡ true = le-leb ((1 - 1) * cut) len (omega arith) in
-    (λ i. t1 i && (t2 i && t3 i && t4 i))
+    (λ i. t1 i && (t2 i && t3 i && t4 i) && true)
 
 Tells-command : (mtu : ℕ) (c : ChosenPacket) (number count index : ℕ) → index < c.pieces → IsPlain mtu c → IsCut mtu c → Tells mtu (command_at unbounded mtu (record { number = number; unreliable = count }) c index) c
 Tells-command mtu c number count index inside plain cut =

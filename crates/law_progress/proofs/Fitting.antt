@@ -114,10 +114,11 @@ room_of mtu = max 576 (min mtu 4096)
 
 piece-small : (mtu : ℕ) (body : List ℕ) (i : ℕ) → mtu ≤ 4096 → length (piece_of_body (piece_length mtu) body i) + 28 ≤ room_of mtu
 piece-small mtu body i low =
-    let cut : length (take (mtu - 28) (drop (i * (mtu - 28)) body)) ≡ min (mtu - 28) (length (drop (i * (mtu - 28)) body)) = length-take (mtu - 28) (drop (i * (mtu - 28)) body) in
-    least mtu (length (take (mtu - 28) (drop (i * (mtu - 28)) body))) (length (drop (i * (mtu - 28)) body)) low cut
+    let size : ℕ = piece_length mtu in
+    let cut : length (take size (drop (i * size) body)) ≡ min size (length (drop (i * size) body)) = length-take size (drop (i * size) body) in
+    least mtu (length (take size (drop (i * size) body))) (length (drop (i * size) body)) low cut
   where
-    least : (m n k : ℕ) → m ≤ 4096 → n ≡ min (m - 28) k → n + 28 ≤ max 576 (min m 4096)
+    least : (m n k : ℕ) → m ≤ 4096 → n ≡ min (piece_length m) k → n + 28 ≤ max 576 (min m 4096)
     least m n k low e = grind arith
 
 small-pieces : (mtu : ℕ) (last : LastNumbers) (c : ChosenPacket) (js : List ℕ) (d : DataCommand) → mtu ≤ 4096 → Has (map (command_at wire mtu last c) js) d → length d.body + 28 ≤ room_of mtu

@@ -104,6 +104,9 @@ pub fewer-pieces : (len mtu : ℕ) → 576 ≤ mtu → piece_count len mtu ≤ p
 unfolding piece_count
 fewer-pieces len mtu wide = by (len == 0)
   where
+    long : (m : ℕ) → 576 ≤ m → 548 ≤ piece_length m
+    long m h = grind arith
+
     less : (n m : ℕ) → 548 ≤ m → n / m ≤ n / 548
     less n m low =
         let down : n / m * m ≤ n = div-mul-le_self n m in
@@ -116,7 +119,7 @@ fewer-pieces len mtu wide = by (len == 0)
 
     by : (b : Bool) → cond b 1 ((len - 1) / piece_length mtu + 1) ≤ cond b 1 ((len - 1) / piece_length 576 + 1)
     by true = omega arith
-    by false = let l = less (len - 1) (mtu - 28) (omega arith) in omega arith
+    by false = let l = less (len - 1) (piece_length mtu) (long mtu wide) in omega arith
 
 -- over all channels
 abbrev pub sum_below : (ℕ → ℕ) → ℕ → ℕ
