@@ -1,5 +1,5 @@
 //! A wire behind a guard.
-ghost use Rattle.std.specs.Prelude.{◌≡◌, ◌≤◌, true, false, None, Ok, IfOk, IfSome, IfErr};
+ghost use Rattle.std.specs.Prelude.{◌≡◌, ◌<◌, ◌≤◌, true, false, None, Ok, IfOk, IfSome, IfErr};
 ghost use Rattle.enet_wire.specs.Wires.{faults_after, last_fault};
 ghost use Rattle.enet_guard.specs.Guarding.{HasLearned};
 ghost use Rattle.enet_guard.specs.Passing.{Lets, Refuses, Receives};
@@ -8,7 +8,7 @@ use crate::asking::asks;
 use crate::guard::{Guard, Rules};
 use crate::register::Register;
 use enet_codec::{Addr, Refusal};
-use enet_wire::{Journal, Note, Wire};
+use enet_wire::{Journal, Note, SendOutcome, Wire};
 use std::alloc::Global;
 use std::sync::{Arc, Wait};
 use std::time::Clock;
@@ -62,7 +62,7 @@ impl<N: Drop> Guarded<N> {
 }
 
 impl<N: Wire> Wire for Guarded<N> {
-    ghost use Rattle.std.specs.Prelude.{◌≡◌, ◌≤◌, ◌++◌, Some, None, Ok, false, IfOk, IfSome, IfErr, OnErr};
+    ghost use Rattle.std.specs.Prelude.{◌≡◌, ◌<◌, ◌≤◌, ◌++◌, Some, None, Ok, IfOk, IfSome, IfErr, OnErr};
     ghost use Rattle.enet_wire.specs.Wires.{also, came, went, waited, unless_spent, faults_after, last_fault};
     ghost use Rattle.enet_guard.specs.Guarding.{Waits};
     ghost use Rattle.enet_guard.specs.Passing.{Receives};
@@ -76,6 +76,7 @@ impl<N: Wire> Wire for Guarded<N> {
     fn recv(&mut self, buf: &mut [u8; 4096]) -> Result<Option<(Addr, usize)>, Refusal>
         ensures told { told_of self.new ≡ told_of self.old ++ unless_spent (N.faults self.old.wire) (came result buf.new) }
         ensures len { IfOk result (λ given. IfSome given (λ d. d.1 ≤ 4096)) }
+        ensures answerable { IfOk result (λ given. IfSome given (λ d. 0 < d.0.port)) }
         ensures fault { IfErr result (λ why. why ≡ Refusal.WireFault) }
         ensures faults { N.faults self.new.wire ≡ faults_after (N.faults self.old.wire) result }
         ensures spent { N.faults self.old.wire ≡ last_fault → result ≡ Ok None }
@@ -98,26 +99,26 @@ impl<N: Wire> Wire for Guarded<N> {
     }
 
     /// As the wire behind the guard does.
-    fn send(&mut self, to: Addr, bytes: &[u8]) -> Result<bool, Refusal>
+    fn send(&mut self, to: Addr, bytes: &[u8]) -> Result<SendOutcome, Refusal>
         ensures told { told_of self.new ≡ told_of self.old ++ unless_spent (N.faults self.old.wire) (went to bytes.now result) }
         ensures fault { IfErr result (λ why. why ≡ Refusal.WireFault) }
         ensures faults { N.faults self.new.wire ≡ faults_after (N.faults self.old.wire) result }
-        ensures spent { N.faults self.old.wire ≡ last_fault → result ≡ Ok false }
+        ensures spent { N.faults self.old.wire ≡ last_fault → result ≡ Ok SendOutcome.Blocked }
         ensures sends { N.told self.new.wire ≡ also (N.told self.old.wire) (unless_spent (N.faults self.old.wire) (went to bytes.now result)) }
         ensures guard { self.new.guard ≡ self.old.guard }
     {
         let spent = self.wire.failures() == u64::MAX;
-        let taken = self.wire.send(to, bytes)?;
+        let became = self.wire.send(to, bytes)?;
         if spent {
-            return Ok(taken);
+            return Ok(became);
         }
-        let note = if taken {
-            Note::TookOn { to, bytes }
-        } else {
-            Note::Blocked { to, bytes }
+        let note = match became {
+            SendOutcome::Sent => Note::TookOn { to, bytes },
+            SendOutcome::Lost => Note::Lost { to, bytes },
+            SendOutcome::Blocked => Note::Blocked { to, bytes },
         };
         self.journal = self.journal.and(&note);
-        Ok(taken)
+        Ok(became)
     }
 
     /// As the wire behind the guard does. Time goes on for the guard, and it is told who is connected; its rules and whom it bans stay.
@@ -155,6 +156,7 @@ fn first_passing<N: Wire>(
     buf: &mut [u8; 4096],
 ) -> Result<Option<(Addr, usize)>, Refusal>
     ensures len { IfOk result (λ given. IfSome given (λ d. d.1 ≤ 4096)) }
+    ensures answerable { IfOk result (λ given. IfSome given (λ d. 0 < d.0.port)) }
     ensures fault { IfErr result (λ why. why ≡ Refusal.WireFault) }
     ensures faults { N.faults wire.new ≡ faults_after (N.faults wire.old) result }
     ensures spent { N.faults wire.old ≡ last_fault → result ≡ Ok None }

@@ -15,7 +15,7 @@ use Rattle.enet_chat.specs.declared.lone.LoneRelay.{LoneRelay}
 use Rattle.enet_chat.specs.Relaying.{noted_all}
 use Rattle.enet_chat.proofs.Relays.{noted_more, on_for_each, joined}
 use Rattle.enet_turn.specs.declared.report.Report.{Report}
-use Rattle.enet_turn.specs.Counts.{stopped, given_in, came_in, went_in, blocked_in, taken_in}
+use Rattle.enet_turn.specs.Counts.{stopped, given_in, came_in, went_in, lost_in, taken_in}
 use Rattle.enet_turn.specs.LoneTurn.{Applied, gave_in, puts_in}
 use Rattle.enet_turn.specs.Phases.{Chain}
 use Rattle.enet_service.specs.Queues.{given, accepted}
@@ -126,8 +126,8 @@ orders_report t d u g h p q et ed eu =
 -- what a whole turn reports
 pub turn_report : (h o b s u : Report) (came went : List Told) (g : List (Option Submission)) (p q : List (Event × Bool))
     → h ≡ record { orders = 0; received = came_in came; sent = 0; lost = 0; events = stopped (taken_in p) } → o ≡ of_orders g q → b ≡ both h o
-    → s ≡ record { orders = 0; received = 0; sent = went_in went; lost = blocked_in went; events = 0 } → u ≡ both b s
-    → u ≡ record { orders = stopped (given_in g); received = stopped (came_in came); sent = stopped (went_in went); lost = stopped (blocked_in went + 0); events = stopped (taken_in (p ++ q)) }
+    → s ≡ record { orders = 0; received = 0; sent = went_in went; lost = lost_in went; events = 0 } → u ≡ both b s
+    → u ≡ record { orders = stopped (given_in g); received = stopped (came_in came); sent = stopped (went_in went); lost = stopped (lost_in went + 0); events = stopped (taken_in (p ++ q)) }
 turn_report h o b s u came went g p q eh eo eb es eu =
     same_report u _ _ _ _ _ _ _ _ _ _ eu
     (orders_then _ _ _ _ _ (ap (λ (r : Report). r.orders) eh) (ap (λ (r : Report). r.orders) eo) (ap (λ (r : Report). r.orders) eb) (ap (λ (r : Report). r.orders) es))

@@ -50,7 +50,9 @@ pub use enet_bridge::{
 };
 pub use enet_host::HostCore;
 pub use enet_turn::{Core, Fault, Report, Service, run};
-pub use enet_wire::{Bell, MOST_PER_TURN, MemoryWire, MioWire, Step, Told, Unopened, Wire};
+pub use enet_wire::{
+    Bell, MOST_LOST_PER_TURN, MOST_PER_TURN, MemoryWire, MioWire, SendOutcome, Step, Told, Unopened, Wire,
+};
 pub use queues::{Ends, Queues};
 pub use run_length::{RunLength, TURNS_AT_ONCE, is_over};
 pub use settling::{Returned, settle};

@@ -6,7 +6,7 @@ use Rattle.enet_codec.specs.declared.address.Addr.{Addr}
 use Rattle.enet_codec.specs.declared.event.Event.{Event}
 use Rattle.enet_submit.specs.declared.order.Submission.{Submission}
 use Rattle.enet_wire.specs.declared.told.Told.{Told}
-use Rattle.enet_wire.specs.declared.told.Told.TheVariants.{Came, Went}
+use Rattle.enet_wire.specs.declared.told.Told.TheVariants.{Came, Went, Lost}
 use Rattle.enet_turn.specs.declared.service.Service.{Service}
 use Rattle.enet_turn.specs.Calls.{Calls}
 use Rattle.enet_turn.specs.Phases.{Chain, Ordered, Wired, ReceivesAll, EmitsAll, Orders, AppliesSubmission, TellsAll, left_over}
@@ -14,6 +14,9 @@ use Rattle.enet_turn.specs.Turn.{AfterReceiving, AfterEmitting}
 
 one_less : (turn : ℕ) → 256 - (turn + 1) ≡ 256 - turn - 1
 one_less turn = omega arith
+
+one_fewer : (lost : ℕ) → 16 - (lost + 1) ≡ 16 - lost - 1
+one_fewer lost = omega arith
 
 -- what still comes makes the rest of the phase
 abbrev pub HearsOn : {H : Type 0} → Calls H → ℕ → H → List Told → H → Type 0
@@ -26,15 +29,24 @@ hears_on calls turn initial old host told from bytes l k h more after rest =
     (omega arith, host, h, subst (λ (n : ℕ). ReceivesAll calls n host more after) (one_less turn) rest) in
     subst (λ (xs : List Told). ReceivesAll calls 256 initial xs after) (sym (append_assoc told (Came from bytes ∷ []) more)) (k (Came from bytes ∷ more) after step)
 
-abbrev pub SendsOn : {H : Type 0} → Calls H → ℕ → H → List Told → H → Type 0
-SendsOn {H} calls turn initial told old = (more : List Told) (after : Wired H) → EmitsAll calls (256 - turn) old more after → EmitsAll calls 256 initial (told ++ more) after
+abbrev pub SendsOn : {H : Type 0} → Calls H → ℕ → ℕ → H → List Told → H → Type 0
+SendsOn {H} calls turn lost initial told old =
+    (more : List Told) (after : Wired H) → EmitsAll calls (256 - turn) (16 - lost) old more after → EmitsAll calls 256 16 initial (told ++ more) after
 
-pub sends_on : {H : Type 0} (calls : Calls H) (turn : ℕ) (initial old host : H) (told : List Told) (to : Addr) (bytes : List ℕ)
-    → turn < 256 → SendsOn calls turn initial told old → calls.emits old (Some (to, bytes)) host → SendsOn calls (turn + 1) initial (told ++ Went to bytes ∷ []) host
-sends_on calls turn initial old host told to bytes l k h more after rest =
-    let step : EmitsAll calls (256 - turn) old (Went to bytes ∷ more) after =
-    (omega arith, host, h, subst (λ (n : ℕ). EmitsAll calls n host more after) (one_less turn) rest) in
-    subst (λ (xs : List Told). EmitsAll calls 256 initial xs after) (sym (append_assoc told (Went to bytes ∷ []) more)) (k (Went to bytes ∷ more) after step)
+pub sends_on : {H : Type 0} (calls : Calls H) (turn lost : ℕ) (initial old host : H) (told : List Told) (to : Addr) (bytes : List ℕ)
+    → turn < 256 → lost < 16 → SendsOn calls turn lost initial told old → calls.emits old (Some (to, bytes)) host → SendsOn calls (turn + 1) lost initial (told ++ Went to bytes ∷ []) host
+sends_on calls turn lost initial old host told to bytes l few k h more after rest =
+    let step : EmitsAll calls (256 - turn) (16 - lost) old (Went to bytes ∷ more) after =
+    (omega arith, omega arith, host, h, subst (λ (n : ℕ). EmitsAll calls n (16 - lost) host more after) (one_less turn) rest) in
+    subst (λ (xs : List Told). EmitsAll calls 256 16 initial xs after) (sym (append_assoc told (Went to bytes ∷ []) more)) (k (Went to bytes ∷ more) after step)
+
+pub loses_on : {H : Type 0} (calls : Calls H) (turn lost : ℕ) (initial old host : H) (told : List Told) (to : Addr) (bytes : List ℕ)
+    → turn < 256 → lost < 16 → SendsOn calls turn lost initial told old → calls.emits old (Some (to, bytes)) host → SendsOn calls (turn + 1) (lost + 1) initial (told ++ Lost to bytes ∷ []) host
+loses_on calls turn lost initial old host told to bytes l few k h more after rest =
+    let fewer : EmitsAll calls (256 - (turn + 1)) (16 - lost - 1) host more after = subst (λ (n : ℕ). EmitsAll calls (256 - (turn + 1)) n host more after) (one_fewer lost) rest in
+    let step : EmitsAll calls (256 - turn) (16 - lost) old (Lost to bytes ∷ more) after =
+    (omega arith, omega arith, host, h, subst (λ (n : ℕ). EmitsAll calls n (16 - lost - 1) host more after) (one_less turn) fewer) in
+    subst (λ (xs : List Told). EmitsAll calls 256 16 initial xs after) (sym (append_assoc told (Lost to bytes ∷ []) more)) (k (Lost to bytes ∷ more) after step)
 
 abbrev pub OrdersOn : {H : Type 0} → Calls H → ℕ → Service H → List (Option Submission) → Ordered H → Type 0
 OrdersOn {H} calls turn initial gave so_far =
@@ -105,7 +117,7 @@ tells_none calls initial old new puts none none_2 k told =
 
 -- what comes after the hearing, and after the sending
 pub sends_then : {H : Type 0} (calls : Calls H) (host : H) (told : List Told) (sent : Wired H)
-    → EmitsAll calls 256 host told sent → AfterReceiving calls (record { host = host; failed = false }) told sent
+    → EmitsAll calls 256 16 host told sent → AfterReceiving calls (record { host = host; failed = false }) told sent
 sends_then calls host told sent h = record { sound = λ e. h; failed = λ e. absurd (cc) }
 
 pub sends_nothing : {H : Type 0} (calls : Calls H) (host : H) → AfterReceiving calls (record { host = host; failed = true }) [] (record { host = host; failed = true })

@@ -4,9 +4,9 @@ use Rattle.std.proofs.lemmas.List.{append-nil}
 use Rattle.enet_codec.specs.declared.event.Event.{Event}
 use Rattle.enet_submit.specs.declared.order.Submission.{Submission}
 use Rattle.enet_wire.specs.declared.told.Told.{Told}
-use Rattle.enet_wire.specs.declared.told.Told.TheVariants.{Came, NothingCame, Went, Blocked, Waited}
+use Rattle.enet_wire.specs.declared.told.Told.TheVariants.{Came, NothingCame, Went, Lost, Blocked, Waited}
 use Rattle.enet_wire.specs.Wires.{also, unless_spent, is_spent}
-use Rattle.enet_turn.specs.Counts.{came_in, went_in, blocked_in, taken_in, given_in, count_of}
+use Rattle.enet_turn.specs.Counts.{came_in, went_in, lost_in, taken_in, given_in, count_of}
 
 also_cond : (spent : Bool) (o : Option (List Told)) (xs ys : List Told) → also (also o (cond spent [] xs)) (cond spent [] ys) ≡ also o (cond spent [] (xs ++ ys))
 also_cond true None xs ys = refl
@@ -48,6 +48,7 @@ came_more [] ys = sym (zero-add (came_in ys))
 came_more (Came from bytes ∷ xs) ys = ap (λ n. 1 + n) (came_more xs ys) ∙ sym (add_assoc 1 (came_in xs) (came_in ys))
 came_more (NothingCame ∷ xs) ys = came_more xs ys
 came_more (Went to bytes ∷ xs) ys = came_more xs ys
+came_more (Lost to bytes ∷ xs) ys = came_more xs ys
 came_more (Blocked to bytes ∷ xs) ys = came_more xs ys
 came_more (Waited ms ∷ xs) ys = came_more xs ys
 
@@ -56,16 +57,18 @@ went_more [] ys = sym (zero-add (went_in ys))
 went_more (Went to bytes ∷ xs) ys = ap (λ n. 1 + n) (went_more xs ys) ∙ sym (add_assoc 1 (went_in xs) (went_in ys))
 went_more (NothingCame ∷ xs) ys = went_more xs ys
 went_more (Came from bytes ∷ xs) ys = went_more xs ys
+went_more (Lost to bytes ∷ xs) ys = went_more xs ys
 went_more (Blocked to bytes ∷ xs) ys = went_more xs ys
 went_more (Waited ms ∷ xs) ys = went_more xs ys
 
-pub blocked_more : (xs ys : List Told) → blocked_in (xs ++ ys) ≡ blocked_in xs + blocked_in ys
-blocked_more [] ys = sym (zero-add (blocked_in ys))
-blocked_more (Blocked to bytes ∷ xs) ys = ap (λ n. 1 + n) (blocked_more xs ys) ∙ sym (add_assoc 1 (blocked_in xs) (blocked_in ys))
-blocked_more (NothingCame ∷ xs) ys = blocked_more xs ys
-blocked_more (Came from bytes ∷ xs) ys = blocked_more xs ys
-blocked_more (Went to bytes ∷ xs) ys = blocked_more xs ys
-blocked_more (Waited ms ∷ xs) ys = blocked_more xs ys
+pub lost_more : (xs ys : List Told) → lost_in (xs ++ ys) ≡ lost_in xs + lost_in ys
+lost_more [] ys = sym (zero-add (lost_in ys))
+lost_more (Lost to bytes ∷ xs) ys = ap (λ n. 1 + n) (lost_more xs ys) ∙ sym (add_assoc 1 (lost_in xs) (lost_in ys))
+lost_more (Blocked to bytes ∷ xs) ys = ap (λ n. 1 + n) (lost_more xs ys) ∙ sym (add_assoc 1 (lost_in xs) (lost_in ys))
+lost_more (NothingCame ∷ xs) ys = lost_more xs ys
+lost_more (Came from bytes ∷ xs) ys = lost_more xs ys
+lost_more (Went to bytes ∷ xs) ys = lost_more xs ys
+lost_more (Waited ms ∷ xs) ys = lost_more xs ys
 
 pub taken_more : (xs ys : List (Event × Bool)) → taken_in (xs ++ ys) ≡ taken_in xs + taken_in ys
 taken_more [] ys = sym (zero-add (taken_in ys))

@@ -3,7 +3,7 @@ use Rattle.std.specs.Prelude.{ℕ, ◌+◌, min, Bool, true, false, List, [], �
 use Rattle.enet_codec.specs.declared.event.Event.{Event}
 use Rattle.enet_submit.specs.declared.order.Submission.{Submission}
 use Rattle.enet_wire.specs.declared.told.Told.{Told}
-use Rattle.enet_wire.specs.declared.told.Told.TheVariants.{Came, Went, Blocked}
+use Rattle.enet_wire.specs.declared.told.Told.TheVariants.{Came, Went, Lost, Blocked}
 
 -- 1 where it is so, else 0
 abbrev pub count_of : Bool → ℕ
@@ -33,11 +33,12 @@ went_in [] = 0
 went_in (Went to bytes ∷ xs) = 1 + went_in xs
 went_in (_ ∷ xs) = went_in xs
 
--- the datagrams that were not taken
-abbrev pub blocked_in : List Told → ℕ
-blocked_in [] = 0
-blocked_in (Blocked to bytes ∷ xs) = 1 + blocked_in xs
-blocked_in (_ ∷ xs) = blocked_in xs
+-- the datagrams that were lost, or not taken since their send would have blocked
+abbrev pub lost_in : List Told → ℕ
+lost_in [] = 0
+lost_in (Lost to bytes ∷ xs) = 1 + lost_in xs
+lost_in (Blocked to bytes ∷ xs) = 1 + lost_in xs
+lost_in (_ ∷ xs) = lost_in xs
 
 -- a count stops at the greatest number of 32 bits
 abbrev pub stopped : ℕ → ℕ

@@ -6,3 +6,4 @@ pub mod Run
 pub mod Turn
 pub mod LoneTurn
 pub mod Spans
+pub mod Private

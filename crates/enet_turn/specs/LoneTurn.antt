@@ -6,7 +6,7 @@ use Rattle.enet_wire.specs.declared.told.Told.{Told}
 use Rattle.enet_turn.specs.declared.service.Service.{Service}
 use Rattle.enet_turn.specs.Calls.{Calls}
 use Rattle.enet_turn.specs.Phases.{Chain, Offers, Orders, ReceivesAll}
-use Rattle.enet_turn.specs.Counts.{given_in, came_in, went_in, blocked_in, taken_in, count_of, stopped}
+use Rattle.enet_turn.specs.Counts.{given_in, came_in, went_in, lost_in, taken_in, count_of, stopped}
 use Rattle.enet_turn.specs.Turn.{Round, AfterReceiving, AfterEmitting, Turn}
 
 -- how a turn begins, in order: the tick; the event that waits; datagrams in; events, unless the wire failed
@@ -59,7 +59,7 @@ pub record LoneTurn {H : Type 0} (calls : Calls H) (old : Service H) (round : Ro
     orders = stopped (given_in round.gave);
     received = stopped (came_in came);
     sent = stopped (went_in went);
-    lost = stopped (blocked_in went + count_of (round.failed && not early));
+    lost = stopped (lost_in went + count_of (round.failed && not early));
     events = stopped (taken_in round.puts);
   }
 

@@ -1,5 +1,6 @@
--- The phases of a turn, over any host. `left` is how many of their steps may still come; a turn begins each with 256. What was
--- put is a list of the events that were offered, each with whether it was taken.
+-- The phases of a turn, over any host. `left` is how many of their steps may still come; a turn begins each with 256. `losses` is how
+-- many datagrams may still be lost at their sending; a turn begins with 16. What was put is a list of the events that were offered, each
+-- with whether it was taken.
 use Rattle.std.specs.Prelude.{◌≡◌, ◌⊎◌, ℕ, ◌-◌, ◌<◌, Bool, true, false, List, [], ◌∷◌, ◌++◌, Option, Some, None, IsSome}
 use Rattle.enet_codec.specs.declared.address.Addr.{Addr}
 use Rattle.enet_codec.specs.declared.event.Event.{Event}
@@ -7,7 +8,7 @@ use Rattle.enet_codec.specs.declared.event.Event.TheVariants.{Refused}
 use Rattle.enet_codec.specs.declared.refusal.Refusal.{Refusal}
 use Rattle.enet_submit.specs.declared.order.Submission.{Submission}
 use Rattle.enet_wire.specs.declared.told.Told.{Told}
-use Rattle.enet_wire.specs.declared.told.Told.TheVariants.{Came, NothingCame, Went, Blocked}
+use Rattle.enet_wire.specs.declared.told.Told.TheVariants.{Came, NothingCame, Went, Lost, Blocked}
 use Rattle.enet_turn.specs.declared.service.Service.{Service}
 use Rattle.enet_turn.specs.Calls.{Calls}
 
@@ -63,21 +64,23 @@ ReceivesAll {H} calls left old (Came from bytes ∷ rest) after =
     (0 < left) × (between : H) × calls.receives old (from, bytes) between × ReceivesAll calls (left - 1) between rest after
 ReceivesAll calls left old (_ ∷ rest) after = ⊥
 
--- the sending ends where the limit is reached or the host has no datagram, or with a datagram whose send failed
-pub data EndsEmitting {H : Type 0} (calls : Calls H) (left : ℕ) (old : H) (after : Wired H) : Type 0 where
-  at_limit : left ≡ 0 → after.failed ≡ false → after.host ≡ old → EndsEmitting calls left old after
-  has_none : 0 < left → after.failed ≡ false → calls.emits old None after.host → EndsEmitting calls left old after
-  fails : 0 < left → after.failed ≡ true → (to : Addr) (bytes : List ℕ) → calls.emits old (Some (to, bytes)) after.host → EndsEmitting calls left old after
+-- the sending ends where a limit is reached or the host has no datagram, or with a datagram whose send failed
+pub data EndsEmitting {H : Type 0} (calls : Calls H) (left losses : ℕ) (old : H) (after : Wired H) : Type 0 where
+  at_limit : (left ≡ 0) ⊎ (losses ≡ 0) → after.failed ≡ false → after.host ≡ old → EndsEmitting calls left losses old after
+  has_none : 0 < left → 0 < losses → after.failed ≡ false → calls.emits old None after.host → EndsEmitting calls left losses old after
+  fails : 0 < left → 0 < losses → after.failed ≡ true → (to : Addr) (bytes : List ℕ) → calls.emits old (Some (to, bytes)) after.host → EndsEmitting calls left losses old after
 
--- datagrams out, one after another, until the host has none, a send would block or the wire fails; the datagram whose send
--- would block or failed is lost
-abbrev pub EmitsAll : {H : Type 0} → Calls H → ℕ → H → List Told → Wired H → Type 0
-EmitsAll calls left old [] after = EndsEmitting calls left old after
-EmitsAll {H} calls left old (Went to bytes ∷ rest) after =
-    (0 < left) × (between : H) × calls.emits old (Some (to, bytes)) between × EmitsAll calls (left - 1) between rest after
-EmitsAll calls left old (Blocked to bytes ∷ rest) after =
-    (0 < left) × calls.emits old (Some (to, bytes)) after.host × (rest ≡ []) × (after.failed ≡ false)
-EmitsAll calls left old (_ ∷ rest) after = ⊥
+-- datagrams out, one after another, until the host has none, so many were lost, a send would block or the wire fails. After one that is
+-- lost the next one comes; the one whose send would block or failed is the last, and lost, too
+abbrev pub EmitsAll : {H : Type 0} → Calls H → ℕ → ℕ → H → List Told → Wired H → Type 0
+EmitsAll calls left losses old [] after = EndsEmitting calls left losses old after
+EmitsAll {H} calls left losses old (Went to bytes ∷ rest) after =
+    (0 < left) × (0 < losses) × (between : H) × calls.emits old (Some (to, bytes)) between × EmitsAll calls (left - 1) losses between rest after
+EmitsAll {H} calls left losses old (Lost to bytes ∷ rest) after =
+    (0 < left) × (0 < losses) × (between : H) × calls.emits old (Some (to, bytes)) between × EmitsAll calls (left - 1) (losses - 1) between rest after
+EmitsAll {H} calls left losses old (Blocked to bytes ∷ rest) after =
+    (0 < left) × (0 < losses) × calls.emits old (Some (to, bytes)) after.host × (rest ≡ []) × (after.failed ≡ false)
+EmitsAll calls left losses old (_ ∷ rest) after = ⊥
 
 -- events, each offered in its turn, until the host has none or one waits
 abbrev pub TellsAll : {H : Type 0} → Calls H → Service H → List (Event × Bool) → Service H → Type 0

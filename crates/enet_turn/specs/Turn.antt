@@ -9,7 +9,7 @@ use Rattle.enet_turn.specs.declared.report.Fault.{Fault}
 use Rattle.enet_turn.specs.declared.service.Service.{Service}
 use Rattle.enet_turn.specs.Calls.{Calls}
 use Rattle.enet_turn.specs.Phases.{Ordered, Wired, Offers, Orders, ReceivesAll, EmitsAll, TellsAll}
-use Rattle.enet_turn.specs.Counts.{given_in, came_in, went_in, blocked_in, taken_in, count_of, stopped}
+use Rattle.enet_turn.specs.Counts.{given_in, came_in, went_in, lost_in, taken_in, count_of, stopped}
 
 -- what passes in a turn: the milliseconds of the wait before it, what the source answered, what the wire did, the events that were
 -- offered, whether the wire failed, and the report
@@ -23,7 +23,7 @@ pub record Round : Type 0 where
 
 -- datagrams go, unless the wire failed while they came: then none goes
 pub record AfterReceiving {H : Type 0} (calls : Calls H) (heard : Wired H) (told : List Told) (sent : Wired H) : Type 0 where
-  pub sound : heard.failed ≡ false → EmitsAll calls 256 heard.host told sent
+  pub sound : heard.failed ≡ false → EmitsAll calls 256 16 heard.host told sent
   pub failed : heard.failed ≡ true → (told ≡ []) × (sent ≡ heard)
 
 -- events come last, unless the wire failed: then none is told, and the event that waits still waits
@@ -55,7 +55,7 @@ pub record Turn {H : Type 0} (calls : Calls H) (old : Service H) (round : Round)
     orders = given_in round.gave;
     received = came_in came;
     sent = went_in went;
-    lost = blocked_in went + count_of (sent.failed && not heard.failed);
+    lost = lost_in went + count_of (sent.failed && not heard.failed);
     events = stopped (taken_in round.puts);
   }
 

@@ -12,6 +12,8 @@
 //! - A turn ([`Service::turn`]) is the stated calls in the stated order, on what the source gave and the wire told, and what was sent and put
 //!   is what these calls answered. A refused order becomes one event. While an event waits no order is taken.
 //! - E14 comes exactly where the wire failed. Then the host is where the first part of the work left it, and the report counts that part.
+//! - A datagram that is lost at its sending doesn't keep the next one: a turn's sending ends where the host has none, at 256, where a send
+//!   would block, or after 16 losses.
 //! - A turn ends where the calls of source and sink return, since each event that a host tells leaves fewer.
 //! - The parts of a turn between which orders are made are those of its phases that they name, up to where the wire fails in one.
 //! - A run ([`run`]) is its turns, each after a wait, up to the first fault, and its report their sums.

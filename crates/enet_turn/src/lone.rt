@@ -6,7 +6,7 @@ ghost use Rattle.enet_wire.specs.declared.told.Told.{Told as Call};
 ghost use Rattle.enet_wire.specs.Wires.{also, unless_spent};
 ghost use Rattle.enet_turn.specs.Phases.{Chain, Orders, EmitsAll};
 ghost use Rattle.enet_turn.specs.LoneTurn.{Begins};
-ghost use Rattle.enet_turn.specs.Counts.{count_of, given_in, came_in, went_in, blocked_in, taken_in, stopped};
+ghost use Rattle.enet_turn.specs.Counts.{count_of, given_in, came_in, went_in, lost_in, taken_in, stopped};
 
 use crate::emitting::emit_all;
 use crate::host::Core;
@@ -74,18 +74,18 @@ impl<H: Core> Service<H> {
         report_of(orders, 0, 0, 0, events)
     }
 
-    /// The last part: at most 256 datagrams out, through this buffer.
+    /// The last part: at most 256 datagrams out, through this buffer, and none after 16 that were lost or one whose send would block.
     ///
     /// E14 where the wire fails: the datagrams before went.
     pub fn emit<W: Wire>(&mut self, wire: &mut W, buf: &mut [u8; 4096]) -> Result<Report, Fault>
         ensures sends { IfOk result (λ report. (went : List Call)
-            × EmitsAll H.calls 256 self.old.host went (record { host = self.new.host; failed = false })
+            × EmitsAll H.calls 256 16 self.old.host went (record { host = self.new.host; failed = false })
             × (W.told wire.new ≡ also (W.told wire.old) (unless_spent (W.faults wire.old) went))
-            × (report ≡ record { orders = 0; received = 0; sent = went_in went; lost = blocked_in went; events = 0 })) }
+            × (report ≡ record { orders = 0; received = 0; sent = went_in went; lost = lost_in went; events = 0 })) }
         ensures fails { IfErr result (λ fault. (went : List Call)
-            × EmitsAll H.calls 256 self.old.host went (record { host = self.new.host; failed = true })
+            × EmitsAll H.calls 256 16 self.old.host went (record { host = self.new.host; failed = true })
             × (W.told wire.new ≡ also (W.told wire.old) (unless_spent (W.faults wire.old) went))
-            × (fault.report ≡ record { orders = 0; received = 0; sent = went_in went; lost = blocked_in went + 1; events = 0 })) }
+            × (fault.report ≡ record { orders = 0; received = 0; sent = went_in went; lost = lost_in went + 1; events = 0 })) }
         ensures waits { self.new.waiting ≡ self.old.waiting }
         ensures why { IfErr result (λ fault. fault.why ≡ Refusal.WireFault) }
         ensures faults { W.faults wire.new ≡ W.faults wire.old + count_of (is_err result) }

@@ -11,8 +11,8 @@ pub struct Report {
     pub received: u32,
     /// Datagrams sent.
     pub sent: u32,
-    /// Datagrams that the wire didn't take: their send would have blocked, their destination can't be reached, or the wire
-    /// failed. They are lost.
+    /// Datagrams that were lost: their destination can't be reached, they were too long, their send would have blocked, or the wire
+    /// failed.
     pub lost: u32,
     /// Events that the sink took.
     pub events: u32,

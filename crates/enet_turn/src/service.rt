@@ -38,8 +38,8 @@ impl<H: Core> Service<H> {
     }
 
     /// One turn: the tick; one offer of the event that waits; while none waits, at most 256 orders; at most 256 datagrams in; at
-    /// most 256 datagrams out; and while no event waits, the host's events. Where it told some after 2 ms or more, it tells the source
-    /// that orders are likely to come soon.
+    /// most 256 datagrams out, and none after 16 that were lost or one whose send would block; and while no event waits, the host's
+    /// events. Where it told some after 2 ms or more, it tells the source that orders are likely to come soon.
     ///
     /// E14 where the wire fails: the turn ends there, and the report says what was done before.
     pub fn turn<W: Wire, S: Source, K: Sink, R: Wait>(

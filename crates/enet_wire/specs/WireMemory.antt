@@ -1,9 +1,12 @@
 -- A wire in memory.
-use Rattle.std.specs.Prelude.{◌≡◌, ℕ, ◌+◌, Bool, true, false, List, [], ◌∷◌, take, Option, Some, None}
+use Rattle.std.specs.Prelude.{◌≡◌, ℕ, ◌+◌, if◌then◌else◌, List, [], ◌∷◌, take, Option, Some, None}
 use Rattle.enet_codec.specs.declared.address.Addr.{Addr}
+use Rattle.enet_wire.specs.Journals.{is_answerable}
 use Rattle.enet_wire.specs.declared.told.Told.{Told}
 use Rattle.enet_wire.specs.declared.told.Step.{Step}
-use Rattle.enet_wire.specs.declared.told.Step.TheVariants.{Datagram, Block, Wait, Fault}
+use Rattle.enet_wire.specs.declared.told.Step.TheVariants.{Datagram, Lose, Block, Wait, Fault}
+use Rattle.enet_wire.specs.declared.wire.SendOutcome.{SendOutcome}
+use Rattle.enet_wire.specs.declared.wire.SendOutcome.TheVariants as outcome
 
 -- what it is still to do, what it told, how often it failed, and how often of these for want of memory
 pub record Memory : Type 0 where
@@ -15,9 +18,13 @@ pub record Memory : Type 0 where
 abbrev pub fresh : List Step → Memory
 fresh script = record { script = script; told = []; faults = 0; starved = 0 }
 
--- the datagram in front, as far as 4,096 bytes hold it, and the script after it
+-- a datagram as far as 4,096 bytes hold it; one from port 0 is passed over
+abbrev pub given_from : Addr → List ℕ → Option (Addr × List ℕ)
+given_from from bytes = if is_answerable from.port then Some (from, take 4096 bytes) else None
+
+-- the datagram in front, and the script after it
 abbrev pub NextIs : List Step → Option (Addr × List ℕ) → List Step → Type 0
-NextIs (Datagram from bytes ∷ rest) given after = (given ≡ Some (from, take 4096 bytes)) × (after ≡ rest)
+NextIs (Datagram from bytes ∷ rest) given after = (given ≡ given_from from bytes) × (after ≡ rest)
 NextIs (Fault ∷ rest) given after = ⊥
 NextIs script given after = (given ≡ None) × (after ≡ script)
 
@@ -26,11 +33,12 @@ abbrev pub given_of : Option (Addr × ℕ) → List ℕ → Option (Addr × List
 given_of None buf = None
 given_of (Some d) buf = Some (d.0, take d.1 buf)
 
--- whether send takes a datagram
-abbrev pub Takes : List Step → Bool → List Step → Type 0
-Takes (Block ∷ rest) taken after = (taken ≡ false) × (after ≡ rest)
-Takes (Fault ∷ rest) taken after = ⊥
-Takes script taken after = (taken ≡ true) × (after ≡ script)
+-- what becomes of a datagram that is sent
+abbrev pub Takes : List Step → SendOutcome → List Step → Type 0
+Takes (Lose ∷ rest) became after = (became ≡ outcome.Lost) × (after ≡ rest)
+Takes (Block ∷ rest) became after = (became ≡ outcome.Blocked) × (after ≡ rest)
+Takes (Fault ∷ rest) became after = ⊥
+Takes script became after = (became ≡ outcome.Sent) × (after ≡ script)
 
 -- the milliseconds of a wait
 abbrev pub Waits : List Step → ℕ → List Step → Type 0

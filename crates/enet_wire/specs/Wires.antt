@@ -1,9 +1,11 @@
 -- What a wire tells of its calls.
-use Rattle.std.specs.Prelude.{ℕ, ◌+◌, ◌==◌, if◌then◌else◌, Bool, true, false, List, [], ◌∷◌, ◌++◌, take, Option, Some, None, Result, Ok, Err}
+use Rattle.std.specs.Prelude.{ℕ, ◌+◌, ◌==◌, if◌then◌else◌, Bool, List, [], ◌∷◌, ◌++◌, take, Option, Some, None, Result, Ok, Err}
 use Rattle.enet_codec.specs.declared.address.Addr.{Addr}
 use Rattle.enet_codec.specs.declared.refusal.Refusal.{Refusal}
 use Rattle.enet_wire.specs.declared.told.Told.{Told}
-use Rattle.enet_wire.specs.declared.told.Told.TheVariants.{Came, NothingCame, Went, Blocked, Waited}
+use Rattle.enet_wire.specs.declared.told.Told.TheVariants.{Came, NothingCame, Went, Lost, Blocked, Waited}
+use Rattle.enet_wire.specs.declared.wire.SendOutcome.{SendOutcome}
+use Rattle.enet_wire.specs.declared.wire.SendOutcome.TheVariants as outcome
 
 -- so many faults and no more are counted; a wire that failed so often is spent
 abbrev pub last_fault : ℕ
@@ -28,9 +30,10 @@ came (Ok (Some d)) buf = Came d.0 (take d.1 buf) ∷ []
 came (Err why) buf = []
 
 -- a call of send
-abbrev pub went : Addr → List ℕ → Result Bool Refusal → List Told
-went to bytes (Ok true) = Went to bytes ∷ []
-went to bytes (Ok false) = Blocked to bytes ∷ []
+abbrev pub went : Addr → List ℕ → Result SendOutcome Refusal → List Told
+went to bytes (Ok outcome.Sent) = Went to bytes ∷ []
+went to bytes (Ok outcome.Lost) = Lost to bytes ∷ []
+went to bytes (Ok outcome.Blocked) = Blocked to bytes ∷ []
 went to bytes (Err why) = []
 
 -- a call of wait

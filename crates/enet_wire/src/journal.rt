@@ -35,7 +35,9 @@ pub enum Note<'a> {
     TookOn { to: Addr, bytes: &'a [u8] },
     /// No datagram came.
     NothingCame,
-    /// A datagram didn't go.
+    /// A datagram is lost.
+    Lost { to: Addr, bytes: &'a [u8] },
+    /// A datagram didn't go, since that would have blocked.
     Blocked { to: Addr, bytes: &'a [u8] },
     /// So many milliseconds are over.
     Waited { ms: u32 },

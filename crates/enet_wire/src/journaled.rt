@@ -1,15 +1,19 @@
 //! A socket that keeps a journal.
-ghost use Rattle.std.specs.Prelude.{◌≡◌, ◌++◌, [], ◌≤◌, true, false, Some, None, Ok, IfOk, IfErr, IfSome};
-ghost use Rattle.enet_wire.specs.Journals.{plain};
-ghost use Rattle.enet_wire.specs.Private.Noted.{noted_at};
+ghost use Rattle.std.specs.Prelude.{◌≡◌, ◌++◌, [], ◌<◌, ◌≤◌, true, Some, None, Ok, IfOk, IfErr, IfSome};
+ghost use Rattle.enet_wire.specs.Journals.{is_answerable, plain, sender};
+ghost use Rattle.enet_wire.specs.Private.Noted.{gave, noted_at};
 ghost use Rattle.enet_wire.specs.Wires.{came, went, waited};
 
 use crate::journal::{Journal, Note};
+use crate::wire::SendOutcome;
 use enet_codec::Addr;
 use mio::net::UdpSocket;
 use std::io;
 use std::net::{IpAddr, Ipv4Addr, SocketAddr};
 use std::os::fd::{AsRawFd, RawFd};
+
+/// In a call so many datagrams that can't be answered are passed over at most, so that they don't keep a turn from its other work.
+const MOST_PASSED_OVER: u32 = 64;
 
 /// A UDP socket with a journal, to which nobody else has the socket. That a datagram came or went is noted by [`receive`] and [`send`]
 /// alone, with what the system answered: what these two functions note of it is trusted.
@@ -30,22 +34,43 @@ impl JournaledSocket {
         }
     }
 
-    /// Has the system give the next datagram. None where it is of an address of another kind. What the system answers else is handed on,
-    /// and nothing is noted.
-    pub(crate) fn receive(&mut self, buf: &mut [u8; 4096]) -> io::Result<Option<(Addr, usize)>>
+    /// Has the system give the next datagram that can be answered. Others are passed over, and not noted. None where 64 were passed over,
+    /// which is noted. What the system answers else is handed on, and nothing is noted.
+    pub(crate) fn receive_answerable(
+        &mut self,
+        buf: &mut [u8; 4096],
+    ) -> io::Result<Option<(Addr, usize)>>
         ensures noted { IfOk result (λ given. noted_at self.new ≡ noted_at self.old ++ came (Ok given) buf.new) }
         ensures silent { IfErr result (λ why. noted_at self.new ≡ noted_at self.old) }
         ensures len { IfOk result (λ given. IfSome given (λ d. d.1 ≤ 4096)) }
+        ensures answerable { IfOk result (λ given. IfSome given (λ d. 0 < d.0.port)) }
+    {
+        for _over in 0..MOST_PASSED_OVER {
+            if let Some(given) = self.receive(buf)? {
+                return Ok(Some(given));
+            }
+        }
+        self.note_nothing();
+        Ok(None)
+    }
+
+    /// Has the system give the next datagram. None where it can't be answered, since it comes from port 0, or from an address of another
+    /// kind: then nothing is noted. What the system answers else is handed on, and nothing is noted.
+    fn receive(&mut self, buf: &mut [u8; 4096]) -> io::Result<Option<(Addr, usize)>>
+        ensures noted { IfOk result (λ given. noted_at self.new ≡ noted_at self.old ++ gave given buf.new) }
+        ensures silent { IfErr result (λ why. noted_at self.new ≡ noted_at self.old) }
+        ensures len { IfOk result (λ given. IfSome given (λ d. d.1 ≤ 4096)) }
+        ensures answerable { IfOk result (λ given. IfSome given (λ d. 0 < d.0.port)) }
     {
         let (len, from) = self.socket.recv_from(buf)?;
         let bytes = &buf[..len];
         self.journal = self.journal.and(&Note::Came { from, bytes });
-        Ok(plain_addr(from).map(|from| (from, len)))
+        Ok(sender(from).map(|from| (from, len)))
     }
 
     /// Hands the datagram to the system. What the system answers else is handed on, and nothing is noted.
     pub(crate) fn send(&mut self, to: Addr, bytes: &[u8]) -> io::Result<()>
-        ensures noted { IfOk result (λ sent. noted_at self.new ≡ noted_at self.old ++ went to bytes.now (Ok true)) }
+        ensures noted { IfOk result (λ sent. noted_at self.new ≡ noted_at self.old ++ went to bytes.now (Ok SendOutcome.Sent)) }
         ensures silent { IfErr result (λ why. noted_at self.new ≡ noted_at self.old) }
     {
         let to = socket_addr(to);
@@ -61,9 +86,16 @@ impl JournaledSocket {
         self.journal = self.journal.and(&Note::NothingCame);
     }
 
-    /// Notes that a datagram didn't go.
+    /// Notes that a datagram is lost.
+    pub(crate) fn note_lost(&mut self, to: Addr, bytes: &[u8])
+        ensures { noted_at self.new ≡ noted_at self.old ++ went to bytes.now (Ok SendOutcome.Lost) }
+    {
+        self.journal = self.journal.and(&Note::Lost { to, bytes });
+    }
+
+    /// Notes that a datagram didn't go, since that would have blocked.
     pub(crate) fn note_blocked(&mut self, to: Addr, bytes: &[u8])
-        ensures { noted_at self.new ≡ noted_at self.old ++ went to bytes.now (Ok false) }
+        ensures { noted_at self.new ≡ noted_at self.old ++ went to bytes.now (Ok SendOutcome.Blocked) }
     {
         self.journal = self.journal.and(&Note::Blocked { to, bytes });
     }
@@ -88,10 +120,22 @@ pub(crate) fn socket_addr(addr: Addr) -> SocketAddr
     SocketAddr::from((Ipv4Addr::from_bits(addr.ip), addr.port))
 }
 
-// None for an address of another kind.
-fn plain_addr(addr: SocketAddr) -> Option<Addr>
-    ensures { result ≡ plain addr }
+/// Whether something can be sent to a port.
+pub(crate) fn is_answerable(port: u16) -> bool
+    ensures answerable { result ≡ is_answerable port }
+    ensures number { result ≡ true → 0 < port }
 {
+    port != 0
+}
+
+// Who sent a datagram, if it can be answered: None for port 0, and for an address of another kind.
+fn sender(addr: SocketAddr) -> Option<Addr>
+    ensures sender { result ≡ sender addr }
+    ensures answerable { IfSome result (λ from. 0 < from.port) }
+{
+    if !is_answerable(addr.port()) {
+        return None;
+    }
     match addr.ip() {
         IpAddr::V4(ip) => Some(Addr {
             ip: ip.to_bits(),

@@ -1,10 +1,11 @@
 //! The network as a service sees it: the trait [`Wire`], a wire in memory, and a UDP socket with a bell that ends its wait.
 //!
 //! Proved: each wire counts its faults exactly, E14 comes exactly where the count rises, a spent wire does nothing, and each wire tells its
-//! calls, truly: one in memory in a list, a socket in a [`Journal`], which clauses alone read. Trusted of the socket are two functions of
-//! src/journaled.rt, `receive` and `send`: they alone ask the system for datagrams, and note what it answered, with the address that it
-//! gave or was given. The wire in memory does what its script says: a call fails where the script has a fault, and else only with the word
-//! that memory was wanting ([`MemoryWire::starved`]).
+//! calls, truly: one in memory in a list, a socket in a [`Journal`], which clauses alone read. No wire gives a datagram from port 0, since
+//! nothing can be sent to that port. A socket's journal tells what its wire gave, so of a datagram from there it says nothing. Trusted of
+//! the socket are two functions of src/journaled.rt, `receive` and `send`: they alone ask the system for datagrams, and note what it
+//! answered, with the address that it gave or was given. The wire in memory does what its script says: a call fails where the script has a
+//! fault, and else only with the word that memory was wanting ([`MemoryWire::starved`]).
 //! Only tested, by `check_queues`: that datagrams pass through the socket, which stands at the address that was asked for, that its
 //! milliseconds add up, and that an address that is taken is E14, with what the system says; by `check_service`, that a wire in memory isn't
 //! starved where there is memory; by scripts/check-clients.sh: a reception that fails once.
@@ -25,4 +26,4 @@ pub use journal::{Journal, Note};
 pub use memory::MemoryWire;
 pub use socket::{MioWire, Unopened};
 pub use told::{Step, Told};
-pub use wire::{MOST_PER_TURN, Wire};
+pub use wire::{MOST_LOST_PER_TURN, MOST_PER_TURN, SendOutcome, Wire};

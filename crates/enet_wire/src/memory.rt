@@ -1,9 +1,11 @@
 //! A wire in memory.
-ghost use Rattle.std.specs.Prelude.{◌≡◌, ◌∷◌, ◌+◌, ◌<◌, ◌≤◌, IfOk, IfErr, IfSome, take, length};
+ghost use Rattle.std.specs.Prelude.{◌≡◌, ◌∷◌, [], ◌+◌, ◌<◌, ◌≤◌, Ok, IfOk, IfErr, IfSome, take, length};
 ghost use Rattle.enet_wire.specs.WireMemory.{NextIs, Takes, Waits};
+ghost use Rattle.enet_wire.specs.Wires.{went};
 
+use crate::journaled::is_answerable;
 use crate::told::{Step, Told};
-use crate::wire::Wire;
+use crate::wire::{SendOutcome, Wire};
 use bytes::Bytes;
 use enet_codec::{Addr, Refusal};
 use std::alloc::Global;
@@ -89,7 +91,7 @@ impl MemoryWire {
 }
 
 impl Wire for MemoryWire {
-    ghost use Rattle.std.specs.Prelude.{◌≡◌, ◌≤◌, ◌++◌, ◌<◌, Some, None, Ok, false, IfOk, OnOk, IfSome, IfErr};
+    ghost use Rattle.std.specs.Prelude.{◌≡◌, ◌≤◌, ◌++◌, ◌<◌, Some, None, Ok, IfOk, OnOk, IfSome, IfErr};
     ghost use Rattle.enet_wire.specs.Wires.{came, went, waited, unless_spent, faults_after, last_fault};
     ghost use Rattle.enet_wire.specs.WireMemory.{NextIs, Takes, Waits, Fails, given_of};
 
@@ -100,6 +102,7 @@ impl Wire for MemoryWire {
     fn recv(&mut self, buf: &mut [u8; 4096]) -> Result<Option<(Addr, usize)>, Refusal>
         ensures told { self.new.told ≡ self.old.told ++ unless_spent self.old.faults (came result buf.new) }
         ensures len { IfOk result (λ given. IfSome given (λ d. d.1 ≤ 4096)) }
+        ensures answerable { IfOk result (λ given. IfSome given (λ d. 0 < d.0.port)) }
         ensures fault { IfErr result (λ why. why ≡ Refusal.WireFault) }
         ensures faults { self.new.faults ≡ faults_after self.old.faults result }
         ensures spent { self.old.faults ≡ last_fault → (result ≡ Ok None) × (self.new ≡ self.old) }
@@ -127,30 +130,26 @@ impl Wire for MemoryWire {
         }
     }
 
-    fn send(&mut self, to: Addr, bytes: &[u8]) -> Result<bool, Refusal>
+    fn send(&mut self, to: Addr, bytes: &[u8]) -> Result<SendOutcome, Refusal>
         ensures told { self.new.told ≡ self.old.told ++ unless_spent self.old.faults (went to bytes.now result) }
         ensures fault { IfErr result (λ why. why ≡ Refusal.WireFault) }
         ensures faults { self.new.faults ≡ faults_after self.old.faults result }
-        ensures spent { self.old.faults ≡ last_fault → (result ≡ Ok false) × (self.new ≡ self.old) }
-        ensures script { self.old.faults < last_fault → IfOk result (λ taken. Takes self.old.script taken self.new.script) }
+        ensures spent { self.old.faults ≡ last_fault → (result ≡ Ok SendOutcome.Blocked) × (self.new ≡ self.old) }
+        ensures script { self.old.faults < last_fault → IfOk result (λ became. Takes self.old.script became self.new.script) }
         ensures fails { IfErr result (λ why. Fails self.old self.new) }
         ensures fed { OnOk result (self.new.starved ≡ self.old.starved) }
     {
         if self.failures == u64::MAX {
-            return Ok(false);
+            return Ok(SendOutcome::Blocked);
         }
         let kept = Bytes::copy_from_slice(*self.told.allocator(), bytes);
         let (Ok(bytes), Ok(())) = (kept, self.told.reserve(1)) else {
             return self.fail_for_memory();
         };
         match next_outcome(&mut self.script) {
-            Ok(true) => {
-                self.told.push_reserved(Told::Went { to, bytes });
-                Ok(true)
-            }
-            Ok(false) => {
-                self.told.push_reserved(Told::Blocked { to, bytes });
-                Ok(false)
+            Ok(became) => {
+                self.told.push_reserved(told_of(became, to, bytes));
+                Ok(became)
             }
             Err(Broken) => fault(&mut self.failures),
         }
@@ -198,14 +197,18 @@ fn fault<T>(failures: &mut u64) -> Result<T, Refusal>
     Err(Refusal::WireFault)
 }
 
-// The datagram that is next, cut to 4,096 bytes.
+// The datagram that is next, cut to 4,096 bytes; one from port 0 is passed over.
 fn next_datagram(script: &mut VecDeque<Step>) -> Result<Option<(Addr, Bytes)>, Broken>
     ensures given { IfOk result (λ given. NextIs script.old.items given script.new.items) }
     ensures short { IfOk result (λ given. IfSome given (λ d. length d.1 ≤ 4096)) }
+    ensures answerable { IfOk result (λ given. IfSome given (λ d. 0 < d.0.port)) }
     ensures broken { IfErr result (λ b. script.old.items ≡ Step.Fault ∷ script.new.items) }
 {
     match script.pop_front() {
         Some(Step::Datagram { from, mut bytes }) => {
+            if !is_answerable(from.port) {
+                return Ok(None);
+            }
             bytes.truncate(4096);
             Ok(Some((from, bytes)))
         }
@@ -218,19 +221,31 @@ fn next_datagram(script: &mut VecDeque<Step>) -> Result<Option<(Addr, Bytes)>, B
     }
 }
 
-// Whether a send is taken.
-fn next_outcome(script: &mut VecDeque<Step>) -> Result<bool, Broken>
-    ensures taken { IfOk result (λ taken. Takes script.old.items taken script.new.items) }
+// What is told of a datagram that was sent.
+fn told_of(became: SendOutcome, to: Addr, bytes: Bytes) -> Told
+    ensures { result ∷ [] ≡ went to bytes (Ok became) }
+{
+    match became {
+        SendOutcome::Sent => Told::Went { to, bytes },
+        SendOutcome::Lost => Told::Lost { to, bytes },
+        SendOutcome::Blocked => Told::Blocked { to, bytes },
+    }
+}
+
+// What becomes of a datagram that is sent.
+fn next_outcome(script: &mut VecDeque<Step>) -> Result<SendOutcome, Broken>
+    ensures taken { IfOk result (λ became. Takes script.old.items became script.new.items) }
     ensures broken { IfErr result (λ b. script.old.items ≡ Step.Fault ∷ script.new.items) }
 {
     match script.pop_front() {
-        Some(Step::Block) => Ok(false),
+        Some(Step::Lose) => Ok(SendOutcome::Lost),
+        Some(Step::Block) => Ok(SendOutcome::Blocked),
         Some(Step::Fault) => Err(Broken),
         Some(other) => {
             script.push_front_reserved(other);
-            Ok(true)
+            Ok(SendOutcome::Sent)
         }
-        None => Ok(true),
+        None => Ok(SendOutcome::Sent),
     }
 }
 

@@ -5,7 +5,7 @@ ghost use Rattle.std.specs.Arc.{arc_value};
 
 use crate::bell::Bell;
 use crate::journaled::{JournaledSocket, socket_addr};
-use crate::wire::{MOST_PER_TURN, Wire};
+use crate::wire::{MOST_LOST_PER_TURN, MOST_PER_TURN, SendOutcome, Wire};
 use enet_codec::{Addr, Refusal};
 use libc::net as c;
 use mio::net::UdpSocket;
@@ -71,9 +71,8 @@ pub struct MioWire {
     drained: bool,
     // A send would have blocked since the last wait.
     blocked: bool,
-    // An error of its destination lost a datagram since the last wait, with which a turn ends its sending.
-    lost: bool,
-    // Datagrams sent since the last wait.
+    // Datagrams that an error of their destination or of their length lost since the last wait, and datagrams sent.
+    lost: u32,
     sent: u32,
     // The last reception found the socket empty.
     empty: bool,
@@ -131,7 +130,7 @@ impl MioWire {
             reason: None,
             drained: true,
             blocked: false,
-            lost: false,
+            lost: 0,
             sent: 0,
             empty: false,
             quiet: false,
@@ -192,8 +191,10 @@ impl MioWire {
         ensures failures { failures_of self.new ≡ failures_of self.old }
         ensures told { told_of self.new ≡ told_of self.old }
     {
-        let more = !self.drained || self.lost || self.sent >= MOST_PER_TURN;
-        self.lost = false;
+        let more = !self.drained
+            || self.lost >= MOST_LOST_PER_TURN
+            || self.sent.saturating_add(self.lost) >= MOST_PER_TURN;
+        self.lost = 0;
         self.sent = 0;
         more || self.bell.was_rung()
     }
@@ -377,9 +378,9 @@ impl Wire for MioWire {
 
     ghost faults = { λ w. failures_of w };
 
-    /// None, too, where the reception failed in a way that need not come again: that is no fault. The next wait sleeps then as
-    /// after an empty socket, so that it isn't tried without a pause. The system isn't asked where the last call found the socket
-    /// empty and a sleep since then was told of no datagram.
+    /// None, too, where 64 datagrams came that can't be answered, and where the reception failed in a way that need not come again: that is
+    /// no fault. The next wait sleeps then as after an empty socket, so that it isn't tried without a pause. The system isn't asked where
+    /// the last call found the socket empty and a sleep since then was told of no datagram.
     fn recv(&mut self, buf: &mut [u8; 4096]) -> Result<Option<(Addr, usize)>, Refusal> {
         if self.failures == u64::MAX {
             return Ok(None);
@@ -389,7 +390,7 @@ impl Wire for MioWire {
             self.socket.note_nothing();
             return Ok(None);
         }
-        match self.socket.receive(buf) {
+        match self.socket.receive_answerable(buf) {
             Ok(given) => {
                 self.drained = false;
                 self.empty = false;
@@ -408,26 +409,32 @@ impl Wire for MioWire {
         }
     }
 
-    /// False, too, where an error of the destination or of the datagram's length lost the datagram: that is no fault. The next
-    /// wait doesn't sleep then, since there may be more to send to others.
-    fn send(&mut self, to: Addr, bytes: &[u8]) -> Result<bool, Refusal> {
+    /// An error of the destination or of the datagram's length loses the datagram: that is no fault. The next wait doesn't sleep where
+    /// so many were lost that a turn sends no more.
+    fn send(&mut self, to: Addr, bytes: &[u8]) -> Result<SendOutcome, Refusal> {
         if self.failures == u64::MAX {
-            return Ok(false);
+            return Ok(SendOutcome::Blocked);
         }
         let why = match self.socket.send(to, bytes) {
             Ok(()) => {
                 self.sent = self.sent.saturating_add(1);
-                return Ok(true);
+                return Ok(SendOutcome::Sent);
             }
             Err(why) => why,
         };
         match why_unsent(&why) {
-            Unsent::Blocked => self.blocked = true,
-            Unsent::Lost => self.lost = true,
-            Unsent::Failed => return self.fault(why),
+            Unsent::Lost => {
+                self.lost = self.lost.saturating_add(1);
+                self.socket.note_lost(to, bytes);
+                Ok(SendOutcome::Lost)
+            }
+            Unsent::Blocked => {
+                self.blocked = true;
+                self.socket.note_blocked(to, bytes);
+                Ok(SendOutcome::Blocked)
+            }
+            Unsent::Failed => self.fault(why),
         }
-        self.socket.note_blocked(to, bytes);
-        Ok(false)
     }
 
     fn wait<R: Wait + Clock>(&mut self, rt: &R) -> Result<u32, Refusal> {

@@ -12,7 +12,9 @@ pub enum Told {
     NothingCame,
     /// `send` took a datagram.
     Went { to: Addr, bytes: Bytes },
-    /// `send` didn't take a datagram: it would have blocked, or the destination can't be reached.
+    /// `send` lost a datagram: its destination can't be reached, or it is too long.
+    Lost { to: Addr, bytes: Bytes },
+    /// `send` didn't take a datagram, since that would have blocked.
     Blocked { to: Addr, bytes: Bytes },
     /// `wait` gave these milliseconds.
     Waited { ms: u32 },
@@ -21,8 +23,10 @@ pub enum Told {
 /// One step of the script of a wire in memory. Each waits for the call that it is meant for.
 #[derive(Drop)]
 pub enum Step {
-    /// `recv` gives this datagram; of a longer one its first 4,096 bytes.
+    /// `recv` gives this datagram; of a longer one its first 4,096 bytes. One from port 0 it passes over, and gives none.
     Datagram { from: Addr, bytes: Bytes },
+    /// A send loses its datagram.
+    Lose,
     /// A send would block.
     Block,
     /// A wait gives these milliseconds.

@@ -2,7 +2,7 @@
 
 use enet_codec::{Addr, Refusal};
 use enet_host::{Config, HostCore};
-use enet_wire::{MioWire, Wire};
+use enet_wire::{MioWire, SendOutcome, Wire};
 use std::net::Net;
 use std::rt::Clock;
 use std::sync::Wait;
@@ -42,8 +42,8 @@ impl Node {
         Ok(())
     }
 
-    /// Sends what the host has to send. A datagram that the socket has no room for is lost, as in a network; the host sends again what
-    /// has to come.
+    /// Sends what the host has to send, until the socket has no room. The datagram for which it has none is lost, as in a network, and so is
+    /// one whose destination can't be reached; the host sends again what has to come.
     pub fn put_out(&mut self) -> Result<(), Refusal> {
         let mut buffer = [0; 4096];
         for _ in 0..MOST_DATAGRAMS {
@@ -53,7 +53,7 @@ impl Node {
             let Some(datagram) = buffer.get(..length) else {
                 break;
             };
-            if !self.wire.send(to, datagram)? {
+            if self.wire.send(to, datagram)? == SendOutcome::Blocked {
                 break;
             }
         }

@@ -16,7 +16,7 @@ use Rattle.enet_submit.specs.declared.order.Order.TheVariants as orders
 use Rattle.enet_submit.specs.declared.order.Submission.{Submission}
 use Rattle.enet_submit.specs.History.{of, CountsFrom}
 use Rattle.enet_wire.specs.declared.told.Told.{Told}
-use Rattle.enet_wire.specs.declared.told.Told.TheVariants.{Came, NothingCame, Went, Blocked, Waited}
+use Rattle.enet_wire.specs.declared.told.Told.TheVariants.{Came, NothingCame, Went, Lost, Blocked, Waited}
 use Rattle.enet_peer.specs.declared.parts.PeerEvent.{PeerEvent}
 use Rattle.enet_peer.specs.declared.parts.PeerEvent.TheVariants as told
 use Rattle.enet_slot.specs.Calls.{event_of}
@@ -194,17 +194,19 @@ hears-ledger waiting left old (x ∷ rest) after h = absurd h
 gives-ledger : (waiting : Option Event) (old : Noted) (given : Option (Rattle.enet_codec.specs.declared.address.Addr.Addr × List ℕ)) (new : Noted) → Rattle.law_service.specs.Noting.EmitsDatagram old given new → Ledger (over old waiting) (over new waiting) [] []
 gives-ledger waiting old given new h = quiet old new waiting (call.Service h.0 h.1) h.3 (λ name channel. refl) (λ name. refl)
 
-sends-ledger : (waiting : Option Event) (left : ℕ) (old : Noted) (went : List Told) (after : Wired Noted) → EmitsAll noting left old went after → Ledger (over old waiting) (over after.host waiting) [] []
-sends-ledger waiting left old [] after (at_limit none sound same) = subst (λ (k : Noted). Ledger (over old waiting) (over k waiting) [] []) (sym same) (nothing (over old waiting) [] refl)
-sends-ledger waiting left old [] after (has_none some sound gives) = gives-ledger waiting old None after.host gives
-sends-ledger waiting left old [] after (fails some failed to bytes gives) = gives-ledger waiting old (Some (to, bytes)) after.host gives
-sends-ledger waiting left old (Went to bytes ∷ rest) after h =
-    join (over old waiting) (over h.1 waiting) (over after.host waiting) [] [] [] [] (gives-ledger waiting old (Some (to, bytes)) h.1 h.2) (sends-ledger waiting (left - 1) h.1 rest after h.3)
-sends-ledger waiting left old (Blocked to bytes ∷ rest) after h = gives-ledger waiting old (Some (to, bytes)) after.host h.1
-sends-ledger waiting left old (x ∷ rest) after h = absurd h
+sends-ledger : (waiting : Option Event) (left losses : ℕ) (old : Noted) (went : List Told) (after : Wired Noted) → EmitsAll noting left losses old went after → Ledger (over old waiting) (over after.host waiting) [] []
+sends-ledger waiting left losses old [] after (at_limit none sound same) = subst (λ (k : Noted). Ledger (over old waiting) (over k waiting) [] []) (sym same) (nothing (over old waiting) [] refl)
+sends-ledger waiting left losses old [] after (has_none some few sound gives) = gives-ledger waiting old None after.host gives
+sends-ledger waiting left losses old [] after (fails some few failed to bytes gives) = gives-ledger waiting old (Some (to, bytes)) after.host gives
+sends-ledger waiting left losses old (Went to bytes ∷ rest) after h =
+    join (over old waiting) (over h.2 waiting) (over after.host waiting) [] [] [] [] (gives-ledger waiting old (Some (to, bytes)) h.2 h.3) (sends-ledger waiting (left - 1) losses h.2 rest after h.4)
+sends-ledger waiting left losses old (Lost to bytes ∷ rest) after h =
+    join (over old waiting) (over h.2 waiting) (over after.host waiting) [] [] [] [] (gives-ledger waiting old (Some (to, bytes)) h.2 h.3) (sends-ledger waiting (left - 1) (losses - 1) h.2 rest after h.4)
+sends-ledger waiting left losses old (Blocked to bytes ∷ rest) after h = gives-ledger waiting old (Some (to, bytes)) after.host h.2
+sends-ledger waiting left losses old (x ∷ rest) after h = absurd h
 
 sending-ledger : (waiting : Option Event) (heard : Wired Noted) (went : List Told) (sent : Wired Noted) (b : Bool) → heard.failed ≡ b → AfterReceiving noting heard went sent → Ledger (over heard.host waiting) (over sent.host waiting) [] []
-sending-ledger waiting heard went sent false is h = sends-ledger waiting 256 heard.host went sent (h.sound is)
+sending-ledger waiting heard went sent false is h = sends-ledger waiting 256 16 heard.host went sent (h.sound is)
 sending-ledger waiting heard went sent true is h =
     subst (λ (w : Wired Noted). Ledger (over heard.host waiting) (over w.host waiting) [] []) (sym (h.failed is).1) (nothing (over heard.host waiting) [] refl)
 

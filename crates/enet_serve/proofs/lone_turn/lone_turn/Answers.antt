@@ -5,7 +5,7 @@ use Rattle.enet_codec.specs.declared.event.Event.{Event}
 use Rattle.enet_wire.specs.declared.told.Told.{Told}
 use Rattle.enet_wire.specs.declared.told.Told.TheVariants.{Waited}
 use Rattle.enet_chat.specs.declared.lone.LoneRelay.{LoneRelay}
-use Rattle.enet_turn.specs.Counts.{stopped, given_in, came_in, went_in, blocked_in, taken_in}
+use Rattle.enet_turn.specs.Counts.{stopped, given_in, came_in, went_in, lost_in, taken_in}
 use Rattle.enet_turn.specs.LoneTurn.{Applied, LoneTurn, gave_in, puts_in}
 use Rattle.enet_turn.specs.Run.{IsSound}
 use Rattle.enet_turn.specs.Turn.{Round}
@@ -114,7 +114,7 @@ returns-in-Err-emit-clause-cut g c =
         orders = stopped (given_in (gave_in applied));
         received = stopped (came_in came);
         sent = stopped (went_in went);
-        lost = stopped (blocked_in went + 1);
+        lost = stopped (lost_in went + 1);
         events = stopped (taken_in (first_puts ++ puts_in applied));
       };
     } in

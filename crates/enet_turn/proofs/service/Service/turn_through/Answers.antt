@@ -4,7 +4,7 @@ use Rattle.enet_codec.specs.declared.event.Event.{Event}
 use Rattle.enet_submit.specs.declared.order.Submission.{Submission}
 use Rattle.enet_wire.specs.declared.told.Told.{Told}
 use Rattle.enet_turn.specs.Phases.{ReceivesAll, EmitsAll}
-use Rattle.enet_turn.specs.Counts.{count_of, stopped, taken_in, blocked_in}
+use Rattle.enet_turn.specs.Counts.{count_of, stopped, taken_in, lost_in}
 use Rattle.enet_turn.proofs.PhaseSteps.{chain_more, sends_then, sends_nothing, tells_then, tells_nothing}
 use Rattle.enet_turn.proofs.Tellings.{told_on}
 use Rattle.enet_turn.proofs.Reporting.{same_report, all_taken, some_taken}
@@ -65,12 +65,12 @@ returns-then-sent-clause-turn g c =
     let went : List Told = sent.0 in
     let hearing : ReceivesAll g.H.Core.calls 256 c.take_orders-orders.new.host came (record { host = c.receive_all-heard.new.host; failed = false }) =
     subst (λ (b : Bool). ReceivesAll g.H.Core.calls 256 c.take_orders-orders.new.host came (record { host = c.receive_all-heard.new.host; failed = b })) c.if-heard.false heard.2 in
-    let sending : EmitsAll g.H.Core.calls 256 c.receive_all-heard.new.host went (record { host = c.emit_all-sent.new.host; failed = true }) =
-    subst (λ (b : Bool). EmitsAll g.H.Core.calls 256 c.receive_all-heard.new.host went (record { host = c.emit_all-sent.new.host; failed = b })) c.if-sent.true sent.2 in
+    let sending : EmitsAll g.H.Core.calls 256 16 c.receive_all-heard.new.host went (record { host = c.emit_all-sent.new.host; failed = true }) =
+    subst (λ (b : Bool). EmitsAll g.H.Core.calls 256 16 c.receive_all-heard.new.host went (record { host = c.emit_all-sent.new.host; failed = b })) c.if-sent.true sent.2 in
     let none_yet : g.W.Wire.faults c.receive_all-heard.new.wire ≡ g.W.Wire.faults c.args.wire.now + 0 =
     heard.4 ∙ ap (λ (b : Bool). g.W.Wire.faults c.args.wire.now + count_of b) c.if-heard.false in
     let sound : g.W.Wire.faults c.receive_all-heard.new.wire ≡ g.W.Wire.faults c.args.wire.now = omega (arith, none_yet) in
-    let lost : c.emit_all-sent.result.lost ≡ blocked_in went + 1 = sent.4 ∙ ap (λ (b : Bool). blocked_in went + count_of b) c.if-sent.true in (
+    let lost : c.emit_all-sent.result.lost ≡ lost_in went + 1 = sent.4 ∙ ap (λ (b : Bool). lost_in went + count_of b) c.if-sent.true in (
       record { ms = c.args.ms; gave = gave; told = came ++ went; puts = again ++ (of_orders ++ []); failed = true; report = c.report_of-report.result },
       refl,
       refl,
@@ -117,12 +117,12 @@ returns-clause-turn g c =
     let went : List Told = sent.0 in
     let hearing : ReceivesAll g.H.Core.calls 256 c.take_orders-orders.new.host came (record { host = c.receive_all-heard.new.host; failed = false }) =
     subst (λ (b : Bool). ReceivesAll g.H.Core.calls 256 c.take_orders-orders.new.host came (record { host = c.receive_all-heard.new.host; failed = b })) c.if-heard.false heard.2 in
-    let sending : EmitsAll g.H.Core.calls 256 c.receive_all-heard.new.host went (record { host = c.emit_all-sent.new.host; failed = false }) =
-    subst (λ (b : Bool). EmitsAll g.H.Core.calls 256 c.receive_all-heard.new.host went (record { host = c.emit_all-sent.new.host; failed = b })) c.if-sent.false sent.2 in
+    let sending : EmitsAll g.H.Core.calls 256 16 c.receive_all-heard.new.host went (record { host = c.emit_all-sent.new.host; failed = false }) =
+    subst (λ (b : Bool). EmitsAll g.H.Core.calls 256 16 c.receive_all-heard.new.host went (record { host = c.emit_all-sent.new.host; failed = b })) c.if-sent.false sent.2 in
     let none_yet : g.W.Wire.faults c.receive_all-heard.new.wire ≡ g.W.Wire.faults c.args.wire.now + 0 =
     heard.4 ∙ ap (λ (b : Bool). g.W.Wire.faults c.args.wire.now + count_of b) c.if-heard.false in
     let sound : g.W.Wire.faults c.receive_all-heard.new.wire ≡ g.W.Wire.faults c.args.wire.now = omega (arith, none_yet) in
-    let lost : c.emit_all-sent.result.lost ≡ blocked_in went + 0 = sent.4 ∙ ap (λ (b : Bool). blocked_in went + count_of b) c.if-sent.false in (
+    let lost : c.emit_all-sent.result.lost ≡ lost_in went + 0 = sent.4 ∙ ap (λ (b : Bool). lost_in went + count_of b) c.if-sent.false in (
       record { ms = c.args.ms; gave = gave; told = came ++ went; puts = again ++ (of_orders ++ of_events); failed = false; report = c.report_of-2.result },
       refl,
       refl,

@@ -1,0 +1,2 @@
+-- What no public contract needs.
+pub mod Ending
