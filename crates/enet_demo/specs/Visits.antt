@@ -65,7 +65,7 @@ abbrev pub plan_of : Demonstration → ℕ → Plan
 plan_of shown number = record { number = number; server = server_of shown }
 
 abbrev pub beginning : Service Host
-beginning = runs.beginning (standard_config 1 2)
+beginning = runs.beginning (record (standard_config 1 2) { generations = 4294967295 })
 
 -- A client's service took so many turns, in none of which the wire failed. The client's connection is the first that they told; they
 -- were given a front of what it asked for; and the visit tells what they told

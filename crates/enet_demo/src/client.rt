@@ -80,7 +80,9 @@ where
         bell: &bell,
         signals: &Signals::new(),
     };
-    let mut bound = BoundService::open(part.alloc, wire, Config::standard(1, CHANNELS))?;
+    let mut config = Config::standard(1, CHANNELS);
+    config.generations = u32::MAX;
+    let mut bound = BoundService::open(part.alloc, wire, config)?;
     let visit = run_client(rt, &mut bound, shared, ends, part, company);
     bound.close();
     visit

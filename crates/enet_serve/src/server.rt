@@ -49,11 +49,13 @@ impl Settings {
     ghost use Rattle.std.specs.Prelude.{◌≡◌};
     ghost use Rattle.enet_serve.specs.Serving.{config_of};
 
+    // A server runs for years, so its slots have as many generations as there can be.
     fn config(&self) -> Config
         ensures { result ≡ config_of self.now }
     {
         let mut config = Config::standard(self.peers, self.channels);
         config.mtu = self.mtu;
+        config.generations = u32::MAX;
         config
     }
 }

@@ -23,7 +23,9 @@ pub struct Server {
 impl Server {
     /// A server for 32 clients, who may have two channels each. E14 where the address can't be had, E1 for want of memory.
     pub fn open<R: Net + AllocGlobal>(rt: &R, at: Addr) -> Result<Server, Refusal> {
-        let node = Node::open(rt, at, Config::standard(CLIENTS, CHANNELS))?;
+        let mut config = Config::standard(CLIENTS, CHANNELS);
+        config.generations = u32::MAX;
+        let node = Node::open(rt, at, config)?;
         Ok(Server { node })
     }
 

@@ -72,7 +72,9 @@ where
 {
     let wire = MioWire::bind(rt, settings.at)?;
     let bell = wire.bell()?;
-    let mut bound = BoundService::open(rt.alloc(), wire, Config::standard(CLIENTS, CHANNELS))?;
+    let mut config = Config::standard(CLIENTS, CHANNELS);
+    config.generations = u32::MAX;
+    let mut bound = BoundService::open(rt.alloc(), wire, config)?;
     let won = begin(rt, &mut bound, &bell, settings);
     bound.close();
     won
