@@ -2,11 +2,12 @@
 # Asks `enet_relay serve --metrics` for its figures while 32 clients of the reference library talk (clients/tally.c), and compares these with
 # what the clients counted; sends it datagrams that it must stop, and requests that it must refuse; has 20 ask nothing for six seconds, and
 # others get their answer meanwhile; forges CONNECTs (clients/forge.c), whose slots must be told as half-open ones, and free again, and the
-# answers to them as sent again; stops clients, to whom what others say must stay in transit; has some talk over a line that loses
-# (clients/proxy.c), on which some of what is under way must be told as sent again; and stops the thread of the service alone (clients/hold.c),
-# of which /healthz must tell. Each figure that the dashboard of deploy/grafana asks for must be told (dashboard.py). In one thread and in two:
-# `check-metrics.sh [PROGRAM]`. PROGRAM is the built `enet_relay`, by default the one that `rt ci`, or `rt run` in crates/enet_relay, leaves.
-# Prints what failed, and as last line 'N passed, M failed'; the status is 1 where one failed. It takes two and a half minutes.
+# answers to them as sent again, and as root one from port 0, which must do nothing; stops clients, to whom what others say must stay in
+# transit; has some talk over a line that loses (clients/proxy.c), on which some of what is under way must be told as sent again; and stops
+# the thread of the service alone (clients/hold.c), of which /healthz must tell. Each figure that the dashboard of deploy/grafana asks for
+# must be told (dashboard.py). In one thread and in two: `check-metrics.sh [PROGRAM]`. PROGRAM is the built `enet_relay`, by default the one
+# that `rt ci`, or `rt run` in crates/enet_relay, leaves. Prints what failed, and as last line 'N passed, M failed'; the status is 1 where
+# one failed. It takes two and a half minutes.
 cd "$(dirname "$0")/.." || exit 1
 . scripts/clients.sh
 . scripts/tally.sh
@@ -78,10 +79,22 @@ sent_again() {
     figure enet_sent_again "$(ask 'GET /metrics')"
 }
 
-# CONNECTs that nobody confirms each take a slot, for seven and a half seconds. One second after the last look that counted slots they are
-# counted again. The answer to each goes again after half a second.
+# A CONNECT from port 0. Nothing can be sent to that port, so it must do nothing. It takes a raw socket, so root; else none goes.
+from_port_zero() {
+    [ "$EUID" -eq 0 ] || return
+    python3 - "$port" << 'END' || fail port-zero "it can't be sent"
+import socket, struct, sys
+connect = struct.pack(">HHBBHHBB10I", 0x8FFF, 0, 0x82, 0xFF, 1, 0, 0xFF, 0xFF, 1392, 65536, 2, 0, 0, 5000, 2, 2, 7, 0)
+datagram = struct.pack(">4H", 0, int(sys.argv[1]), 8 + len(connect), 0) + connect
+socket.socket(socket.AF_INET, socket.SOCK_RAW, socket.IPPROTO_UDP).sendto(datagram, ("127.0.0.1", 0))
+END
+}
+
+# CONNECTs that nobody confirms each take a slot, for seven and a half seconds, but none from port 0. One second after the last look that
+# counted slots they are counted again. The answer to each goes again after half a second.
 half_open() {
     local sent told
+    from_port_zero
     sent=$("$room/forge" "$port" 20 1)
     sent=${sent% sent}
     [ "${sent:-0}" -ge 10 ] || fail forge "only '$sent' went"
