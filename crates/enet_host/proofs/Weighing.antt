@@ -4,7 +4,7 @@ use Rattle.enet_peer.specs.declared.held.Held.{Held}
 use Rattle.enet_peer.specs.Held.{IsWithin}
 use Rattle.enet_host.specs.Held.{held_by, most_held, times}
 use Rattle.enet_host.specs.Host.{Host}
-use Rattle.enet_host.specs.Memory.{host_takes, memory_bound, memory_of, memory_of_held, memory_with, own_in, acknowledgement_takes, channel_takes, packet_takes, sender_takes, slot_takes, undispatched_takes}
+use Rattle.enet_host.specs.Memory.{host_takes, memory_bound, memory_of, memory_of_held, memory_with, own_in, acknowledgement_takes, byte_takes, channel_takes, packet_takes, sender_takes, slot_takes, undispatched_takes}
 
 -- what others make a host hold, on so many channels
 pub others-weigh : (channels senders : ℕ) (held most : Held) → IsWithin held most
@@ -13,7 +13,7 @@ others-weigh channels senders held most is =
     let a : held.packets * packet_takes ≤ most.packets * packet_takes = mul-le-mul_right packet_takes is.packets in
     let b : held.undispatched * undispatched_takes ≤ most.undispatched * undispatched_takes = mul-le-mul_right undispatched_takes is.undispatched in
     let c : held.acknowledgements * acknowledgement_takes ≤ most.acknowledgements * acknowledgement_takes = mul-le-mul_right acknowledgement_takes is.acknowledgements in
-    let d : held.bytes ≤ most.bytes = is.bytes in
+    let d : held.bytes * byte_takes ≤ most.bytes * byte_takes = mul-le-mul_right byte_takes is.bytes in
     omega (arith, a, b, c, d)
 
 -- and on fewer of them
@@ -41,7 +41,7 @@ times-weigh n one =
     let b : ℕ = one.senders * sender_takes in
     let c : ℕ = one.packets * packet_takes in
     let d : ℕ = one.undispatched * undispatched_takes in
-    let e : ℕ = one.bytes in
+    let e : ℕ = one.bytes * byte_takes in
     let f : ℕ = one.acknowledgements * acknowledgement_takes in
     let sum-f = mul-add n (a + b + c + d + e) f in
     let sum-e = mul-add n (a + b + c + d) e in
@@ -52,8 +52,9 @@ times-weigh n one =
     let is-b = mul_assoc n one.senders sender_takes in
     let is-c = mul_assoc n one.packets packet_takes in
     let is-d = mul_assoc n one.undispatched undispatched_takes in
+    let is-e = mul_assoc n one.bytes byte_takes in
     let is-f = mul_assoc n one.acknowledgements acknowledgement_takes in
-    omega (arith, sum-b, sum-c, sum-d, sum-e, sum-f, is-a, is-b, is-c, is-d, is-f)
+    omega (arith, sum-b, sum-c, sum-d, sum-e, sum-f, is-a, is-b, is-c, is-d, is-e, is-f)
 
 pub slots-weigh : (n : ℕ) (one : Held) → memory_with n (times n one) ≡ host_takes + n * (slot_takes + memory_of_held one)
 slots-weigh n one =

@@ -43,6 +43,10 @@ packet_takes = 192
 abbrev pub undispatched_takes : ℕ
 undispatched_takes = 2816
 
+-- a byte of a packet that came: while pieces of its packet are missing, the room for those that came in order may be twice what is in it
+abbrev pub byte_takes : ℕ
+byte_takes = 2
+
 -- an acknowledgement that waits
 abbrev pub acknowledgement_takes : ℕ
 acknowledgement_takes = 16
@@ -56,7 +60,7 @@ command_takes = 384
 abbrev pub memory_of_held : Held → ℕ
 memory_of_held h =
     h.channels * channel_takes + h.senders * sender_takes
-    + h.packets * packet_takes + h.undispatched * undispatched_takes + h.bytes
+    + h.packets * packet_takes + h.undispatched * undispatched_takes + h.bytes * byte_takes
     + h.acknowledgements * acknowledgement_takes
 
 -- What this end brought about itself: the channels of its peers, which it granted or asked for, and what is queued or unacknowledged, which

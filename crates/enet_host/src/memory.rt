@@ -27,6 +27,9 @@ const PACKET: u64 = 192;
 /// What one that wasn't dispatched takes beside that.
 const UNDISPATCHED: u64 = 2_816;
 
+/// What a byte takes of a packet that came: the room of a packet whose pieces are coming may be twice what is in it.
+const BYTE: u64 = 2;
+
 /// What an acknowledgement takes that waits.
 const ACKNOWLEDGEMENT: u64 = 16;
 
@@ -34,13 +37,13 @@ const ACKNOWLEDGEMENT: u64 = 16;
 fn memory_of_held(held: Held) -> u64
     requires { IsLittleBy 4095 held }
     ensures value { result ≡ memory_of_held held }
-    ensures small { (peers : ℕ) → IsLittleBy peers held → result ≤ peers * 2 ^ 43 }
+    ensures small { (peers : ℕ) → IsLittleBy peers held → result ≤ peers * 2 ^ 44 }
 {
     held.channels * CHANNEL
         + held.senders * SENDER
         + held.packets * PACKET
         + held.undispatched * UNDISPATCHED
-        + held.bytes
+        + held.bytes * BYTE
         + held.acknowledgements * ACKNOWLEDGEMENT
 }
 
