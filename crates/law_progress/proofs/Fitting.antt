@@ -149,13 +149,13 @@ small-submitted mtu o channel q low a = by (outbox.is_unsequenced mtu q) refl
         last true false z h = absurd (cc)
         last false y z h = absurd (cc)
 
-        fits : (m n : ℕ) → m ≤ 4096 → ltb (m - 28) n ≡ false → n + 28 ≤ max 576 (min m 4096)
-        fits m n l h = let k : n ≤ m - 28 = above (m - 28) n h in most m n l k
+        fits : (m n : ℕ) → m ≤ 4096 → ltb (piece_length m) n ≡ false → n + 28 ≤ max 576 (min m 4096)
+        fits m n l h = let k : n ≤ piece_length m = above (piece_length m) n h in most m n l k
           where
             above : (i j : ℕ) → ltb i j ≡ false → j ≤ i
             above i j t = grind (arith, nat_tests)
 
-            most : (i j : ℕ) → i ≤ 4096 → j ≤ i - 28 → j + 28 ≤ max 576 (min i 4096)
+            most : (i j : ℕ) → i ≤ 4096 → j ≤ piece_length i → j + 28 ≤ max 576 (min i 4096)
             most i j x y = grind arith
 
         within : (b : Bool) → is_long mtu q ≡ b → not b ≡ true → length q.body + 28 ≤ room_of mtu
