@@ -3,7 +3,7 @@
 //   waiting      empty unreliable packets that wait for a reliable one, which never comes
 //   held         empty reliable packets behind one that never comes
 //   unsequenced  empty unsequenced packets, each of a group of its own, on the last channel, from which a relay passes nothing on
-//   pieces       first pieces, empty, of unreliable packets of 16,384 pieces
+//   pieces       first pieces of unreliable packets of 4 pieces of 512 bytes
 //   pings        pings, each of which asks for an acknowledgement
 // Prints how many commands went, and whether the server let it go before the end.
 #include "stranger.h"
@@ -32,7 +32,7 @@ static size_t unsequenced(size_t at, uint32_t n)
 static size_t piece(size_t at, uint32_t n)
 {
     uint32_t each = n / CHANNELS;
-    return put_all(at, (uint32_t[]){ 1, 0x0c, 1, n % CHANNELS, 2, 2 + each / SEATS, 2, each % SEATS + 1, 2, 0, 4, 16384, 4, 0, 4, 16384, 4, 0, 0, 0 });
+    return put_first_piece(at, 0x0c, n % CHANNELS, 2 + each / SEATS, each % SEATS + 1);
 }
 
 static size_t ping(size_t at, uint32_t n)
@@ -44,7 +44,7 @@ static const struct {
     const char *name;
     size_t (*write)(size_t at, uint32_t n);
     size_t size;
-} kinds[] = { { "waiting", waiting, 8 }, { "held", held, 6 }, { "unsequenced", unsequenced, 8 }, { "pieces", piece, 24 }, { "pings", ping, 4 } };
+} kinds[] = { { "waiting", waiting, 8 }, { "held", held, 6 }, { "unsequenced", unsequenced, 8 }, { "pieces", piece, PIECE_COMMAND }, { "pings", ping, 4 } };
 
 // Sends commands of a kind from number `n` on, as many as a datagram has room for. The number after them.
 static uint32_t send_many(int kind, uint32_t n)

@@ -11,7 +11,8 @@
 
 #include "common.h"
 
-enum { DATAGRAM = 4096, FULL = 1392 };
+// SHORT_PIECE is how long the pieces are that these programs send, the shortest that a packet may be cut into, and PIECES how many a packet has.
+enum { DATAGRAM = 4096, FULL = 1392, SHORT_PIECE = 512, PIECES = 4, PIECE_COMMAND = 24 + SHORT_PIECE };
 
 static int server;
 static uint8_t out[DATAGRAM];
@@ -30,6 +31,15 @@ static inline size_t put_all(size_t at, const uint32_t *numbers)
     for (; *numbers != 0; numbers += 2)
         at = put(at, numbers[1], (int)numbers[0]);
     return at;
+}
+
+// Writes at `at` the first piece of a packet: SEND_FRAGMENT or SEND_UNRELIABLE_FRAGMENT, its channel, its number and that of its start. The place
+// behind it.
+static inline size_t put_first_piece(size_t at, uint32_t command, uint32_t channel, uint32_t number, uint32_t start)
+{
+    at = put_all(at, (uint32_t[]){ 1, command, 1, channel, 2, number, 2, start, 2, SHORT_PIECE, 4, PIECES, 4, 0, 4, PIECES * SHORT_PIECE, 4, 0, 0, 0 });
+    memset(out + at, 0, SHORT_PIECE);
+    return at + SHORT_PIECE;
 }
 
 static inline void send_out(size_t length)
