@@ -3,7 +3,8 @@
 # and of the making of both queues. The fleet's row is run with calls behind it, too, that take no memory: it may have no more growths then.
 # Before that each row runs with ample memory, where no call may be refused.
 # Then hosts are filled with each kind of thing as far as it goes (scripts/filled.awk), over an allocator that counts (measure/counted.c):
-# what it gave may be no more than the definitions say (specs/Memory of enet_host).
+# what it gave may be no more than the definitions say (specs/Memory of enet_host), and for a packet whose pieces are coming no more than what
+# came of it allows.
 # The program is out/probe, which build-probe.sh makes of trials/probe; where it isn't there, it is built first. clients/faults.c, loaded
 # into it, refuses growth k of run k, until the one that is refused stands behind the row: that run ends with status 4. A refused call has to be
 # answered by a refusal and to change nothing that reading calls tell, and the row goes on by repeating it once (the program compares).
@@ -63,15 +64,22 @@ lab_row() {
     row "$1"
 }
 
-# A host that is filled with the kind $1, as scripts/filled.awk says, with $2 channels, of whose packets $3 bytes may wait. It prints what it
-# holds, how many bytes that takes by definition, and how many the allocator gave.
+# A host that is filled with the kind $1, as scripts/filled.awk says, with $2 channels, of whose packets $3 bytes may wait, and in $4 pieces
+# where they come in pieces. It prints what it holds, how many bytes that takes by definition, and how many the allocator gave. The definition
+# has two bytes for each of a packet whose pieces are coming. It may take nothing for those that didn't come: only two for each that came, and
+# 64 for each piece.
 fill() {
-    local name="$1 on $2 channels, where $3 bytes may wait" commands bytes
-    awk -v kind="$1" -v channels="$2" -v waiting="$3" -f scripts/filled.awk > "$room/filled.hosts"
-    read -r _ _ commands bytes < "$room/filled.hosts"
+    local name="$1${4:+ of $4} on $2 channels, where $3 bytes may wait" commands bytes packets total came arrived most
+    awk -v kind="$1" -v channels="$2" -v waiting="$3" -v pieces="${4:-0}" -f scripts/filled.awk > "$room/filled.hosts"
+    read -r _ _ commands bytes packets total came arrived < "$room/filled.hosts"
     if ! (cd "$room" && COUNTED=held LD_PRELOAD=$room/counted.so timeout 60 "$OLDPWD/out/probe" filled \
         "$((commands * command + bytes))" < /dev/null > "$room/out" 2>&1); then
         fail "$name" "$(tail -c 400 "$room/out")"
+        return
+    fi
+    most=$(($(sed -nE 's/.*: ([0-9]+) bytes by definition.*/\1/p' "$room/out") - packets * 2 * total + packets * (2 * arrived + 64 * came)))
+    if [ "$(sed -nE 's/.* ([0-9]+) counted$/\1/p' "$room/out")" -gt "$most" ]; then
+        fail "$name" "$(cat "$room/out"), for what came $most"
         return
     fi
     echo "$name: $(cat "$room/out")"
@@ -86,11 +94,19 @@ filled() {
         return
     fi
     command=$(sed -n 's/^command_takes = //p' crates/enet_host/specs/Memory.antt)
-    for kind in untaken held released waiting lines pieces pieces-in-lines spread given-up pings; do
+    for kind in untaken held released waiting lines spread given-up pings; do
         fill "$kind" 2 133120
         fill "$kind" 255 532480
         fill "$kind" 12 4198400
     done
+    for kind in pieces pieces-in-lines early half-early; do
+        fill "$kind" 2 133120 4
+        fill "$kind" 255 532480 4
+        fill "$kind" 12 4198400 4
+        fill "$kind" 2 8388609 16384
+    done
+    fill pieces 255 33554432 16384
+    fill pieces-in-lines 255 33554432 16384
     for kind in reliable unreliable unsequenced many-pieces body burst kept front gone gone-unsequenced; do
         fill "$kind" 2 33554432
     done

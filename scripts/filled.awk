@@ -1,13 +1,16 @@
 # Writes a script of check_scripts' language that fills the host A with one kind of thing as far as that goes:
-# `awk -v kind=KIND -v channels=COUNT -v waiting=BYTES`, the settings of A. What a stranger B fills it with:
+# `awk -v kind=KIND -v channels=COUNT -v waiting=BYTES`, the settings of A. `-v pieces=COUNT` is how many pieces a packet has that comes in
+# pieces; each has 512 bytes, the shortest that a packet may be cut into. What a stranger B fills it with:
 #
 #     untaken          unsequenced packets, which the user doesn't take
 #     held             reliable packets behind one that never comes
 #     released         the same, and then those that were missing, so that all can be taken
 #     waiting          unreliable packets that wait for one reliable one
 #     lines            unreliable packets, each of which waits for a reliable one of its own
-#     pieces           the first of 16,384 pieces of reliable packets
+#     pieces           the first pieces of reliable packets
 #     pieces-in-lines  the same of unreliable packets, each of which waits for a reliable one of its own
+#     early            all pieces of reliable packets but the first
+#     half-early       the first half of the pieces of reliable packets, and all behind them but one
 #     spread           reliable packets on all channels whose numbers lie far apart, and an unreliable one that waits
 #     given-up         as lines, on one channel after another, so that what waits on one gives way to what comes on the next
 #     pings            pings, which are to be acknowledged
@@ -16,12 +19,13 @@
 # `burst` that is acknowledged, one that is no longer than the room that is `kept`, and one of which all but the first packet is (`front`);
 # `gone` and `gone-unsequenced`: unreliable and unsequenced packets that all went.
 # `granted`: A asks for 255 channels and gets one. `open`: nothing comes. The first line is a remark: how many commands of A's user, and how
-# many bytes, were queued or unacknowledged at once since none was last. No figure of memory is here: what a thing takes stands in
-# specs/Memory of enet_host.
+# many bytes, were queued or unacknowledged at once since none was last, and then, of packets that come in pieces, how many they are, how many
+# bytes each has, and how many pieces and how many bytes of each came. No figure of memory is here: what a thing takes stands in specs/Memory
+# of enet_host.
 function hex(number, digits) { return sprintf("%0" digits "x", number) }
 function line(text, answer) { print text " = " answer }
 function datagram(text, handled) { line("receive A B 80000000" text, handled ? "handled 1" : "handled 0 stop S10") }
-function own(commands, bytes) { print "# own " commands " " bytes }
+function own(commands, bytes) { print "# own " commands " " bytes " 0 0 0 0" }
 
 # Both ends are connected before all else.
 function joined(count) { line("joined A B 1 " count " waiting " waiting, "ok") }
@@ -47,9 +51,23 @@ function command(number, channel, place, own_number) {
     if (kind == "held" || kind == "released" || kind == "spread") return "06" channel own_number "000100"
     if (kind == "waiting") return "07" channel "0002" own_number "000100"
     if (kind == "lines" || kind == "given-up") return "07" channel own_number "0001000100"
-    if (kind == "pieces") return "08" channel own_number own_number piece
-    if (kind == "pieces-in-lines") return "0c" channel own_number "0001" piece
     return "85ff" own_number
+}
+
+# The piece of this place of the packet of this number.
+function piece(number, place, channel, first) {
+    channel = hex(number % channels, 2)
+    first = int(number / channels) * (kind == "early" || kind == "half-early" ? pieces : 1) + 1
+    if (kind == "pieces-in-lines") first++
+    return (kind == "pieces-in-lines" ? "0c" channel hex(first, 4) "0001" : "08" channel hex(first + place, 4) hex(first, 4)) \
+        hex(length_of_piece, 4) hex(pieces, 8) hex(place, 8) hex(length_of_piece * pieces, 8) hex(length_of_piece * place, 8) ",00x" length_of_piece
+}
+
+# Whether the piece of this place comes.
+function comes(place) {
+    if (kind == "early") return place > 0
+    if (kind == "half-early") return place != int(pieces / 2)
+    return place == 0
 }
 
 # So many commands come, of which the first `most` are taken in. Of unreliable packets one more would make all that wait give way.
@@ -57,6 +75,19 @@ function fill(count, most, number) {
     own(0, 0)
     connected()
     for (number = 0; number < count; number++) datagram(command(number), number < most)
+}
+
+# Pieces come of as many packets as may wait, and of reliable ones of the next in order of each channel. Of `pieces` 300 packets more are
+# begun, of which none is taken in.
+function fill_with_pieces(most, came, number, place) {
+    most = int((waiting - 1) / (length_of_piece * pieces)) + 1
+    if (kind != "pieces-in-lines" && most < channels) most = channels
+    for (place = 0; place < pieces; place++) came += comes(place)
+    print "# own 0 0 " most " " length_of_piece * pieces " " came " " length_of_piece * came
+    connected()
+    for (number = 0; number < most; number++)
+        for (place = 0; place < pieces; place++) if (comes(place)) datagram(piece(number, place), 1)
+    if (kind == "pieces") for (number = most; number < most + 300; number++) datagram(piece(number, 0), 0)
 }
 
 # So many packets of so many bytes are submitted. Each goes in so many commands, which count.
@@ -73,11 +104,12 @@ function acknowledge(first, last, number) {
 }
 
 BEGIN {
-    piece = "000000004000000000000000000000000000"
+    length_of_piece = 512
     released = 1020
     places = int(waiting / 128) > 1024 ? int(waiting / 128) : 1024
-    if (kind == "untaken" || kind == "held" || kind == "pieces") fill(places + 300, places)
-    else if (kind == "waiting" || kind == "lines" || kind == "pieces-in-lines") fill(places, places)
+    if (kind == "untaken" || kind == "held") fill(places + 300, places)
+    else if (kind == "waiting" || kind == "lines") fill(places, places)
+    else if (kind == "pieces" || kind == "pieces-in-lines" || kind == "early" || kind == "half-early") fill_with_pieces()
     else if (kind == "released") fill(released + channels, released + channels)
     else if (kind == "spread") fill(channels * 8, channels * 8)
     else if (kind == "given-up") fill(60000, 60000)
