@@ -46,7 +46,7 @@ swarm empty 128
 swarm lines 128
 swarm held 128
 swarm pieces 128
-swarm both 768
+swarm both 128
 swarm groups 16
 swarm pings 16
 [ "$status" -eq 0 ]
