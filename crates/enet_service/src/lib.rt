@@ -51,7 +51,8 @@ pub use enet_bridge::{
 pub use enet_host::HostCore;
 pub use enet_turn::{Core, Fault, Report, Service, run};
 pub use enet_wire::{
-    Bell, MOST_LOST_PER_TURN, MOST_PER_TURN, MemoryWire, MioWire, SendOutcome, Step, Told, Unopened, Wire,
+    Bell, MOST_LOST_PER_TURN, MOST_PER_TURN, MemoryWire, MioWire, SendOutcome, Step, Told,
+    Unopened, Wire,
 };
 pub use queues::{Ends, Queues};
 pub use run_length::{RunLength, TURNS_AT_ONCE, is_over};
