@@ -46,13 +46,13 @@ readme_lines() {
     script README.md "$room/readme.lab" "$room/readme.out" /dev/null 0
 }
 
-# A script as one list of events. The row of a fleet stands in the program itself.
+# A script as one list of events, without its comments. The row of a fleet stands in the program itself.
 at_once() {
     local row=$rows/$1
     if [ "$1" = fleet-and-strangers ]; then
         printf 'run\nfleet\n' > "$room/list"
     elif [ -r "$row.lab" ] && [ ! -e "$row.status" ] && grep -Eq '^(pair|open) ' < <(head -n 1 "$row.lab") && ! grep -q '^calm ' "$row.lab"; then
-        { echo run; cat "$row.lab"; echo =; cat "$row.out"; } > "$room/list"
+        { echo run; grep -v '^#' "$row.lab"; echo =; cat "$row.out"; } > "$room/list"
     else
         return
     fi
