@@ -6,9 +6,7 @@ ghost use Rattle.check_outcome.specs.Following.{FollowsFrom};
 ghost use Rattle.check_outcome.specs.Private.Following.{submission, goes_in_sequence, came_in_sequence};
 
 use enet_codec::{Packet, RELIABLE, UNRELIABLE_FRAGMENT, UNSEQUENCED};
-
-/// What a datagram needs in bytes beside a piece of a packet.
-const OVERHEAD: u32 = 28;
+use enet_fragment::piece_length;
 
 /// The greatest number of an unreliable packet.
 const LAST_UNRELIABLE: u32 = 65535;
@@ -18,7 +16,7 @@ fn is_long(mtu: u32, packet: &Packet) -> bool
     requires { 576 ≤ mtu }
     ensures { result ≡ is_long mtu (submission packet.now) }
 {
-    packet.body.len() > (mtu - OVERHEAD) as usize
+    packet.body.len() > piece_length(mtu) as usize
 }
 
 /// Whether a submitted packet goes by this channel and in sequence.
