@@ -1,13 +1,11 @@
 -- The bytes of the pieces that came: what one piece more does to them, and what memory it takes.
-use Rattle.std.proofs.Common.{ℕ, zero, suc, ◌≡◌, ◌+◌, ◌-◌, ◌*◌, ◌<◌, ◌≤◌, true, false, leb, List, [], ◌∷◌, ◌++◌, length, take, drop, get_or, refl, sym, ap, subst, ◌∙◌, arith, append_assoc}
+use Rattle.std.proofs.Common.{ℕ, zero, suc, ◌≡◌, ◌+◌, ◌-◌, ◌<◌, ◌≤◌, true, List, [], ◌∷◌, ◌++◌, length, take, drop, get_or, refl, sym, ap, subst, ◌∙◌, arith, append_assoc}
 use Rattle.std.proofs.Math.ListN.{replicate, length-replicate}
 use Rattle.std.proofs.Math.Seq.{take-append-add, drop-append-add, take-suc}
-use Rattle.std.proofs.lemmas.List.{take-append-le, drop-append-le, length-append, length-drop, length-take-le, append-nil, drop_all, drop-drop}
+use Rattle.std.proofs.lemmas.List.{take-append-le, length-append, length-drop, append-nil, drop_all, take_all, drop-replicate}
 use Rattle.std.proofs.lemmas.List.Elements.{All-append, All-nil}
 use Rattle.std.proofs.lemmas.List.Sums.{sum_by_push}
-use Rattle.std.proofs.lemmas.Bool.Decides.{nat_tests}
-use borrow.Author.Tests.{leb-true}
-use Rattle.std.specs.List.{All, sum_by}
+use Rattle.std.specs.List.{sum_by}
 use Rattle.std.specs.Vec.{vec_capacity}
 use Rattle.enet_fragment.specs.declared.collected.EarlyPiece.{EarlyPiece}
 use Rattle.enet_fragment.specs.declared.collected.Collected.{Collected}
@@ -19,7 +17,7 @@ use Rattle.enet_fragment.specs.PartialPacket.{belongs}
 use Rattle.enet_fragment.specs.Stored.{stored, IsStored}
 use Rattle.enet_fragment.proofs.Places.{Fits, Fits-from_test}
 use Rattle.enet_fragment.proofs.Pieces.{length-written_at, drop-written, front_of}
-use Rattle.enet_fragment.proofs.Held.{filled_up-long, filled_up-none, filled_up-written, length-filled_up, written_at-append}
+use Rattle.enet_fragment.proofs.Held.{filled_up-written}
 
 -- early pieces are written within the packet
 pub length-laid : (total : ℕ) (bytes : List ℕ) (early : List EarlyPiece) → length bytes ≡ total → AreWithin total early → length (laid bytes early) ≡ total
@@ -99,46 +97,6 @@ pub early-count : (at : ℕ) (new : List ℕ) (early after : List EarlyPiece) �
 early-count at new early after (piece, is_more, is_at, is_new) =
     ap (λ (e : List EarlyPiece). length e) is_more ∙ length-append early (piece ∷ [])
 
--- a piece that the front reaches: it goes over the front's bytes, or over some and behind them
-over : (at : ℕ) (new front rest : List ℕ) → at + length new ≤ length front → (after : List ℕ) → after ≡ written_at at new (filled_up (at + length new) front) → after ++ drop (length after) rest ≡ written_at at new (front ++ drop (length front) rest)
-over at new front rest h after e =
-    let same : after ≡ written_at at new front = e ∙ ap (λ b. written_at at new b) (filled_up-long (at + length new) front h) in
-    let long : length after ≡ length front = ap (λ (b : List ℕ). length b) same ∙ length-written_at at new front h in
-    ap (λ n. after ++ drop n rest) long
-    ∙ (ap (λ b. b ++ drop (length front) rest) same
-    ∙ written_at-append at new front (drop (length front) rest) h)
-
-past : (at : ℕ) (new front rest : List ℕ) → at ≤ length front → length front < at + length new → (after : List ℕ) → after ≡ written_at at new (filled_up (at + length new) front) → after ++ drop (length after) rest ≡ written_at at new (front ++ drop (length front) rest)
-past at new front rest h k after e =
-    let end = at + length new in
-    let n = length front in
-    let near : List ℕ = filled_up end front in
-    let reaches : length near ≡ n + (end - n) = length-filled_up end front in
-    let begins : take at near ≡ take at front = take-append-le at front (replicate (end - n) 0) h in
-    let ends : drop end near ≡ [] = drop_all end near (omega arith) in
-    let same : after ≡ take at front ++ new =
-    e ∙ (ap (λ b. b ++ (new ++ drop end near)) begins ∙ (ap (λ r. take at front ++ (new ++ r)) ends ∙ ap (λ r. take at front ++ r) (append-nil new))) in
-    let front_len : length (take at front) ≡ at = length-take-le at front h in
-    let long : length after ≡ end = ap (λ (b : List ℕ). length b) same ∙ (length-append (take at front) new ∙ ap (λ m. m + length new) front_len) in
-    let split : n + (end - n) ≡ end = omega arith in
-    let beyond : drop end (front ++ drop n rest) ≡ drop end rest =
-    ap (λ m. drop m (front ++ drop n rest)) (sym split) ∙ (drop-append-add front (drop n rest) (end - n) ∙ (drop-drop (end - n) n rest ∙ ap (λ m. drop m rest) split)) in
-    ap (λ m. after ++ drop m rest) long
-    ∙ (ap (λ b. b ++ drop end rest) same
-    ∙ (append_assoc (take at front) new (drop end rest)
-    ∙ (ap (λ r. take at front ++ (new ++ r)) (sym beyond)
-    ∙ ap (λ b. b ++ (new ++ drop end (front ++ drop n rest))) (sym (take-append-le at front (drop n rest) h)))))
-
-pub front-contents : (at : ℕ) (new front rest after : List ℕ) → at ≤ length front → after ≡ written_at at new (filled_up (at + length new) front) → after ++ drop (length after) rest ≡ written_at at new (front ++ drop (length front) rest)
-front-contents at new front rest after h e =
-    elim (leb (at + length new) (length front)) as (λ t. leb (at + length new) (length front) ≡ t → after ++ drop (length after) rest ≡ written_at at new (front ++ drop (length front) rest)) [
-      | true ↦ λ t. over at new front rest (leb-true _ _ t) after e
-      | false ↦ λ t. past at new front rest h (above _ _ t) after e
-    ] refl
-  where
-    above : (a b : ℕ) → leb a b ≡ false → b < a
-    above a b t = grind (arith, nat_tests)
-
 -- each early piece ends within the packet
 pub piece-within : (total : ℕ) (early : List EarlyPiece) (i : ℕ) (piece : EarlyPiece) → i < length early → piece ≡ get_or early i piece → AreWithin total early → piece.offset + length piece.body.items ≤ total
 piece-within total early i piece h is_piece w = subst (λ (p : EarlyPiece). p.offset + length p.body.items ≤ total) (sym is_piece) (w i piece h)
@@ -163,6 +121,43 @@ together-contents total c before after k e f =
     ∙ (ap (λ b. written_at 0 c.front.items b) e
     ∙ front_of 0 c.front.items (laid (replicate total 0) c.early.items) refl))
 
+-- where no early piece is
+pub contents-laid : (total : ℕ) (c : Collected) → c.early.items ≡ [] → contents total c ≡ filled_up total c.front.items
+unfolding laid
+contents-laid total c e =
+    let front = c.front.items in
+    ap (λ early. front ++ drop (length front) (laid (replicate total 0) early)) e
+    ∙ ap (λ r. front ++ r) (drop-replicate (length front) total 0)
+
+-- a piece is written over the front
+pub over-front : (total at : ℕ) (new : List ℕ) (c after : Collected) → c.early.items ≡ [] → after.early.items ≡ [] → at + length new ≤ total → after.front.items ≡ written_at at new (filled_up (at + length new) c.front.items) → contents total after ≡ written_at at new (contents total c)
+over-front total at new c after e f h w =
+    contents-laid total after f
+    ∙ (ap (λ b. filled_up total b) w
+    ∙ (filled_up-written total at new c.front.items h
+    ∙ ap (λ b. written_at at new b) (sym (contents-laid total c e))))
+
+-- all pieces with one more
+pub gathered-contents : (total at : ℕ) (new all before : List ℕ) (c after : Collected) → filled_up total before ≡ contents total c → at + length new ≤ total → after.early.items ≡ [] → after.front.items ≡ all → all ≡ written_at at new (filled_up (at + length new) before) → contents total after ≡ written_at at new (contents total c)
+gathered-contents total at new all before c after e h f g w =
+    contents-laid total after f
+    ∙ (ap (λ b. filled_up total b) (g ∙ w)
+    ∙ (filled_up-written total at new before h
+    ∙ ap (λ b. written_at at new b) e))
+
+-- the front and the end of the packet behind it
+pub end-written : (total at : ℕ) (new : List ℕ) (c : Collected) → IsCollected total c → length c.front.items ≡ at → at + length new ≡ total → c.front.items ++ new ≡ written_at at new (contents total c)
+end-written total at new c k e f =
+    let front = c.front.items in
+    let rest = drop (length front) (behind total c.early.items) in
+    let end = at + length new in
+    let all : length (contents total c) ≡ total = length-contents total c k in
+    let begins : take at (front ++ rest) ≡ front = take-append-le at front rest (omega arith) ∙ take_all at front (omega arith) in
+    let ends : drop end (front ++ rest) ≡ [] = drop_all end (front ++ rest) (omega arith) in
+    sym (ap (λ b. b ++ (new ++ drop end (front ++ rest))) begins
+    ∙ (ap (λ r. front ++ (new ++ r)) ends
+    ∙ ap (λ r. front ++ r) (append-nil new)))
+
 -- where nothing has come
 pub contents-none : (total : ℕ) (c : Collected) → c.front.items ≡ [] → c.early.items ≡ [] → contents total c ≡ replicate total 0
 unfolding laid
@@ -175,8 +170,8 @@ IsCollected-none total c e f g h =
     let none : length c.front.items ≡ 0 = ap (λ (b : List ℕ). length b) e in
     record {
       within = omega arith;
-      held = omega arith;
       roomy = omega arith;
+      gathered = λ some. absurd (omega arith);
       placed = rw f (All-nil (λ (p : EarlyPiece). p.offset + length p.body.items ≤ total));
       counted = rw (f, h) refl;
     }
@@ -185,7 +180,7 @@ pub IsThrifty-none : (bytes pieces : ℕ) (c : Collected) → c.front.items ≡ 
 IsThrifty-none bytes pieces c e f g h k =
     let none : length c.front.items ≡ 0 = ap (λ (b : List ℕ). length b) e in
     let no_early : length c.early.items ≡ 0 = ap (λ (l : List EarlyPiece). length l) f in
-    record { front = omega arith; came = omega arith; pieces_came = omega arith; places = omega arith }
+    record { taken = omega arith; came = omega arith; pieces_came = omega arith; places = omega arith }
 
 -- a piece that belongs to the packet ends within it
 pub ends-within : (s : PieceStore) (p : Place) (new : List ℕ) → IsStored s → belongs (stored s) p ≡ true → p.len ≡ length new → p.offset + length new ≤ s.total

@@ -1,7 +1,8 @@
 -- How much memory the pieces that came take, by how many came and how long they are.
-use Rattle.std.proofs.Common.{ℕ, zero, suc, ◌≡◌, ◌+◌, ◌*◌, ◌<◌, ◌≤◌, Bool, true, false, List, [], ◌∷◌, ◌++◌, length, drop, take, get_or, Option, Some, None, refl, sym, ap, subst, ◌∙◌, arith}
+use Rattle.std.proofs.Common.{ℕ, zero, suc, ◌≡◌, ◌+◌, ◌*◌, ◌<◌, ◌≤◌, Bool, true, false, List, [], ◌∷◌, ◌++◌, length, drop, take, get_or, Option, Some, None, sym, ap, subst, ◌∙◌, arith}
 use Rattle.std.proofs.Math.ListN.{set}
 use Rattle.std.proofs.lemmas.List.{length-append, take-append-drop}
+use Rattle.std.specs.Prelude.{Result, Ok, Err, OnErr}
 use Rattle.enet_fragment.specs.declared.collected.Collected.{Collected}
 use Rattle.enet_fragment.specs.declared.place.Place.{Place}
 use Rattle.enet_fragment.specs.PartialPacket.{PartialPacket, count_of, piece_at, joined, with_piece}
@@ -33,6 +34,16 @@ thrifty-after m after p new c e none inside t =
     let bytes : bytes_come after ≡ bytes_come m + length new = ap bytes_come e ∙ joined-set m.pieces p.number new inside none in
     let pieces : pieces_come after ≡ pieces_come m + 1 = ap pieces_come e ∙ come_in-set m.pieces p.number new inside none in
     rw (bytes, pieces) t
+
+-- nothing has changed
+pub thrifty-still : (bytes after : List ℕ) (came : List Bool) (cut : Option ℕ) (c : Collected) → after ≡ bytes → IsThrifty (bytes_come (making_of bytes came cut)) (pieces_come (making_of bytes came cut)) c → IsThrifty (bytes_come (making_of after came cut)) (pieces_come (making_of after came cut)) c
+thrifty-still bytes after came cut c e t =
+    subst (λ b. IsThrifty (bytes_come (making_of b came cut)) (pieces_come (making_of b came cut)) c) (sym e) t
+
+-- two facts of a refusal
+pub both_refused : {T E P Q R : Type 0} → (r : Result T E) → (P → Q → R) → OnErr r P → OnErr r Q → OnErr r R
+both_refused (Ok x) f p q = tt
+both_refused (Err y) f p q = f p q
 
 -- no more bytes came than the packet has, and no more pieces
 come_in-le : (pieces : List (Option (List ℕ))) → come_in pieces ≤ length pieces
@@ -66,4 +77,4 @@ pieces_come-le m = come_in-le m.pieces
 
 -- what they have taken
 pub taken-within : (m : PartialPacket) (c : Collected) → IsThrifty (bytes_come m) (pieces_come m) c → taken_by c ≤ 2 * bytes_come m + 64 * pieces_come m + 512
-taken-within m c t = omega (arith, t.front, t.came, t.pieces_came, t.places)
+taken-within m c t = omega (arith, t.taken, t.came, t.pieces_came, t.places)

@@ -1,5 +1,5 @@
 -- A packet's bytes as far as they reach, and the zeros past them.
-use Rattle.std.proofs.Common.{ℕ, ◌≡◌, ◌+◌, ◌-◌, ◌<◌, ◌≤◌, List, [], ◌++◌, length, take, drop, refl, sym, ap, ◌∙◌, arith, append_assoc}
+use Rattle.std.proofs.Common.{ℕ, ◌≡◌, ◌+◌, ◌-◌, ◌≤◌, List, [], ◌++◌, length, take, drop, sym, ap, ◌∙◌, arith, append_assoc}
 use Rattle.std.proofs.Math.ListN.{replicate, length-replicate}
 use Rattle.std.proofs.lemmas.List.{take-append-le, drop-append-le, length-append, append-nil, replicate-append-replicate, take_all}
 use Rattle.enet_fragment.specs.Collected.{written_at}

@@ -1,5 +1,4 @@
 -- What a store of pieces stands for, and what stays true of it.
-use Rattle.std.specs.Prelude.{ℕ}
 use Rattle.enet_fragment.specs.declared.piece_store.PieceStore.{PieceStore}
 use Rattle.enet_fragment.specs.PartialPacket.{PartialPacket}
 use Rattle.enet_fragment.specs.Assembly.{making_of, AreKept}

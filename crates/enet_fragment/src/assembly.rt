@@ -24,7 +24,8 @@ pub enum Put {
 }
 
 /// A packet in pieces. Contracts see it as a `PartialPacket`: its length, the length of its pieces once one of them has told
-/// it, and the bytes of the pieces that have come, by their numbers. It holds what came, and no room for what hasn't.
+/// it, and the bytes of the pieces that have come, by their numbers. It holds what came, and once that is half of the packet,
+/// room for the rest.
 #[derive(Drop)]
 pub struct Assembly {
     store: PieceStore,
@@ -70,9 +71,9 @@ impl Assembly {
     }
 
     /// Puts a piece into the packet, if it is New or Whole (see `foresee`). Again and Bad change nothing. The piece tells
-    /// its cut to all that come later. It copies the piece's bytes and walks over nothing else, but for the room of pieces
-    /// in order, which doubles when it is full: so that takes at most two copies a byte more over all puts. Answers
-    /// `Refusal::Memory` where it can't have memory for the piece, and has then changed nothing.
+    /// its cut to all that come later. It copies the piece's bytes and walks over nothing else, but for the piece with which
+    /// half of the packet has come: that takes one copy more of those before it. Answers `Refusal::Memory` where it can't have
+    /// memory for the piece, and has then changed nothing.
     pub fn put(
         &mut self,
         number: u32,
@@ -84,6 +85,8 @@ impl Assembly {
         ensures outcome { IfOk result (λ outcome. outcome ≡ put_outcome self.old (place_of number count total offset bytes.now)) }
         ensures after { OnOk result (self.new ≡ after_put self.old (place_of number count total offset bytes.now) bytes.now) }
         ensures err { OnErr result (self.new ≡ self.old) }
+        ensures again { put_outcome self.old (place_of number count total offset bytes.now) ≡ Put.Again → IsOk result }
+        ensures bad { put_outcome self.old (place_of number count total offset bytes.now) ≡ Put.Bad → IsOk result }
         ensures memory { IfErr result (λ why. why ≡ Refusal.Memory) }
     {
         let place = Place {

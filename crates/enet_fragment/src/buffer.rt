@@ -33,7 +33,7 @@ pub(crate) fn cut_or_fill(buffer: &mut Vec<u8>, len: usize)
 }
 
 /// Appends bytes for which there is room.
-fn append(buffer: &mut Vec<u8>, bytes: &[u8])
+pub(crate) fn append(buffer: &mut Vec<u8>, bytes: &[u8])
     requires { vec_len buffer.old + length bytes.now ≤ vec_capacity buffer.old }
     ensures bytes { buffer.new.items ≡ buffer.old.items ++ bytes.now }
     ensures len { vec_len buffer.new ≡ vec_len buffer.old + length bytes.now }

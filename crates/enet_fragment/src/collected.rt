@@ -1,18 +1,19 @@
 //! The bytes of the pieces that have come, as they are kept until the last one is there.
 
-ghost use Rattle.std.specs.Prelude.{◌≡◌, ℕ, ◌≤◌, ◌<◌, ◌+◌, ◌*◌, ◌^◌, ◌++◌, [], ◌∷◌, false, IsTrue, IsOk, IfOk, IfErr, length, max, replicate};
+ghost use Rattle.std.specs.Prelude.{◌≡◌, ℕ, ◌≤◌, ◌<◌, ◌+◌, ◌*◌, ◌^◌, ◌++◌, [], ◌∷◌, false, None, IsTrue, IsOk, IfOk, IfErr, IfSome, OnErr, length, max, replicate};
 ghost use Rattle.std.specs.Vec.{vec_len, vec_capacity};
 ghost use Rattle.enet_fragment.specs.Memory.{words_of};
 ghost use Rattle.enet_fragment.specs.Collected.{contents, laid, written_at, taken_by, IsCollected, IsThrifty, AddsPiece, AreWithin};
 ghost use Rattle.enet_fragment.specs.Private.Assembly.{filled_up};
 
-use crate::buffer::write_at;
+use crate::buffer::{append, write_at};
 use crate::filled::room_for;
+use bytes::Bytes;
 use enet_codec::Refusal;
 use std::alloc::Global;
 use std::mem;
 
-/// A piece that came before one ahead of it.
+/// A piece that came before half of the packet had come.
 #[derive(Drop)]
 pub(crate) struct EarlyPiece {
     /// Where in the packet it begins, in bytes.
@@ -26,15 +27,15 @@ const EARLY_PLACE: usize = 32;
 
 const _: () = prove!(mem::size_of::<EarlyPiece>() == EARLY_PLACE);
 
-/// The bytes of the pieces that have come. Pieces that come in order lie one behind another in the front, which grows with
-/// them. A piece that comes before one ahead of it is kept as it is, beside the front.
+/// The bytes of the pieces that have come. Until half of the packet has come each piece is kept as it is, since room for the
+/// whole packet would be more than twice what came. From then on all lie at their places in room for the whole packet.
 #[derive(Drop)]
 pub(crate) struct Collected {
-    /// The bytes of the pieces that came in order.
+    /// The packet's bytes as far as the farthest piece reaches, once half of them have come.
     pub(crate) front: Vec<u8>,
     /// For how many bytes the front has taken room.
     pub(crate) front_room: usize,
-    /// The pieces that came early, in the order in which they came.
+    /// The pieces that came before half of the packet had come, in the order in which they came.
     pub(crate) early: Vec<EarlyPiece>,
     /// How many bytes these have.
     pub(crate) early_bytes: usize,
@@ -57,9 +58,9 @@ impl Collected {
         }
     }
 
-    /// Puts the bytes of a piece of a packet of `total` bytes where they belong, over bytes that were put there before. Where
-    /// the front reaches to the piece it goes there, and else among the early ones. It takes memory for the piece, or to
-    /// double the front; where it can't have it, it answers false and changes nothing.
+    /// Puts the bytes of a piece of a packet of `total` bytes where they belong, over bytes that were put there before. It takes
+    /// memory for the piece, or for the whole packet where half of it has come with this piece; where it can't have it, it
+    /// answers false and changes nothing.
     pub(crate) fn put(&mut self, total: u32, offset: u32, bytes: &[u8]) -> bool
         requires fits { offset + length bytes.now ≤ total }
         requires collected { IsCollected total self.old }
@@ -69,19 +70,44 @@ impl Collected {
         ensures thrifty { (came pieces : ℕ) → IsThrifty came pieces self.old → IsTrue result → IsThrifty (came + length bytes.now) (pieces + 1) self.new }
         ensures refused { (came pieces : ℕ) → IsThrifty came pieces self.old → result ≡ false → IsThrifty came pieces self.new }
     {
-        if offset as usize > self.front.len() {
+        if !self.front.is_empty() {
+            write_at(&mut self.front, offset as usize, bytes);
+            return true;
+        }
+        let come = self.early_bytes.saturating_add(bytes.len());
+        if come < (total as usize + 1) / 2 {
             let is_kept = keep(&mut self.early, offset, bytes);
             if is_kept {
-                self.early_bytes = self.early_bytes.saturating_add(bytes.len());
+                self.early_bytes = come;
             }
             return is_kept;
         }
-        let end = offset as usize + bytes.len();
-        let has_room = make_room(&mut self.front, &mut self.front_room, end, total as usize);
-        if has_room {
-            write_at(&mut self.front, offset as usize, bytes);
-        }
-        has_room
+        self.gather(total, offset, bytes)
+    }
+
+    /// Puts all pieces and this one into room for the whole packet, of which half has come with it. Where the room can't be
+    /// had, it answers false and changes nothing.
+    fn gather(&mut self, total: u32, offset: u32, bytes: &[u8]) -> bool
+        requires fits { offset + length bytes.now ≤ total }
+        requires collected { IsCollected total self.old }
+        requires half { total ≤ 2 * (self.old.early_bytes + length bytes.now) }
+        ensures collected { IsCollected total self.new }
+        ensures written { IsTrue result → contents total self.new ≡ written_at offset bytes.now (contents total self.old) }
+        ensures same { result ≡ false → contents total self.new ≡ contents total self.old }
+        ensures thrifty { (came pieces : ℕ) → IsThrifty came pieces self.old → IsTrue result → IsThrifty (came + length bytes.now) (pieces + 1) self.new }
+        ensures refused { (came pieces : ℕ) → IsThrifty came pieces self.old → result ≡ false → IsThrifty came pieces self.new }
+    {
+        let Ok(mut all) = room_for(*self.front.allocator(), total as usize) else {
+            return false;
+        };
+        let room = all.capacity();
+        self.lay_all(&mut all, total);
+        write_at(&mut all, offset as usize, bytes);
+        self.early = Vec::new(*all.allocator());
+        self.early_bytes = 0;
+        self.front = all;
+        self.front_room = room;
+        true
     }
 
     /// All bytes that were put, each at its place, with room for `total` bytes. It copies each once. It answers
@@ -95,9 +121,55 @@ impl Collected {
         ensures empty { total ≡ 0 → IsOk result }
     {
         let mut all = room_for(*self.front.allocator(), total as usize)?;
-        lay(&mut all, &self.early, total);
-        write_at(&mut all, 0, &self.front);
+        self.lay_all(&mut all, total);
         Ok(all)
+    }
+
+    /// Lays all bytes that were put into room for `total`, each at its place.
+    fn lay_all(&self, all: &mut Vec<u8>, total: u32)
+        requires collected { IsCollected total self.now }
+        requires empty { all.old.items ≡ [] }
+        requires room { total ≤ vec_capacity all.old }
+        ensures bytes { filled_up total all.new.items ≡ contents total self.now }
+        ensures len { vec_len all.new ≤ total }
+        ensures room { total ≤ vec_capacity all.new }
+    {
+        lay(all, &self.early, total);
+        write_at(all, 0, &self.front);
+    }
+
+    /// Whether a piece is the end of a packet of `total` bytes, and the front has all that is before it.
+    pub(crate) fn is_end(&self, total: u32, offset: u32, bytes: &[u8]) -> bool
+        requires { offset + length bytes.now ≤ total }
+        ensures order { IsTrue result → length self.now.front.items ≡ offset }
+        ensures end { IsTrue result → offset + length bytes.now ≡ total }
+        ensures room { IsTrue result → total ≤ self.now.front_room }
+    {
+        let all = total as usize;
+        self.front.len() == offset as usize
+            && offset as usize + bytes.len() == all
+            && self.front_room >= all
+    }
+
+    /// The front, with the end of the packet behind it, becomes the packet's body. No byte of the front is copied. Where the
+    /// memory for the count of the body's owners can't be had, it answers `Refusal::Memory` and leaves the bytes as they were.
+    pub(crate) fn hand_on(&mut self, total: u32, bytes: &[u8]) -> Result<Bytes, Refusal>
+        requires collected { IsCollected total self.old }
+        requires end { length self.old.front.items + length bytes.now ≡ total }
+        requires room { total ≤ self.old.front_room }
+        ensures ok { IfOk result (λ body. body ≡ self.old.front.items ++ bytes.now) }
+        ensures collected { OnErr result (IsCollected total self.new) }
+        ensures same { OnErr result (contents total self.new ≡ contents total self.old) }
+        ensures thrifty { OnErr result ((came pieces : ℕ) → IsThrifty came pieces self.old → IsThrifty came pieces self.new) }
+        ensures memory { IfErr result (λ why. why ≡ Refusal.Memory) }
+    {
+        match body_of(&mut self.front, bytes) {
+            Some(body) => Ok(body),
+            None => {
+                self.front_room = total as usize;
+                Err(Refusal::Memory)
+            }
+        }
     }
 
     /// How many bytes of memory it has taken.
@@ -109,29 +181,25 @@ impl Collected {
     }
 }
 
-/// Makes room in the front for bytes to this end, and for as many again where the packet has them. Answers whether there is
-/// room; where there is none, nothing changes.
-fn make_room(front: &mut Vec<u8>, front_room: &mut usize, end: usize, total: usize) -> bool
-    requires ends { end ≤ total }
-    requires held { vec_len front.old ≤ front_room.old }
-    requires roomy { front_room.old ≤ vec_capacity front.old }
-    ensures items { front.new.items ≡ front.old.items }
-    ensures len { vec_len front.new ≡ vec_len front.old }
-    ensures roomy { front_room.new ≤ vec_capacity front.new }
-    ensures grown { front_room.old ≤ front_room.new }
-    ensures room { IsTrue result → end ≤ front_room.new }
-    ensures thrifty { front_room.new ≤ max front_room.old (2 * end) }
-    ensures refused { result ≡ false → front_room.new ≡ front_room.old }
+/// These bytes, with others behind them for which there is room, become a body. Where the memory for its owners' count can't
+/// be had, they stay as they were.
+fn body_of(front: &mut Vec<u8>, bytes: &[u8]) -> Option<Bytes>
+    requires { vec_len front.old + length bytes.now ≤ vec_capacity front.old }
+    ensures some { IfSome result (λ body. body ≡ front.old.items ++ bytes.now) }
+    ensures none { result ≡ None → front.new.items ≡ front.old.items }
+    ensures room { result ≡ None → vec_len front.old + length bytes.now ≤ vec_capacity front.new }
 {
-    if end <= *front_room {
-        return true;
+    let len = front.len();
+    append(front, bytes);
+    let nothing = Vec::new(*front.allocator());
+    match Bytes::from_vec(mem::replace(front, nothing)) {
+        Ok(body) => Some(body),
+        Err(refused) => {
+            *front = refused.value;
+            front.truncate(len);
+            None
+        }
     }
-    let room = end + end.min(total - end);
-    if front.reserve_exact(room - front.len()).is_err() {
-        return false;
-    }
-    *front_room = room;
-    true
 }
 
 /// Keeps a piece as it is. Answers whether there was memory for it; where there was none, the pieces stay as they are.

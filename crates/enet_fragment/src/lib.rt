@@ -13,14 +13,16 @@
 //! `PartialPacket::memory`, what it has taken for its pieces, is at most `memory_bound`: twice the bytes of the pieces that
 //! came, 64 for each of them, a bit for each piece of the packet, and 512 bytes. So a piece that comes early takes no room for
 //! those before it. `DataCommand::command` is the command on the wire, and what is written so is read again as itself
-//! (`what_is_read_was_written`). A huge count or total is E1 at the last piece or had in full, never a wrapped size.
+//! (`what_is_read_was_written`). Where memory is wanting for a huge count, that is E1 at the first piece; for a huge total, at
+//! the piece with which half of it has come, or at the last one; never a wrapped size. A piece that is its whole packet may be
+//! longer than 4,068 bytes: only of several pieces are lengths judged.
 //! Only tested, in `check_numbers` and `check_peer`: that calls succeed with ample memory; by hand, not by the gate, that each
 //! allocation may fail (one in `new`, two at most in `put`, two in `finish`).
 //! Neither: how much time the calls take, and what the allocator gives for what is asked of it. By the code, `put` copies its
-//! piece once and walks over nothing else; but where the room of the pieces in order is full, it doubles, which copies each
-//! byte once more at most over all puts. `finish`, and the piece that makes a `PartialPacket` whole, copy each byte once more
-//! into a body of exactly the packet's length, over zeros where pieces had come early. An assembly from which marks were taken
-//! back keeps those pieces' bytes, too.
+//! piece once and walks over nothing else; but with the piece with which half of the packet has come it copies those before it
+//! once more, into room for the whole packet. Where the end of a packet comes last, this room becomes the body of a
+//! `PartialPacket`. Else the piece that makes it whole, as `finish` does, copies each byte once more into a body of exactly the
+//! packet's length. An assembly from which marks were taken back keeps those pieces' bytes, too.
 #![tactic(auto)]
 
 mod assembly;

@@ -186,17 +186,25 @@ impl PieceStore {
         finished(all, self.total)
     }
 
-    /// The bytes of the packet, every piece of which has come but this one.
-    pub(crate) fn body_with(&self, place: Place, bytes: &[u8]) -> Result<Bytes, Refusal>
-        requires stored { IsStored self.now }
+    /// The bytes of the packet, every piece of which has come but this one. Where this one is its end, the room that the pieces
+    /// lie in is handed on; else each byte is copied once more. For want of memory, and for that alone, it answers
+    /// `Refusal::Memory`, and the packet is as it was.
+    pub(crate) fn body_with(&mut self, place: Place, bytes: &[u8]) -> Result<Bytes, Refusal>
+        requires stored { IsStored self.old }
         requires fits { place.len ≡ length bytes.now }
-        requires belongs { IsTrue (belongs (stored self.now) place) }
-        requires missing { piece_at (stored self.now) place.number ≡ None }
-        requires last { self.now.missing ≡ 1 }
-        ensures ok { IfOk result (λ body. whole_of body (count_of (stored self.now)) (Some (told_piece_len place)) ≡ with_piece (stored self.now) place bytes.now) }
-        ensures len { IfOk result (λ body. length body ≡ self.now.total) }
+        requires belongs { IsTrue (belongs (stored self.old) place) }
+        requires missing { piece_at (stored self.old) place.number ≡ None }
+        requires last { self.old.missing ≡ 1 }
+        ensures ok { IfOk result (λ body. whole_of body (count_of (stored self.old)) (Some (told_piece_len place)) ≡ with_piece (stored self.old) place bytes.now) }
+        ensures len { IfOk result (λ body. length body ≡ self.old.total) }
+        ensures stored { OnErr result (IsStored self.new) }
+        ensures frugal { OnErr result (IsFrugal self.old → IsFrugal self.new) }
+        ensures err { OnErr result (stored self.new ≡ stored self.old) }
         ensures memory { IfErr result (λ why. why ≡ Refusal.Memory) }
     {
+        if self.bytes.is_end(self.total, place.offset, bytes) {
+            return self.bytes.hand_on(self.total, bytes);
+        }
         let mut all = self.bytes.together(self.total)?;
         write_at(&mut all, place.offset as usize, bytes);
         finished(all, self.total)

@@ -54,9 +54,7 @@ impl Place {
         if self.count == 1 {
             return true;
         }
-        let cut = self.told_piece_len();
-        let most = LONGEST_PIECE as usize;
-        SHORTEST_PIECE as usize <= cut && cut <= most && self.len <= most
+        are_piece_lengths(self.told_piece_len(), self.len)
     }
 
     /// Whether the piece ends where the packet does, or before.
@@ -106,4 +104,12 @@ impl Place {
             && self.len == len
             && (self.count - 1) as usize * cut <= self.total as usize
     }
+}
+
+/// Whether a datagram allows the length of every piece but the last, and that of this one.
+fn are_piece_lengths(cut: usize, len: usize) -> bool
+    ensures { result ≡ (nat_le 512 cut && nat_le cut 4068 && nat_le len 4068) }
+{
+    let most = LONGEST_PIECE as usize;
+    SHORTEST_PIECE as usize <= cut && cut <= most && len <= most
 }

@@ -1,4 +1,4 @@
-use Rattle.std.proofs.Common.{refl, ap, ◌++◌, [], ◌∷◌, ◌∙◌, sym}
+use Rattle.std.proofs.Common.{refl, ap, ◌++◌, [], ◌∷◌, ◌∙◌}
 use Rattle.enet_fragment.specs.declared.collected.EarlyPiece.{EarlyPiece}
 use Rattle.enet_fragment.proofs.collected.keep.Goals as goal
 

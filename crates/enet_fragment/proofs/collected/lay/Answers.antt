@@ -1,6 +1,5 @@
-use Rattle.std.proofs.Common.{refl, arith, ◌≡◌, ◌+◌, ◌≤◌, length, take, suc, ap, ◌∙◌}
+use Rattle.std.proofs.Common.{refl, arith}
 use Rattle.enet_fragment.specs.Collected.{laid}
-use Rattle.enet_fragment.specs.Private.Assembly.{filled_up}
 use Rattle.enet_fragment.proofs.Collecting.{laid-next, piece-within}
 use Rattle.enet_fragment.proofs.collected.lay.Goals as goal
 

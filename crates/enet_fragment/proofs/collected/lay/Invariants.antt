@@ -1,4 +1,4 @@
-use Rattle.std.proofs.Common.{◌≡◌, ◌≤◌, take, length}
+use Rattle.std.proofs.Common.{◌≡◌, ◌≤◌, take}
 use Rattle.std.specs.Vec.{vec_capacity}
 use Rattle.enet_fragment.specs.Collected.{laid}
 use Rattle.enet_fragment.specs.Private.Assembly.{filled_up}

@@ -1,6 +1,5 @@
-use Rattle.std.proofs.Common.{◌≡◌, ◌<◌, ◌≤◌, Some, length, refl, sym, ap, ◌∙◌, arith}
+use Rattle.std.proofs.Common.{◌≡◌, ◌<◌, Some, length, refl, sym, ap, ◌∙◌, arith}
 use Rattle.enet_fragment.specs.PartialPacket.{PartialPacket, count_of}
-use Rattle.enet_fragment.specs.Place.{told_piece_len}
 use Rattle.enet_fragment.specs.Whole.{whole_of, is_whole}
 use Rattle.enet_fragment.specs.Collected.{contents}
 use Rattle.enet_fragment.specs.Stored.{stored}
@@ -25,7 +24,11 @@ returns-in-Ok-clause-kept c =
     (omega arith, omega arith)
 
 pub returns-in-Err-clause-handed_back : goal.returns-in-Err-clause-handed_back
-returns-in-Err-clause-handed_back c = (is_whole-missing (stored c.args.store) c.args.place c.requires.belongs c.requires.missing, c.requires.stored.0, c.requires.stored.1)
+returns-in-Err-clause-handed_back c = (
+  ap (λ (m : PartialPacket). is_whole m) c.in-Err.ensures.err ∙ is_whole-missing (stored c.args.store) c.args.place c.requires.belongs c.requires.missing,
+  c.in-Err.ensures.stored,
+  c.in-Err.ensures.frugal c.requires.stored.1,
+)
 
 pub returns-in-Ok-add-clause-kept : goal.returns-in-Ok-add-clause-kept
 returns-in-Ok-add-clause-kept c =

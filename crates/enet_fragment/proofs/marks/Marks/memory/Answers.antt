@@ -1,5 +1,4 @@
-use Rattle.std.proofs.Common.{◌≡◌, ◌*◌, Bool, List, length, sym, ap, ◌∙◌, arith}
-use Rattle.enet_fragment.specs.Memory.{words_of}
+use Rattle.std.proofs.Common.{Bool, List, length, ap, arith}
 use Rattle.enet_fragment.proofs.Marked.{length-marks_in}
 use Rattle.enet_fragment.proofs.marks.Marks.memory.Goals as goal
 

@@ -1,4 +1,4 @@
-use Rattle.std.proofs.Common.{◌≡◌, ◌≤◌, ◌+◌, false, eqb, cond, length, refl, sym, ap, ◌∙◌, arith}
+use Rattle.std.proofs.Common.{◌≡◌, ◌≤◌, ◌+◌, false, eqb, cond, length, sym, ap, ◌∙◌, arith}
 use Rattle.std.proofs.lemmas.Bool.Decides.{nat_tests}
 use Rattle.enet_fragment.specs.declared.assembly.Put.TheVariants.{New, Whole, Bad}
 use Rattle.enet_fragment.specs.PartialPacket.{PartialPacket, nothing_yet, put_outcome, with_piece, belongs}

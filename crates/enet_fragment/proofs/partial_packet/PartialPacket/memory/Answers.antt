@@ -1,4 +1,4 @@
-use Rattle.std.proofs.Common.{◌≡◌, ◌≤◌, ap, sym, ◌∙◌, length, List, ℕ, arith}
+use Rattle.std.proofs.Common.{◌≡◌, ap, sym, ◌∙◌, length, List, ℕ, arith}
 use Rattle.enet_fragment.specs.PartialPacket.{PartialPacket}
 use Rattle.enet_fragment.specs.Memory.{bytes_come}
 use Rattle.enet_fragment.proofs.Laws.{joined-whole_of}

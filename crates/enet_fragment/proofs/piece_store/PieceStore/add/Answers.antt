@@ -1,12 +1,12 @@
-use Rattle.std.proofs.Common.{arith, refl, ap, ◌∙◌, ◌≡◌, ◌+◌, ◌≤◌, ◌<◌, Some, length, sym, subst, List}
+use Rattle.std.proofs.Common.{arith, refl, ap, ◌∙◌, ◌<◌, Some}
 use Rattle.enet_fragment.specs.Assembly.{making_of}
-use Rattle.enet_fragment.specs.PartialPacket.{PartialPacket, count_of}
+use Rattle.enet_fragment.specs.PartialPacket.{count_of}
 use Rattle.enet_fragment.specs.Collected.{contents}
+use Rattle.enet_fragment.proofs.Frugal.{thrifty-after, thrifty-still}
 use Rattle.enet_fragment.specs.Stored.{stored}
 use Rattle.enet_fragment.proofs.Places.{Fits, Fits-from_test}
-use Rattle.enet_fragment.proofs.Views.{making_of-after, AreKept-after, missing-some, count_of-making, total_of-making}
-use Rattle.enet_fragment.proofs.Collecting.{length-contents, ends-within}
-use Rattle.enet_fragment.proofs.Frugal.{thrifty-after}
+use Rattle.enet_fragment.proofs.Views.{making_of-after, AreKept-after, missing-some, count_of-making}
+use Rattle.enet_fragment.proofs.Collecting.{ends-within}
 use Rattle.enet_fragment.proofs.piece_store.PieceStore.add.Goals as goal
 
 pub told_piece_len-cut-requires : goal.told_piece_len-cut-requires
@@ -47,3 +47,8 @@ returns-clause-frugal c = λ frugal.
     let fits : Fits (stored s) c.args.place = Fits-from_test (stored s) c.args.place c.requires.belongs in
     let below : c.args.place.number < count_of (stored s) = omega (arith, fits.sound.below, fits.count) in
     thrifty-after (stored s) _ c.args.place c.args.bytes.now c.put.new.self (returns-clause-ok c) c.requires.missing below (c.put.ensures.thrifty _ _ frugal c.if-not-put.false)
+
+pub returns-then-not-put-clause-frugal : goal.returns-then-not-put-clause-frugal
+returns-then-not-put-clause-frugal c = λ frugal.
+    let s = c.args.self.now in
+    thrifty-still (contents s.total s.bytes) (contents s.total c.put.new.self) s.came s.cut c.put.new.self (c.put.ensures.same c.if-not-put.true) (c.put.ensures.refused _ _ frugal c.if-not-put.true)

@@ -1,5 +1,5 @@
-use Rattle.std.proofs.Common.{◌≡◌, List, ℕ, length, refl, sym, ap, ◌∙◌, arith}
-use Rattle.enet_fragment.specs.PartialPacket.{PartialPacket, count_of}
+use Rattle.std.proofs.Common.{List, ℕ, length, refl, sym, ap, ◌∙◌}
+use Rattle.enet_fragment.specs.PartialPacket.{count_of}
 use Rattle.enet_fragment.specs.Collected.{contents}
 use Rattle.enet_fragment.specs.Stored.{stored}
 use Rattle.enet_fragment.specs.Whole.{whole_of}

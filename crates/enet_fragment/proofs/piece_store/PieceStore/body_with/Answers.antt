@@ -1,16 +1,31 @@
-use Rattle.std.proofs.Common.{◌≡◌, ◌+◌, ◌≤◌, List, ℕ, Some, length, refl, sym, ap, ◌∙◌, arith}
-use Rattle.enet_fragment.specs.PartialPacket.{PartialPacket, count_of}
+use Rattle.std.proofs.Common.{◌≡◌, ◌+◌, ◌≤◌, ◌++◌, List, ℕ, length, refl, ap, ◌∙◌, arith}
 use Rattle.enet_fragment.specs.Place.{told_piece_len}
 use Rattle.enet_fragment.specs.Collected.{contents, written_at}
 use Rattle.enet_fragment.specs.Private.Assembly.{filled_up}
 use Rattle.enet_fragment.specs.Stored.{stored}
-use Rattle.enet_fragment.specs.Whole.{whole_of}
 use Rattle.enet_fragment.proofs.Pieces.{length-written_at}
 use Rattle.enet_fragment.proofs.Held.{take-filled, filled_up-written}
 use Rattle.enet_fragment.proofs.Wholes.{last-whole}
-use Rattle.enet_fragment.proofs.Collecting.{length-contents, ends-within}
+use Rattle.enet_fragment.proofs.Frugal.{thrifty-still, both_refused}
+use Rattle.enet_fragment.proofs.Collecting.{length-contents, ends-within, end-written}
 use Rattle.std.proofs.lemmas.Result.{IfOk-weaker}
 use Rattle.enet_fragment.proofs.piece_store.PieceStore.body_with.Goals as goal
+
+pub is_end-requires : goal.is_end-requires
+is_end-requires c = ends-within c.args.self.now c.args.place c.args.bytes.now c.requires.stored c.requires.belongs c.requires.fits
+
+pub returns-then-is_end-clause-ok : goal.returns-then-is_end-clause-ok
+returns-then-is_end-clause-ok c =
+    let s = c.args.self.now in
+    let new = c.args.bytes.now in
+    let is : s.bytes.front.items ++ new ≡ written_at c.args.place.offset new (contents s.total s.bytes) =
+    end-written s.total c.args.place.offset new s.bytes c.requires.stored.collected (c.if-is_end.ensures.order refl) (c.if-is_end.ensures.end refl) in
+    IfOk-weaker c.hand_on.result _ _ (λ body e. last-whole (contents s.total s.bytes) new body s.came s.missing s.cut (stored s) c.args.place (told_piece_len c.args.place) (e ∙ is) refl c.requires.stored.kept refl c.requires.belongs c.requires.missing c.requires.fits c.requires.last) c.hand_on.ensures.ok
+
+pub returns-then-is_end-clause-frugal : goal.returns-then-is_end-clause-frugal
+returns-then-is_end-clause-frugal c =
+    let s = c.args.self.now in
+    both_refused c.hand_on.result (λ same thrifty frugal. thrifty-still (contents s.total s.bytes) (contents s.total c.hand_on.new.self) s.came s.cut c.hand_on.new.self same (thrifty _ _ frugal)) c.hand_on.ensures.same c.hand_on.ensures.thrifty
 
 pub write_at-requires : goal.write_at-requires
 write_at-requires c = omega (arith, ends-within c.args.self.now c.args.place c.args.bytes.now c.requires.stored c.requires.belongs c.requires.fits, c.in_ok-all.ensures.room)

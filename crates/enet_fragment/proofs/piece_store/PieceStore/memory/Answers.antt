@@ -4,7 +4,6 @@ use Rattle.enet_fragment.specs.Collected.{contents, taken_by}
 use Rattle.enet_fragment.specs.Memory.{bytes_come, pieces_come}
 use Rattle.enet_fragment.specs.Stored.{stored}
 use Rattle.enet_fragment.proofs.Views.{count_of-making}
-use Rattle.enet_fragment.proofs.Collecting.{length-contents}
 use Rattle.enet_fragment.proofs.Frugal.{bytes_come-making, pieces_come-le, taken-within}
 use Rattle.enet_fragment.proofs.piece_store.PieceStore.memory.Goals as goal
 

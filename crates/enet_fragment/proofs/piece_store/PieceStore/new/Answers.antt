@@ -1,7 +1,4 @@
-use Rattle.std.proofs.Common.{◌≡◌, ◌∙◌, [], ◌++◌, ap, refl, drop, length, List, arith, ℕ}
-use Rattle.std.proofs.Math.ListN.{replicate}
-use Rattle.std.proofs.lemmas.List.Elements.{All-nil}
-use Rattle.enet_fragment.specs.Collected.{contents, IsCollected}
+use Rattle.std.proofs.Common.{arith}
 use Rattle.enet_fragment.proofs.Views.{AreKept-new, making_of-new}
 use Rattle.enet_fragment.proofs.Collecting.{contents-none, IsCollected-none, IsThrifty-none}
 use Rattle.enet_fragment.proofs.piece_store.PieceStore.new.Goals as goal
