@@ -1,7 +1,7 @@
 #!/usr/bin/env bash
 # Asks `enet_relay serve --metrics` for its figures while 32 clients of the reference library talk (clients/tally.c), and compares these with
-# what the clients counted; sends it datagrams that it must stop, and requests that it must refuse; has 20 ask nothing for six seconds, and
-# others get their answer meanwhile; forges CONNECTs (clients/forge.c), whose slots must be told as half-open ones, and free again, and the
+# what the clients counted; sends it datagrams that it must stop, and requests that it must refuse; has 80 ask nothing for six seconds, and then
+# somebody at another address open a thousand connections a second, and others get their answer meanwhile; forges CONNECTs (clients/forge.c), whose slots must be told as half-open ones, and free again, and the
 # answers to them as sent again, and as root one from port 0, which must do nothing; stops clients, to whom what others say must stay in
 # transit; has some talk over a line that loses (clients/proxy.c), on which some of what is under way must be told as sent again; and stops
 # the thread of the service alone (clients/hold.c), of which /healthz must tell. Each figure that the dashboard of deploy/grafana asks for
@@ -40,9 +40,11 @@ finish() {
     relay=
 }
 
-# The answer to the request line $1, without its version, within two seconds.
+# The answer to the request line $1, without its version, within two seconds. It is sent $2 seconds after the connection, at once where $2 isn't
+# there.
 ask() {
-    timeout 2 bash -c 'exec 3<> "/dev/tcp/127.0.0.1/$0" && printf "%s HTTP/1.1\r\nHost: here\r\n\r\n" "$1" >&3 && cat <&3' "$port" "$1" | tr -d '\r'
+    timeout 2 bash -c 'exec 3<> "/dev/tcp/127.0.0.1/$0" && sleep "$2" && printf "%s HTTP/1.1\r\nHost: here\r\n\r\n" "$1" >&3 && cat <&3' \
+        "$port" "$1" "${2:-0}" | tr -d '\r'
 }
 
 # The status of the answer.
@@ -217,22 +219,55 @@ requests() {
     same health "$(status "$(ask 'GET /healthz')")" 200
 }
 
-# Twenty ask nothing; each other one gets its answer.
+# Eighty ask nothing; each other one gets its answer.
 silent() {
     local i begun=$SECONDS
-    for i in {1..20}; do
-        timeout 6 bash -c 'exec 3<> "/dev/tcp/127.0.0.1/$0" && sleep 6' "$port" &
-        silent+=($!)
-    done
+    python3 - "$port" << 'END' &
+import socket, sys, time
+silent = [socket.create_connection(("127.0.0.1", int(sys.argv[1]))) for _ in range(80)]
+time.sleep(6)
+END
     sleep 0.5
     for i in {1..5}; do
         same beside-silent "$(status "$(ask 'GET /metrics')")" 200
     done
     [ $((SECONDS - begun)) -le 4 ] || fail beside-silent "it took $((SECONDS - begun)) seconds"
-    wait "${silent[@]}"
-    silent=()
+    wait $!
     same after-silent "$(status "$(ask 'GET /healthz')")" 200
     same descriptors "$(find "/proc/$relay/fd" -lname 'socket:*' | wc -l)" 2
+}
+
+# For six seconds somebody at another address opens up to a thousand connections a second. On each second one he asks for figures, and reads
+# none; on the others he asks nothing. Each time that somebody else asks for /healthz, 0.3 seconds after his connection, he is told.
+crowded() {
+    local i crowd
+    python3 - "$port" << 'END' > "$room/crowd" 2>&1 &
+import socket, sys, time
+kept, came, end = [], 0, time.monotonic() + 6
+while time.monotonic() < end:
+    kept.append(socket.socket())
+    kept[-1].setsockopt(socket.SOL_SOCKET, socket.SO_LINGER, bytes([1, 0, 0, 0, 0, 0, 0, 0]))
+    kept[-1].bind(("127.0.0.2", 0))
+    kept[-1].settimeout(0.2)
+    try:
+        kept[-1].connect(("127.0.0.1", int(sys.argv[1])))
+        came += 1
+        if came % 2 == 0:
+            kept[-1].send(b"GET /metrics HTTP/1.1\r\n\r\n")
+    except OSError:
+        pass
+    if len(kept) > 200:
+        kept.pop(0).close()
+    time.sleep(0.001)
+print(came)
+END
+    crowd=$!
+    sleep 0.5
+    for i in {1..10}; do
+        same beside-crowd "$(status "$(ask 'GET /healthz' 0.3)")" 200
+    done
+    wait "$crowd"
+    [ "$(<"$room/crowd")" -ge 500 ] 2> /dev/null && passed=$((passed + 1)) || fail crowd "only $(head -c 300 "$room/crowd") came"
 }
 
 # While one thread is stopped /healthz answers 503 where that is the thread of the service; afterwards 200. Of the threads just one is it.
@@ -258,7 +293,6 @@ stops() {
 
 room=$(mktemp -d) || exit 1
 relay=
-silent=()
 threads=1
 trap 'kill $relay $(jobs -p) 2> /dev/null; wait; rm -rf "$room"' EXIT
 if [ ! -x "$program" ]; then
@@ -275,6 +309,7 @@ else
         dashboard
         requests
         silent
+        crowded
         hung
         finish
         stops

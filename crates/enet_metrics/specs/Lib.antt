@@ -5,4 +5,5 @@ pub mod Standings
 pub mod Noting
 pub mod Questions
 pub mod Answers
+pub mod Crowds
 pub mod Private

@@ -7,7 +7,7 @@ use mio::net::TcpStream;
 use std::alloc::Global;
 use std::io;
 use std::io::{ErrorKind, Read, Write};
-use std::net::Shutdown;
+use std::net::{Shutdown, SocketAddr};
 use std::rt::Clock;
 use std::time::{Duration, Instant};
 
@@ -20,10 +20,23 @@ const PIECES: u32 = 16;
 /// An exchange has so many seconds.
 const PATIENCE: u64 = 5;
 
+/// How far somebody is who asks for a page.
+#[derive(Clone, Copy, Debug, PartialEq, Eq)]
+pub(crate) enum Stage {
+    /// Its request isn't whole yet.
+    Asks,
+    /// It has asked: it is sent the answer, or was sent it and hasn't left yet.
+    IsTold,
+    /// It is to be let go: it is gone, or late.
+    Ends,
+}
+
 /// Somebody who asks for a page, is sent it, and is let go.
 #[derive(Drop)]
 pub(crate) struct Client {
     stream: TcpStream,
+    /// The IPv4 address that it comes from.
+    pub(crate) from: u32,
     begun: Option<Instant>,
     head: [u8; LONGEST],
     len: usize,
@@ -34,9 +47,10 @@ pub(crate) struct Client {
 }
 
 impl Client {
-    pub(crate) fn new<R: Clock>(rt: &R, stream: TcpStream) -> Client {
+    pub(crate) fn new<R: Clock>(rt: &R, stream: TcpStream, from: SocketAddr) -> Client {
         Client {
             stream,
+            from: ip_of(from),
             begun: Instant::now(rt).ok(),
             head: [0; LONGEST],
             len: 0,
@@ -46,50 +60,51 @@ impl Client {
         }
     }
 
-    /// Goes on as far as it can without a wait. True where the client is to be let go: it is gone, or late.
-    pub(crate) fn advance<R: Clock>(&mut self, rt: &R, alloc: Global, figures: &Figures) -> bool {
+    /// Goes on as far as it can without a wait.
+    pub(crate) fn advance<R: Clock>(&mut self, rt: &R, alloc: Global, figures: &Figures) -> Stage {
         if self.is_late(rt) {
-            return true;
+            return Stage::Ends;
         }
         if self.is_answered {
-            return self.has_left();
+            return self.wait_for_end();
         }
         if self.answer.is_none() {
             match self.read_on() {
-                Ok(None) => return false,
+                Ok(None) => return Stage::Asks,
                 Ok(Some(question)) => self.answer = answer(alloc, question, &figures.read(rt)).ok(),
-                Err(_) => return true,
+                Err(_) => return Stage::Ends,
             }
         }
         match self.write_on() {
             Ok(true) => self.end_answer(),
-            Ok(false) => false,
-            Err(_) => true,
+            Ok(false) => Stage::IsTold,
+            Err(_) => Stage::Ends,
         }
     }
 
-    // Tells it that no more comes. True where it is to be let go.
-    fn end_answer(&mut self) -> bool {
+    // Tells it that no more comes.
+    fn end_answer(&mut self) -> Stage {
         if self.answer.is_none() || self.stream.shutdown(Shutdown::Write).is_err() {
-            return true;
+            return Stage::Ends;
         }
         self.is_answered = true;
-        self.has_left()
+        self.wait_for_end()
     }
 
-    // Whether it has closed the connection, too.
-    fn has_left(&mut self) -> bool {
+    // It is to be let go once it has closed the connection, too.
+    fn wait_for_end(&mut self) -> Stage {
         for _ in 0..PIECES {
             match self.stream.read(&mut self.head[..]) {
-                Ok(0) => return true,
+                Ok(0) => return Stage::Ends,
                 Ok(_) => {}
-                Err(why) => return why.kind() != ErrorKind::WouldBlock,
+                Err(why) if why.kind() == ErrorKind::WouldBlock => return Stage::IsTold,
+                Err(_) => return Stage::Ends,
             }
         }
-        false
+        Stage::IsTold
     }
 
-    // Nobody is where the clock can't be read: he is told that, and may stay until the seventeenth comes.
+    // Nobody is where the clock can't be read: he may stay until another takes his place.
     fn is_late<R: Clock>(&self, rt: &R) -> bool {
         let Some(begun) = &self.begun else {
             return false;
@@ -137,5 +152,13 @@ impl Client {
             }
         }
         Ok(false)
+    }
+}
+
+// The pages are at an IPv4 address, so all come from one.
+fn ip_of(from: SocketAddr) -> u32 {
+    match from {
+        SocketAddr::V4(from) => from.ip().to_bits(),
+        SocketAddr::V6(_) => 0,
     }
 }
