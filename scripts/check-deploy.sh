@@ -3,10 +3,11 @@
 # unit starts runs as a user without rights: who isn't root can't write to its control FIFO, root says `peers` there and it answers, and where
 # SIGTERM comes to its first process while four clients of the reference library talk (clients/guests.c), all are told, and it ends with status
 # 0. The entrypoint of the container is process 1 of a namespace of its own, with the same end. The wrapper for Agones runs beside a stub of the
-# SDK's sidecar: it is ready, healthy, allocated with the first client, and shut down, once by SIGTERM and once since the last client has left;
-# and it isn't called healthy while one of its threads is stopped (clients/hold.c), the service's or the one that answers. PROGRAM is the built
-# `enet_relay`, by default the one that `rt ci`, or `rt run` in crates/enet_relay, leaves. It wants root, and installs what is missing. Prints
-# what failed, and as last line 'N passed, M failed'; the status is 1 where one failed.
+# SDK's sidecar: it is ready, healthy, allocated with the first client, and shut down, once by SIGTERM and once since the last client has left.
+# It isn't called healthy while one of its threads is stopped (clients/hold.c), the service's or the one that answers. And 21 strangers who
+# flood the log (clients/gossip.c) and leave end neither a server that nobody plays on yet nor a game. PROGRAM is the built `enet_relay`, by
+# default the one that `rt ci`, or `rt run` in crates/enet_relay, leaves. It wants root, and installs what is missing. Prints what failed, and
+# as last line 'N passed, M failed'; the status is 1 where one failed.
 cd "$(dirname "$0")/.." || exit 1
 . scripts/clients.sh
 . scripts/tally.sh
@@ -114,23 +115,58 @@ container() {
     terminate "$outer" "$(pgrep -P "$outer")"
 }
 
-# The wrapper, ended by SIGTERM where $1 is `term`, else once its clients have left.
-agones() {
+# Starts the wrapper beside a sidecar at the port `sdk`, with the settings $@, and waits until it is ready and healthy.
+begin_wrapper() {
     free_port
-    local sdk=$port how=$1 wrapper
+    sdk=$port
+    rm -f "$room/sidecar"
     python3 deploy/agones/sidecar_stub.py "$sdk" > "$room/sidecar" 2> "$room/sidecar.err" &
     started+=($!)
     free_port
-    AGONES_SDK_HTTP_PORT=$sdk HEALTH_SECONDS=1 ALLOCATE_SELF=1 SHUTDOWN_EMPTY=1 EMPTY_SECONDS=2 sh deploy/agones/agones_run.sh \
-        "$program" serve --port "$port" --forever --log --control > "$room/wrapper.out" 2> "$room/wrapper.err" &
+    env AGONES_SDK_HTTP_PORT="$sdk" HEALTH_SECONDS=1 "$@" sh deploy/agones/agones_run.sh "$program" serve --port "$port" --peers 64 \
+        --forever --log --control --metrics "127.0.0.1:$port" > "$room/wrapper.out" 2> "$room/wrapper.err" &
     wrapper=$!
     started+=("$wrapper")
-    wait_for "$room/sidecar" Ready && wait_for "$room/sidecar" health || return 1
-    if [ "$how" = term ]; then receive_guests "$port"; else receive_guests "$port" 20; fi || return 1
+    wait_for "$room/sidecar" Ready && wait_for "$room/sidecar" health
+}
+
+# The wrapper, ended by SIGTERM where $1 is `term`, else once its clients have left.
+agones() {
+    local how=$1 sdk wrapper
+    begin_wrapper ALLOCATE_SELF=1 SHUTDOWN_EMPTY=1 EMPTY_SECONDS=2 JOIN_SECONDS=3 || return 1
+    if [ "$how" = term ]; then receive_guests "$port"; else receive_guests "$port" 600; fi || return 1
     wait_for "$room/sidecar" Allocated || return 1
     [ "$how" != term ] || kill -TERM "$wrapper"
     guests_fared && wait_for "$room/sidecar" Shutdown || return 1
     wait "$wrapper" || { echo "status $?" > "$room/why"; return 1; }
+}
+
+# Whether the server goes on $1 seconds later.
+goes_on() {
+    sleep "$1"
+    ! grep -q '^Shutdown$' "$room/sidecar" || { echo "it was stopped: $(paste -sd ' ' "$room/sidecar")" > "$room/why"; return 1; }
+}
+
+# 21 strangers who have 20 orders refused for each packet of one of them, and leave after two seconds.
+gossip() {
+    timeout 30 "$room/gossip" "$port" 20 2 > "$room/gossip.out" 2> "$room/why" &
+    started+=($!)
+    wait_for "$room/gossip.out" talking
+}
+
+# Strangers come before the server is allocated, and again while five play: neither the server nor the game ends. Once the players have left,
+# it does.
+strangers() {
+    local sdk wrapper visit
+    begin_wrapper SHUTDOWN_EMPTY=1 EMPTY_SECONDS=2 JOIN_SECONDS=2 || return 1
+    gossip && wait $! && goes_on 4 || return 1
+    ! grep -q Allocated "$room/sidecar" || { echo 'strangers had it allocated' > "$room/why"; return 1; }
+    curl -sf -o /dev/null -m 5 -X POST -d '{}' "http://127.0.0.1:$sdk/allocate" && gossip || return 1
+    visit=$!
+    "$room/knock" "$port" 127.0.0.1 5 9 > "$room/why" 2>&1 &
+    started+=($!)
+    wait "$visit" && goes_on 4 && wait $! && grep -q '^5 connected 0 ended$' "$room/why" || return 1
+    wait_for "$room/sidecar" Shutdown && wait "$wrapper"
 }
 
 # How often the sidecar was told of health.
@@ -141,16 +177,8 @@ healthy() {
 # The wrapper of a program that tells figures, each of whose threads is stopped for six seconds: in the last four nobody is told of health, and
 # afterwards it is told again.
 hung() {
-    free_port
-    local sdk=$port wrapper first thread before
-    python3 deploy/agones/sidecar_stub.py "$sdk" > "$room/sidecar" 2> "$room/sidecar.err" &
-    started+=($!)
-    free_port
-    AGONES_SDK_HTTP_PORT=$sdk HEALTH_SECONDS=1 sh deploy/agones/agones_run.sh "$program" serve --port "$port" --forever --log --control \
-        --metrics "127.0.0.1:$port" > "$room/wrapper.out" 2> "$room/wrapper.err" &
-    wrapper=$!
-    started+=("$wrapper")
-    wait_for "$room/sidecar" Ready && wait_for "$room/sidecar" health || return 1
+    local sdk wrapper first thread before
+    begin_wrapper || return 1
     first=$(pgrep -P "$wrapper" -x "$(basename "$program" | cut -c 1-15)")
     for thread in "/proc/$first/task"/*; do
         "$room/hold" "${thread##*/}" 6 2> "$room/why" &
@@ -183,5 +211,7 @@ agones empty
 judge agones-empty $?
 hung
 judge agones-hung $?
+strangers
+judge agones-strangers $?
 echo "$passed passed, $failed failed"
 [ "$failed" -eq 0 ]

@@ -1,15 +1,32 @@
 #!/bin/sh
-# agones_run.sh PROGRAM WORDS..: runs `enet_relay serve` with --log and --control as a game server of Agones. It speaks to the sidecar of
-# Agones' SDK by HTTP, so that the program needs no word of it:
-#   - /ready once the program says that it listens, /health each HEALTH_SECONDS (2) while it is alive; where the words have
-#     `--metrics ADDRESS:PORT`, only while /healthz there says so, too: not while the service hangs;
-#   - /allocate with the first client, where ALLOCATE_SELF is 1 (a matchmaker that allocates does without);
-#   - `stop` to the program, EMPTY_SECONDS (10) after the last client left, where SHUTDOWN_EMPTY is 1; at SIGTERM and SIGINT always;
+# agones_run.sh PROGRAM WORDS..: runs `enet_relay serve` with --log, --control and --metrics ADDRESS:PORT as a game server of Agones. It speaks
+# to the sidecar of Agones' SDK by HTTP, so that the program needs no word of it:
+#   - /ready once the program says that it listens;
+#   - /health each HEALTH_SECONDS (2), only while /healthz at the address of --metrics says so: not while the service hangs;
+#   - /allocate with the first player, where ALLOCATE_SELF is 1 (a matchmaker that allocates does without);
+#   - `stop` to the program, where SHUTDOWN_EMPTY is 1, once the game is over: it was allocated JOIN_SECONDS (60) ago or more, and for
+#     EMPTY_SECONDS (10) nobody was there; at SIGTERM and SIGINT always;
 #   - /shutdown whenever the program has ended.
-# It reads the program's lines `listening at`, `connect` and `disconnect`, and passes all on to standard error. It needs curl and mkfifo.
-# Without AGONES_SDK_HTTP_PORT it tells nobody.
+# Whether it was allocated the sidecar says (/gameserver), and how many players are there the figure enet_peers, each HEALTH_SECONDS anew. Who
+# comes before the allocation counts for nothing, and where one of both can't be asked the game isn't over. So a stranger who connects can keep
+# a server going while he stays, but end no game.
+# It passes on what the program says on standard error. It needs curl and mkfifo. Without AGONES_SDK_HTTP_PORT it tells nobody, and asks nobody:
+# then no game is over. Without --metrics among the words SHUTDOWN_EMPTY and ALLOCATE_SELF are refused, with status 2.
 sdk=${AGONES_SDK_HTTP_PORT:-}
 every=${HEALTH_SECONDS:-2}
+
+# Where it tells figures; empty where it doesn't.
+figures=
+word=
+for next; do
+    [ "$word" != --metrics ] || figures=$next
+    word=$next
+done
+if [ -z "$figures" ] && [ "${SHUTDOWN_EMPTY:-0}${ALLOCATE_SELF:-0}" != 00 ]; then
+    echo 'agones_run.sh: SHUTDOWN_EMPTY and ALLOCATE_SELF count players by --metrics, which is not there' >&2
+    exit 2
+fi
+
 room=$(mktemp -d) || exit 1
 mkfifo "$room/lines" "$room/control" || exit 1
 
@@ -25,44 +42,39 @@ insist() {
     done
 }
 
-# Where it tells figures; empty where it doesn't.
-figures=
-word=
-for next; do
-    [ "$word" != --metrics ] || figures=$next
-    word=$next
-done
-
 # Whether the service goes on.
 is_healthy() {
     [ -z "$figures" ] || curl -sf -o /dev/null -m 2 "http://$figures/healthz"
+}
+
+# How many players are there; nothing where that isn't known.
+players() {
+    [ -z "$figures" ] || curl -sf -m 2 "http://$figures/metrics" | sed -n 's/^enet_peers \([0-9][0-9]*\)$/\1/p'
+}
+
+# Whether the sidecar says that somebody plays here, or is about to.
+is_allocated() {
+    [ -n "$sdk" ] && curl -sf -m 2 "http://127.0.0.1:$sdk/gameserver" | grep -q '"state" *: *"Allocated"'
+}
+
+# Seconds of a clock that nobody sets.
+now() {
+    cut -d . -f 1 /proc/uptime
 }
 
 exec 4<> "$room/control"
 "$@" < "$room/control" 2> "$room/lines" 4<&- &
 program=$!
 
-# Reads what the program says, beside this shell: it ends with the program.
+# Passes on what the program says, beside this shell: it ends with the program.
 (
-    peers=0
     while IFS= read -r line; do
         printf '%s\n' "$line" >&2
         case $line in
-            'listening at '*) insist ready ;;
-            'connect '*)
-                peers=$((peers + 1))
-                rm -f "$room/empty"
-                if [ "${ALLOCATE_SELF:-0}" = 1 ] && [ ! -e "$room/allocated" ]; then
-                    insist allocate
-                    : > "$room/allocated"
-                fi
-                ;;
-            'disconnect '*)
-                peers=$((peers - 1))
-                [ "$peers" -gt 0 ] || : > "$room/empty"
-                ;;
+            'listening at '*) insist ready & ;;
         esac
     done < "$room/lines"
+    wait
 ) 4<&- &
 reader=$!
 
@@ -71,17 +83,32 @@ stop() {
 }
 trap stop TERM INT
 
-empty_for=0
+# `since` is when it was seen to be allocated, `last` when players may have been there last. With ALLOCATE_SELF the first one allocates.
+since=
+last=
+look_for_players() {
+    there=$(players)
+    if [ -z "$since" ]; then
+        [ "${ALLOCATE_SELF:-0}" != 1 ] || [ "${there:-0}" -eq 0 ] || tell allocate
+        is_allocated || return
+        since=$(now)
+        last=$since
+    fi
+    [ "${there:-1}" -eq 0 ] || last=$(now)
+}
+
+is_over() {
+    [ -n "$since" ] && [ $(($(now) - since)) -ge "${JOIN_SECONDS:-60}" ] && [ $(($(now) - last)) -ge "${EMPTY_SECONDS:-10}" ]
+}
+
 while kill -0 "$program" 2> /dev/null; do
     ! is_healthy || tell health
+    if [ "${SHUTDOWN_EMPTY:-0}${ALLOCATE_SELF:-0}" != 00 ]; then
+        look_for_players
+        [ "${SHUTDOWN_EMPTY:-0}" != 1 ] || ! is_over || stop
+    fi
     sleep "$every" &
     wait $!
-    if [ "${SHUTDOWN_EMPTY:-0}" = 1 ] && [ -e "$room/empty" ]; then
-        empty_for=$((empty_for + every))
-        [ "$empty_for" -lt "${EMPTY_SECONDS:-10}" ] || stop
-    else
-        empty_for=0
-    fi
 done
 wait "$program"
 status=$?
