@@ -136,6 +136,11 @@ uint32_t gofnjerta_set_bandwidth(gofnjerta_host *host, uint32_t incoming, uint32
     return gofnjerta_core_set_bandwidth(host, incoming, outgoing);
 }
 
+uint32_t gofnjerta_set_secret(gofnjerta_host *host, const uint8_t key[32]) {
+    if (!host || !key) return GOFNJERTA_NULL;
+    return gofnjerta_core_set_secret(host, key);
+}
+
 uint32_t gofnjerta_throttle_configure(gofnjerta_host *host, gofnjerta_peer peer, uint32_t interval, uint32_t acceleration, uint32_t deceleration) {
     if (!host) return GOFNJERTA_NULL;
     return gofnjerta_core_throttle_configure(host, &peer, interval, acceleration, deceleration);

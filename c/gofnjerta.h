@@ -225,6 +225,11 @@ uint32_t gofnjerta_disconnect_later(gofnjerta_host *host, gofnjerta_peer peer, u
 /* Sets the host's bandwidths, in bytes per second; 0: no limit is known. Each connected peer is told. MEMORY. */
 uint32_t gofnjerta_set_bandwidth(gofnjerta_host *host, uint32_t incoming, uint32_t outgoing);
 
+/* Sets the host's secret: 32 bytes that the system drew (getentropy) and that nobody else knows. By them each peer that begins from now on
+ * has sent times and numbers of its own, so that who forges an address and doesn't see the answers can't connect in its name. A host that
+ * was given none goes as libenet does. Set it once, before the first datagram and the first gofnjerta_connect; the bytes are copied. */
+uint32_t gofnjerta_set_secret(gofnjerta_host *host, const uint8_t key[32]);
+
 /* Sets a connected peer's throttle: its interval in milliseconds, and by how much it rises and falls, in parts of 32. The other end is
  * told. NO_SUCH_PEER, NOT_CONNECTED, MEMORY. */
 uint32_t gofnjerta_throttle_configure(gofnjerta_host *host, gofnjerta_peer peer, uint32_t interval, uint32_t acceleration, uint32_t deceleration);

@@ -80,10 +80,11 @@ static inline uint32_t connect_with(uint32_t channels)
         4, 2, 4, 2, 4, 0x01020304, 4, 7, 0, 0 }));
     poll(&socket, 1, 1000);
     ssize_t length = recv(server, in, sizeof in, MSG_DONTWAIT);
-    if (length < 11 || (in[4] & 15) != 3)
+    if (length < 12 || (in[4] & 15) != 3)
         give_up("no answer");
-    uint32_t word = (uint32_t)(in[8] << 8 | in[9]) | (uint32_t)(in[10] & 3) << 12;
-    send_out(put_all(0, (uint32_t[]){ 2, word, 2, 0x01ff, 2, 1, 2, 1, 2, 0, 0, 0 }));
+    uint32_t word = (uint32_t)(in[8] << 8 | in[9]) | (uint32_t)(in[11] & 3) << 12;
+    uint32_t sent = (uint32_t)(in[2] << 8 | in[3]), number = (uint32_t)(in[6] << 8 | in[7]);
+    send_out(put_all(0, (uint32_t[]){ 2, word, 2, 0x01ff, 2, number, 2, number, 2, sent, 0, 0 }));
     return word;
 }
 

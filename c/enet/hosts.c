@@ -4,6 +4,7 @@
 #include <netinet/udp.h>
 #include <string.h>
 #include <sys/random.h>
+#include <unistd.h>
 
 static void link_marks(ENetPeer *peer, Marks *marks) {
     link_mark(&peer->outgoingCommands, &marks->queued);
@@ -42,6 +43,14 @@ static bool open_socket(ENetHost *host, const ENetAddress *address) {
     return true;
 }
 
+/* Opens the core with a secret, by which no stranger can guess its sent times and numbers. Where the system has none to give, without. */
+static bool open_core(gofnjerta_host *core, const gofnjerta_config *config) {
+    uint8_t key[32];
+    if (gofnjerta_open(core, config)) return false;
+    if (getentropy(key, sizeof key) == 0) gofnjerta_set_secret(core, key);
+    return true;
+}
+
 static bool make_slots(Layer *layer, size_t count) {
     layer->host.peers = calloc(count, sizeof *layer->host.peers);
     layer->slots = aligned_alloc(_Alignof(Slot), count * sizeof *layer->slots);
@@ -63,7 +72,7 @@ ENetHost *enet_host_create(const ENetAddress *address, size_t peers, size_t chan
     config.generations = UINT32_MAX;
     config.clock = (uint32_t)(layer->clock = layer_now());
     layer->full_at = UINT64_MAX;
-    if (!make_slots(layer, config.peers) || !open_socket(&layer->host, address) || gofnjerta_open(&layer->core, &config)) {
+    if (!make_slots(layer, config.peers) || !open_socket(&layer->host, address) || !open_core(&layer->core, &config)) {
         enet_host_destroy(&layer->host);
         return NULL;
     }
@@ -111,7 +120,7 @@ static bool begin(Layer *layer) {
     wanted.max_waiting = (uint32_t)ENET_MIN(layer->host.maximumWaitingData, GOFNJERTA_MAX_PACKET);
     if (wanted.mtu != layer->config.mtu || wanted.max_waiting != layer->config.max_waiting) {
         gofnjerta_host core = {0};
-        if (gofnjerta_open(&core, &wanted)) return false;
+        if (!open_core(&core, &wanted)) return false;
         gofnjerta_close(&layer->core);
         layer->core = core;
         layer->config = wanted;

@@ -256,6 +256,54 @@ static void parted(gofnjerta_host *a, gofnjerta_host *b, gofnjerta_peer from_b, 
     CHECK(out.datagrams_in == in.datagrams_out && out.bytes_in == in.bytes_out);
 }
 
+/* A client from a port of its own connects, and is told the sent time, the number of VERIFY_CONNECT and the sessions that are wanted. */
+static gofnjerta_peer drawn(gofnjerta_host *server, uint16_t port, uint16_t time, uint16_t number, uint8_t incoming, uint8_t outgoing) {
+    gofnjerta_host client = {0};
+    gofnjerta_config config = gofnjerta_standard(1, 1);
+    gofnjerta_address from = {at_b.ip, port};
+    uint8_t buffer[GOFNJERTA_ROOM];
+    gofnjerta_peer peer;
+    gofnjerta_datagram gave;
+    gofnjerta_event event;
+    ANSWERS(GOFNJERTA_OK, gofnjerta_open(&client, &config));
+    ANSWERS(GOFNJERTA_OK, gofnjerta_connect(&client, at_a, 1, 0, port, &peer));
+    carry(&client, from, server);
+    ANSWERS(GOFNJERTA_OK, gofnjerta_service(server, buffer, sizeof buffer, &gave));
+    CHECK(gave.length == 48 && gave.to.port == port && buffer[4] == 0x83 && buffer[5] == 0xFF);
+    CHECK((buffer[2] << 8 | buffer[3]) == time && (buffer[6] << 8 | buffer[7]) == number);
+    CHECK(buffer[10] == incoming && buffer[11] == outgoing);
+    ANSWERS(GOFNJERTA_OK, gofnjerta_receive(&client, at_a, buffer, gave.length, NULL));
+    carry(&client, from, server);
+    ANSWERS(GOFNJERTA_OK, gofnjerta_next_event(server, &event));
+    CHECK(event.kind == GOFNJERTA_CONNECT);
+    gofnjerta_close(&client);
+    return event.peer;
+}
+
+/* What a host with the secret 0, 1 to 31 draws at a clock of 100: `openssl enc -chacha20` of zeros, with this key and the iv of 8 zeros, the
+ * generation and the slot (4 bytes each, low byte first), begins with fd39 and c5d9 in the low halves of its first two words, 1 and 0 in the
+ * low bits of the next two, for slot 0; with 182e, d9f4, 1 and 0 for slot 1; with a42f and 8050 for slot 0 in generation 1. The answer has
+ * the number after the drawn one, and tells the client the sessions after the drawn ones, the other way round; in generation 1 those after. */
+static void secret(void) {
+    gofnjerta_host host = {0};
+    gofnjerta_config config = gofnjerta_standard(2, 1);
+    uint8_t key[32];
+    for (uint8_t i = 0; i < 32; i++) key[i] = i;
+    config.clock = 100;
+    ANSWERS(GOFNJERTA_OK, gofnjerta_open(&host, &config));
+    ANSWERS(GOFNJERTA_OK, gofnjerta_set_secret(&host, key));
+    gofnjerta_peer first = drawn(&host, 1, 0xFD39 + 100, 0xC5DA, 1, 2);
+    gofnjerta_peer second = drawn(&host, 2, 0x182E + 100, 0xD9F5, 1, 2);
+    CHECK(first.slot == 0 && second.slot == 1);
+    ANSWERS(GOFNJERTA_OK, gofnjerta_disconnect_now(&host, first, 0));
+    gofnjerta_datagram gave;
+    uint8_t buffer[GOFNJERTA_ROOM];
+    while (gofnjerta_service(&host, buffer, sizeof buffer, &gave) == GOFNJERTA_OK && gave.length) {}
+    gofnjerta_peer next = drawn(&host, 3, 0xA42F + 100, 0x8051, 2, 3);
+    CHECK(next.slot == 0 && next.generation == 1);
+    ANSWERS(GOFNJERTA_OK, gofnjerta_close(&host));
+}
+
 /* A handle that holds no host, and pointers to nothing. */
 static void nothing(void) {
     gofnjerta_host host = {0};
@@ -267,7 +315,7 @@ static void nothing(void) {
     gofnjerta_reading read = {.mtu = 9};
     gofnjerta_totals totals = {.bytes_in = 9};
     uint32_t ms = 9;
-    uint8_t buffer[GOFNJERTA_ROOM];
+    uint8_t buffer[GOFNJERTA_ROOM], key[32] = {7};
 #define BOTH(call, ...) (ANSWERS(GOFNJERTA_CLOSED, gofnjerta_##call(&host, ##__VA_ARGS__)), ANSWERS(GOFNJERTA_NULL, gofnjerta_##call(NULL, ##__VA_ARGS__)))
     BOTH(connect, at_a, 2, 0, 0, &peer);
     BOTH(submit, peer, 0, 0, "x", 1);
@@ -283,6 +331,7 @@ static void nothing(void) {
     BOTH(disconnect_now, peer, 0);
     BOTH(disconnect_later, peer, 0);
     BOTH(set_bandwidth, 0, 0);
+    BOTH(set_secret, key);
     BOTH(throttle_configure, peer, 1, 2, 3);
     BOTH(set_ping_interval, peer, 1);
     BOTH(set_timeout, peer, 1, 2, 3);
@@ -308,6 +357,7 @@ static void nothing(void) {
     ANSWERS(GOFNJERTA_NULL, gofnjerta_read_peer(&host, peer, NULL));
     ANSWERS(GOFNJERTA_NULL, gofnjerta_read_totals(&host, NULL));
     ANSWERS(GOFNJERTA_NULL, gofnjerta_due_in(&host, NULL));
+    ANSWERS(GOFNJERTA_NULL, gofnjerta_set_secret(&host, NULL));
     ANSWERS(GOFNJERTA_OK, gofnjerta_due_in(&host, &ms));
     CHECK(ms == 1000); /* nothing but the sharing of the bandwidth */
     ANSWERS(GOFNJERTA_OK, gofnjerta_tick(&host, 400));
@@ -329,6 +379,7 @@ int main(void) {
     gofnjerta_peer from_a, from_b;
     names();
     settings();
+    secret();
     nothing();
     config.mtu = 1000, config.max_packet = 200000;
     ANSWERS(GOFNJERTA_OK, gofnjerta_open(&a, &config));

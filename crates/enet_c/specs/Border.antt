@@ -4,6 +4,7 @@ use Rattle.std.specs.Option.{option_and_then}
 use Rattle.std.specs.List.{list_any}
 use Rattle.enet_codec.specs.declared.address.Addr.{Addr}
 use Rattle.enet_codec.specs.declared.config.Config.{Config}
+use Rattle.enet_codec.specs.declared.config.Secret.{Secret}
 use Rattle.enet_codec.specs.declared.event.Event.{Event}
 use Rattle.enet_codec.specs.declared.event.Outward.{Outward}
 use Rattle.enet_codec.specs.declared.event.PeerRef.{PeerRef}
@@ -16,7 +17,7 @@ use Rattle.enet_slot.specs.Calls.{submission}
 use Rattle.enet_slot.specs.Sharing.{wants_room}
 use Rattle.enet_host.specs.Host.{Host}
 use Rattle.enet_host.specs.Broadcast.{SubmitsEach}
-use Rattle.enet_host.specs.Calls.{on_named, with_bandwidth, Takes}
+use Rattle.enet_host.specs.Calls.{on_named, with_bandwidth, with_secret, Takes}
 use Rattle.enet_host.specs.Foretelling.{body_of}
 use Rattle.enet_host.specs.Opening.{host_basis, Opens, Connects, opened}
 use Rattle.enet_host.specs.Receiving.{Receives}
@@ -116,6 +117,10 @@ abbrev pub SetsBandwidth : ℕ → ℕ → Crossing → Type 0
 SetsBandwidth incoming outgoing c =
     ((c.number ≡ 0) × (c.after ≡ record c.before { host = with_bandwidth c.before.host incoming outgoing }))
     ⊎ ((c.number ≡ 1) × (list_any wants_room c.before.host.slots ≡ true) × (c.after ≡ c.before))
+
+-- what peers that begin from now on draw by
+abbrev pub SetsSecret : Secret → Crossing → Type 0
+SetsSecret secret c = (c.number ≡ 0) × (c.after ≡ record c.before { host = with_secret c.before.host secret })
 
 -- a host begins with these settings, unless the handle holds one or the host is refused
 abbrev pub new_held : Host → Held

@@ -3,6 +3,7 @@ use Rattle.std.specs.Prelude.{ℕ, Option, Some, None, List, length}
 use Rattle.std.specs.Option.{option_map, option_and_then}
 use Rattle.enet_codec.specs.declared.address.Addr.{Addr}
 use Rattle.enet_codec.specs.declared.config.Config.{Config}
+use Rattle.enet_codec.specs.declared.config.Secret.{Secret}
 use Rattle.enet_codec.specs.declared.event.Event.{Event}
 use Rattle.enet_codec.specs.declared.event.Event.TheVariants as events
 use Rattle.enet_codec.specs.declared.event.PeerRef.{PeerRef}
@@ -23,6 +24,7 @@ use Rattle.enet_c.specs.declared.shapes.CoreEvent.{CoreEvent}
 use Rattle.enet_c.specs.declared.shapes.CorePeer.{CorePeer}
 use Rattle.enet_c.specs.declared.shapes.CoreReading.{CoreReading}
 use Rattle.enet_c.specs.declared.shapes.CoreReceived.{CoreReceived}
+use Rattle.enet_c.specs.declared.shapes.CoreSecret.{CoreSecret}
 use Rattle.enet_c.specs.declared.shapes.CoreTotals.{CoreTotals}
 
 abbrev pub config_shown : Config → CoreConfig
@@ -38,6 +40,7 @@ config_shown c = record {
   clock = c.clock;
 }
 
+-- a host begins without a secret
 abbrev pub config_meant : CoreConfig → Config
 config_meant c = record {
   peers = c.peers;
@@ -49,7 +52,11 @@ config_meant c = record {
   max_waiting = c.max_waiting;
   generations = c.generations;
   clock = c.clock;
+  secret = None;
 }
+
+abbrev pub secret_meant : CoreSecret → Secret
+secret_meant s = record { key = s.key }
 
 abbrev pub address_shown : Addr → CoreAddress
 address_shown a = record { ip = a.ip; port = a.port }

@@ -7,7 +7,7 @@
 //!
 //! Proved: each call is safe and returns, whatever C passes by value, and answers and leaves what the host's call of that name does, by the
 //! host's own definitions (`Crosses`); with a closed handle, each but `open` writes nothing to the caller's memory. Calls that name a peer:
-//! `Settles` and `SettlesWithMemory` (`on_named`). `connect` is `Asks` (the host's `Connects`), `receive` is `TakesIn` (`Receives`),
+//! `Settles` and `SettlesWithMemory` (`on_named`). `set_secret` is `SetsSecret` (`with_secret`). `connect` is `Asks` (the host's `Connects`), `receive` is `TakesIn` (`Receives`),
 //! `service` is `PutsOut` (`Serves`) and leaves the rest of the buffer alone, `next_event` is `Tells` (`Takes`) and keeps the body of the
 //! packet that it told, which `body` copies (`Copies`); `submit` answers 1 only where nothing else is refused, and `throttle_configure`
 //! only where the host may want memory to tell the peer (`wants_room_in`); `broadcast` is the host's `submit_each` with one packet
@@ -41,12 +41,12 @@ pub use packing::{gofnjerta_core_compress, gofnjerta_core_decompress};
 pub use readings::{gofnjerta_core_due_in, gofnjerta_core_peer, gofnjerta_core_totals_of};
 pub use settings::{
     gofnjerta_core_disconnect, gofnjerta_core_disconnect_later, gofnjerta_core_disconnect_now,
-    gofnjerta_core_set_bandwidth, gofnjerta_core_set_ping_interval, gofnjerta_core_set_timeout,
-    gofnjerta_core_throttle_configure,
+    gofnjerta_core_set_bandwidth, gofnjerta_core_set_ping_interval, gofnjerta_core_set_secret,
+    gofnjerta_core_set_timeout, gofnjerta_core_throttle_configure,
 };
 pub use shapes::{
     CoreAddress, CoreConfig, CoreDatagram, CoreEvent, CorePeer, CoreReading, CoreReceived,
-    CoreTotals,
+    CoreSecret, CoreTotals,
 };
 pub use telling::{gofnjerta_core_body, gofnjerta_core_next_event};
 pub use traffic::{

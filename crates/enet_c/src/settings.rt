@@ -6,12 +6,12 @@ ghost use Rattle.enet_slot.specs.Calls.{leaving, pinging, throttling, waiting};
 ghost use Rattle.enet_slot.specs.Sharing.{wants_room_in};
 ghost use Rattle.enet_host.specs.Calls.{on_named};
 ghost use Rattle.enet_host.specs.Host.{named};
-ghost use Rattle.enet_c.specs.Border.{Crosses, Settles, SettlesWithMemory, SetsBandwidth};
-ghost use Rattle.enet_c.specs.Shapes.{name_meant};
+ghost use Rattle.enet_c.specs.Border.{Crosses, Settles, SettlesWithMemory, SetsBandwidth, SetsSecret};
+ghost use Rattle.enet_c.specs.Shapes.{name_meant, secret_meant};
 
-use crate::numbers::{CLOSED, answer};
+use crate::numbers::{CLOSED, OK, answer};
 use crate::own::Handle;
-use crate::shapes::CorePeer;
+use crate::shapes::{CorePeer, CoreSecret};
 use std::alloc::Global;
 
 /// Disconnects: what is queued is dropped, and the event comes once the other end has acknowledged.
@@ -84,6 +84,23 @@ pub extern "C" fn gofnjerta_core_set_bandwidth(
     let done = held.host.set_bandwidth(incoming, outgoing);
     handle.put(held);
     answer(done)
+}
+
+/// Sets the secret by which peers that begin from now on draw.
+#[unsafe(no_mangle)]
+pub extern "C" fn gofnjerta_core_set_secret(
+    alloc: Global,
+    handle: &mut Handle,
+    secret: &CoreSecret,
+) -> u32
+    ensures { Crosses (SetsSecret (secret_meant secret.now)) handle.old.own.value result handle.new.own.value }
+{
+    let Some(mut held) = handle.take(alloc) else {
+        return CLOSED;
+    };
+    held.host.set_secret(secret.into_secret());
+    handle.put(held);
+    OK
 }
 
 /// Sets the throttle's interval in milliseconds, and its acceleration and deceleration in parts of 32.

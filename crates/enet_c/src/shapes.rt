@@ -1,12 +1,14 @@
 //! What goes over the border by value or into the caller's memory.
 
 ghost use Rattle.std.specs.Prelude.{◌≡◌, ◌≤◌, IfSome};
-ghost use Rattle.enet_c.specs.Shapes.{config_shown, config_meant, address_shown, address_meant, name_shown, name_meant, no_datagram, datagram_shown, no_event, event_shown, received_shown, state_number};
+ghost use Rattle.enet_c.specs.Shapes.{config_shown, config_meant, secret_meant, address_shown, address_meant, name_shown, name_meant, no_datagram, datagram_shown, no_event, event_shown, received_shown, state_number};
 
-use enet_host::{Addr, Config, Event, PeerRef, PeerState, Received};
+use enet_host::{Addr, Config, Event, PeerRef, PeerState, Received, Secret};
 use std::mem::size_of;
 
 const _: () = prove!(size_of::<CoreConfig>() == 32);
+
+const _: () = prove!(size_of::<CoreSecret>() == 32);
 
 const _: () = prove!(size_of::<CoreAddress>() == 8);
 
@@ -22,7 +24,7 @@ const _: () = prove!(size_of::<CoreReading>() == 60);
 
 const _: () = prove!(size_of::<CoreTotals>() == 32);
 
-/// The settings of a host: those of `enet_codec::Config`.
+/// The settings of a host: those of `enet_codec::Config` but its secret.
 #[repr(C)]
 #[derive(Clone, Copy)]
 pub struct CoreConfig {
@@ -35,6 +37,13 @@ pub struct CoreConfig {
     pub max_waiting: u32,
     pub generations: u32,
     pub clock: u32,
+}
+
+/// The secret of a host.
+#[repr(C)]
+#[derive(Clone, Copy)]
+pub struct CoreSecret {
+    pub key: [u8; 32],
 }
 
 /// An IPv4 address and a UDP port, both as numbers: 10.0.0.1 is 0x0A00_0001.
@@ -157,7 +166,17 @@ impl CoreConfig {
             max_waiting: self.max_waiting,
             generations: self.generations,
             clock: self.clock,
+            secret: None,
         }
+    }
+}
+
+impl CoreSecret {
+    pub(crate) fn into_secret(self) -> Secret
+        ensures { result ≡ secret_meant self }
+    {
+        let key = self.key;
+        Secret { key }
     }
 }
 

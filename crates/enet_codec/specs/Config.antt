@@ -1,5 +1,5 @@
 -- The settings of a host.
-use Rattle.std.specs.Prelude.{ℕ, Bool, ◌&&◌, nat_le}
+use Rattle.std.specs.Prelude.{ℕ, Bool, ◌&&◌, nat_le, None}
 use Rattle.enet_codec.specs.declared.config.Config.{Config}
 
 -- The numbers of `Config::standard`.
@@ -14,6 +14,7 @@ standard_config peers channels = record {
   max_waiting = 33554432;
   generations = 1000000;
   clock = 0;
+  secret = None;
 }
 
 -- Whether a number lies between two others, both included.

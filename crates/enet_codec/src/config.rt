@@ -4,12 +4,26 @@ ghost use Rattle.std.specs.Prelude.{◌≡◌};
 ghost use Rattle.enet_codec.specs.Config.{standard_config, is_in_range};
 
 use crate::limits::MAX_PEERS;
+use std::fmt;
 
 const MIN_MTU: u32 = 576;
 
 const MAX_MTU: u32 = 4096;
 
 const MAX_BYTES: u32 = 33_554_432;
+
+/// What a host draws by, so that others can't guess it: 32 bytes that the system gave, and that nobody else has. It prints as
+/// `Secret`, without its key.
+#[derive(Clone, Copy, PartialEq, Eq)]
+pub struct Secret {
+    pub key: [u8; 32],
+}
+
+impl fmt::Debug for Secret {
+    fn fmt<W: fmt::Write>(&self, f: &mut fmt::Formatter<W>) -> fmt::Result {
+        f.write_str("Secret")
+    }
+}
 
 /// The settings of a host. What opens a host answers E8 where one of the numbers is out of its range.
 #[derive(Clone, Copy, Debug, PartialEq, Eq)]
@@ -34,11 +48,14 @@ pub struct Config {
     pub generations: u32,
     /// The clock at the opening, in milliseconds.
     pub clock: u32,
+    /// By this each peer gets sent times and numbers of its own, and a slot its first session, so that who doesn't see the line can't
+    /// confirm a connection in another's name. With none all begin at 0, as in ENet: whoever knows the clock knows the sent times.
+    pub secret: Option<Secret>,
 }
 
 impl Config {
     /// The settings that serve most hosts: ENet's own mtu of 1,392 bytes, no bandwidth limits, 33,554,432 bytes each for a
-    /// packet and for what waits, 1,000,000 generations, and a clock that begins at 0. It tests nothing: what opens a host
+    /// packet and for what waits, 1,000,000 generations, a clock that begins at 0, and no secret. It tests nothing: what opens a host
     /// does.
     pub fn standard(peers: u16, channels: u8) -> Config
         ensures { result ≡ standard_config peers channels }
@@ -53,6 +70,7 @@ impl Config {
             max_waiting: MAX_BYTES,
             generations: 1_000_000,
             clock: 0,
+            secret: None,
         }
     }
 

@@ -1,4 +1,5 @@
 pub mod Words
 pub mod Inputs
 pub mod Outlets
+pub mod Versions
 pub mod Private

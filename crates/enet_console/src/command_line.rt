@@ -1,6 +1,7 @@
 //! What the program can be told.
 
 use crate::admission::{Admission, read_admission, with_admission};
+use crate::versions::version;
 use clap::error::ErrorKind;
 use clap::{Arg, ArgAction, ArgMatches, Command, Error, value_parser};
 use enet_codec::Addr;
@@ -39,6 +40,8 @@ pub struct ServeOptions {
     pub is_controlled: bool,
     /// How it meets those who come.
     pub admission: Admission,
+    /// Whether it draws by a secret of the system's, without which it doesn't serve.
+    pub has_secret: bool,
     /// Where figures are told over HTTP.
     pub metrics: Option<SocketAddrV4>,
 }
@@ -74,7 +77,7 @@ pub struct InspectOptions {
 
 /// What the program is to do.
 pub enum Task {
-    /// The help was printed, and nothing is left to do.
+    /// The help or the version was printed, and nothing is left to do.
     Nothing,
     /// To run a script of the lab.
     Lab,
@@ -93,7 +96,7 @@ pub enum Unread {
     Refused,
     /// There was no memory to read it.
     Memory,
-    /// The help couldn't be written.
+    /// The help or the version couldn't be written.
     Io,
 }
 
@@ -103,7 +106,7 @@ impl From<AllocError> for Unread {
     }
 }
 
-/// Reads the command line. `--help` is answered here.
+/// Reads the command line. `--help` and `--version` are answered here.
 pub fn read_task<R: Env + Print + Eprint + AllocGlobal>(rt: &R) -> Result<Task, Unread> {
     let words = words_of(rt)?;
     match command(rt.alloc())?.try_get_matches_from(words.as_slice()) {
@@ -123,7 +126,7 @@ fn words_of<R: Env + AllocGlobal>(rt: &R) -> Result<Vec<String>, Unread> {
 
 fn answer<R: Print + Eprint>(rt: &R, error: &Error) -> Result<Task, Unread> {
     match error.kind() {
-        ErrorKind::DisplayHelp => match error.print(rt) {
+        ErrorKind::DisplayHelp | ErrorKind::DisplayVersion => match error.print(rt) {
             Ok(()) => Ok(Task::Nothing),
             Err(_) => Err(Unread::Io),
         },
@@ -140,6 +143,7 @@ fn command<'a>(alloc: Global) -> Result<Command<'a>, AllocError> {
         .about(
             "Hosts of ENet 1.3: a lab for them, what datagrams say, a server that relays chat, and a demonstration of it",
         )
+        .version(version())
         .disable_help_subcommand(true)
         .subcommand_required(true)
         .subcommand(lab)?
@@ -167,6 +171,7 @@ fn serve_command<'a>(alloc: Global) -> Result<Command<'a>, AllocError> {
         .arg(forever(alloc)?)?
         .arg(logs(alloc))?
         .arg(threads(alloc))?
+        .arg(no_secret(alloc))?
         .arg(control(alloc)?)?
         .arg(metrics(alloc)?)?;
     with_admission(alloc, serve)
@@ -249,6 +254,15 @@ fn logs<'a>(alloc: Global) -> Arg<'a> {
     Arg::new(alloc, "log")
         .long("log")
         .help("Tell each connection, each end of one and each refused order on standard error")
+        .action(ArgAction::SetTrue)
+}
+
+fn no_secret<'a>(alloc: Global) -> Arg<'a> {
+    Arg::new(alloc, "no-secret")
+        .long("no-secret")
+        .help(
+            "Serve without a secret of the system's, as ENet does: who forges an address can then connect in its name",
+        )
         .action(ArgAction::SetTrue)
 }
 
@@ -355,6 +369,7 @@ fn serve_options(found: &ArgMatches<'_>, admission: Admission) -> Option<ServeOp
         },
         is_controlled: found.get_flag("control"),
         admission,
+        has_secret: !found.get_flag("no-secret"),
         metrics: metrics_at(found)?,
     })
 }

@@ -137,8 +137,8 @@ as_many (v ∷ vs) = ap suc (as_many vs)
 all_visits : (shown : Demonstration) (visits : List Visit) (outcomes : List (Result Visit Refusal)) → oks visits ≡ outcomes → AreOutcomes shown outcomes → AreVisits shown visits
 all_visits shown visits outcomes e are = (
   sym (as_many visits) ∙ (ap length e ∙ are.0),
-  λ k d l. subst (λ (r : Result Visit Refusal). IfOk r (Visits beginning (plan_of shown k) shown.turns)) (indexed visits k d)
-      (subst (λ (os : List (Result Visit Refusal)). IfOk (slice_index_or os k (Ok d)) (Visits beginning (plan_of shown k) shown.turns)) (sym e) ((are.1 k (Ok d) l).0)),
+  λ k d l. subst (λ (r : Result Visit Refusal). IfOk r (Visits (beginning shown.secret) (plan_of shown k) shown.turns)) (indexed visits k d)
+      (subst (λ (os : List (Result Visit Refusal)). IfOk (slice_index_or os k (Ok d)) (Visits (beginning shown.secret) (plan_of shown k) shown.turns)) (sym e) ((are.1 k (Ok d) l).0)),
 )
 
 pub all_or_fault : (shown : Demonstration) (result : Result (Vec Visit Global) Refusal) (outcomes : List (Result Visit Refusal))

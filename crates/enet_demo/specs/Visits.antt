@@ -2,6 +2,7 @@
 use Rattle.std.specs.Prelude.{◌≡◌, ◌⊎◌, ℕ, ◌+◌, ◌<◌, ◌≤◌, List, [], ◌∷◌, ◌++◌, length, Option, Some, None, is_some, slice_index_or}
 use Rattle.std.specs.List.{All}
 use Rattle.enet_codec.specs.declared.address.Addr.{Addr}
+use Rattle.enet_codec.specs.declared.config.Secret.{Secret}
 use Rattle.enet_codec.specs.declared.event.PeerRef.{PeerRef}
 use Rattle.enet_codec.specs.declared.event.Event.{Event}
 use Rattle.enet_codec.specs.declared.event.Event.TheVariants.{Connect, Receive, Disconnect, Refused}
@@ -62,10 +63,10 @@ server_of shown = or_own shown.server
 
 -- the client of this number, and how its service begins
 abbrev pub plan_of : Demonstration → ℕ → Plan
-plan_of shown number = record { number = number; server = server_of shown }
+plan_of shown number = record { number = number; server = server_of shown; secret = shown.secret }
 
-abbrev pub beginning : Service Host
-beginning = runs.beginning (record (standard_config 1 2) { generations = 4294967295 })
+abbrev pub beginning : Option Secret → Service Host
+beginning secret = runs.beginning (record (standard_config 1 2) { generations = 4294967295; secret = secret })
 
 -- A client's service took so many turns, in none of which the wire failed. The client's connection is the first that they told; they
 -- were given a front of what it asked for; and the visit tells what they told
@@ -83,7 +84,7 @@ pub record Visits (old : Service Host) (plan : Plan) (turns : ℕ) (visit : Visi
 
 -- each client's visit, from client 0 on
 abbrev pub AreVisits : Demonstration → List Visit → Type 0
-AreVisits shown visits = (length visits ≡ shown.clients) × ((k : ℕ) (d : Visit) → k < shown.clients → Visits beginning (plan_of shown k) shown.turns (slice_index_or visits k d))
+AreVisits shown visits = (length visits ≡ shown.clients) × ((k : ℕ) (d : Visit) → k < shown.clients → Visits (beginning shown.secret) (plan_of shown k) shown.turns (slice_index_or visits k d))
 
 -- how many clients there may be
 abbrev pub IsInRange : Demonstration → Type 0

@@ -64,7 +64,7 @@ pub(crate) fn visit<R>(rt: &R, guest: Guest, company: Company<'_>) -> Result<Vis
 where
     R: Threads + Wait + Clock + Sync,
     requires { guest.part.plan.number < 10 }
-    ensures visits { IfOk result (Visits beginning guest.part.plan guest.part.turns) }
+    ensures visits { IfOk result (Visits (beginning guest.part.plan.secret) guest.part.plan guest.part.turns) }
     ensures refused { IfErr result EndsRun }
 {
     let Guest { part, wire } = guest;
@@ -82,6 +82,7 @@ where
     };
     let mut config = Config::standard(1, CHANNELS);
     config.generations = u32::MAX;
+    config.secret = part.plan.secret;
     let mut bound = BoundService::open(part.alloc, wire, config)?;
     let visit = run_client(rt, &mut bound, shared, ends, part, company);
     bound.close();

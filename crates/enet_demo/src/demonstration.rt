@@ -10,7 +10,7 @@ ghost use Rattle.enet_demo.specs.Private.Playing.{AreGuests};
 use crate::client::{Guest, visit};
 use crate::orders::{CHANNELS, Plan};
 use crate::player::{Company, Visit};
-use enet_codec::{Addr, Refusal};
+use enet_codec::{Addr, Refusal, Secret};
 use enet_serve::{ChatServer, Gauge, Rules, Settings, Unwatched};
 use enet_service::{Report, RunLength};
 use std::alloc::Global;
@@ -48,6 +48,8 @@ pub struct Demonstration {
     pub turns: u32,
     /// The server that the clients visit; None where one is to be started, at port 47100 of 127.0.0.1.
     pub server: Option<Addr>,
+    /// By what the hosts and the clients' connect ids are drawn. What comes of the clients doesn't hang on it.
+    pub secret: Option<Secret>,
 }
 
 /// Runs a server, unless one is named, and clients at 127.0.0.1, whose ports the system chooses, in threads of this process, and tells
@@ -85,6 +87,7 @@ where
         mtu: MTU,
         receive_buffer: None,
         rules: Rules::none(),
+        secret: shown.secret,
     };
     // The server first: the system might choose its port for a client.
     let mut server = match ChatServer::open(rt, settings) {
@@ -134,6 +137,7 @@ fn open_guests<R: Net + AllocGlobal>(rt: &R, shown: Demonstration) -> Result<Vec
         let plan = Plan {
             number,
             server: server_of(shown),
+            secret: shown.secret,
         };
         let guest = Guest::open(rt, address(ANY_PORT), plan, u64::from(shown.turns))?;
         if guests.push(guest).is_err() {
@@ -198,7 +202,7 @@ fn visit_all<R: Threads + Wait + Clock + Sync>(
         guests,
         &|guest: Guest| -> Result<Visit, Refusal>
             requires { IsSync R.row × (guest.part.plan.number < 10) }
-            ensures { IfOk result (Visits beginning guest.part.plan guest.part.turns) × IfErr result EndsRun }
+            ensures { IfOk result (Visits (beginning guest.part.plan.secret) guest.part.plan guest.part.turns) × IfErr result EndsRun }
         {
             visit(
                 rt,

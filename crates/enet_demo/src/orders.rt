@@ -1,10 +1,13 @@
 //! What a client asks its service for.
-ghost use Rattle.std.specs.Prelude.{◌≡◌, ◌<◌, IfOk, IfErr};
+ghost use Rattle.std.specs.Prelude.{◌≡◌, ◌<◌, ◌+◌, ◌^◌, IfOk, IfErr};
 ghost use Rattle.enet_demo.specs.Plans.{chat, chats, connect, word_of};
+ghost use Rattle.rand_chacha.specs.ChaCha.{word_at, key_of};
 
 use bytes::Bytes;
-use enet_codec::{Addr, PeerRef, Refusal};
+use enet_codec::{Addr, PeerRef, Refusal, Secret};
 use enet_submit::Order;
+use rand_chacha::ChaCha20Rng;
+use rand_core::SeedableRng;
 use rand_core::utils::NextWord;
 use rand_pcg::Pcg32;
 use std::alloc::Global;
@@ -13,8 +16,11 @@ use std::collections::VecDeque;
 /// How many channels a client asks for.
 pub(crate) const CHANNELS: u8 = 2;
 
-/// Where connect ids are drawn from; each client has a stream of its own.
+/// Where connect ids are drawn from without a secret; each client has a stream of its own.
 const SEED: u64 = 0x656e_6574;
+
+/// The first key stream from which connect ids are drawn with a secret: no peer of a host draws from it or from a later one.
+const FIRST_STREAM: u64 = 1 << 63;
 
 /// A client, by its number, and where the server is.
 #[derive(Clone, Copy)]
@@ -22,13 +28,27 @@ pub(crate) struct Plan {
     /// 0 to 9.
     pub(crate) number: u8,
     pub(crate) server: Addr,
+    /// By what its connect id and its host draw.
+    pub(crate) secret: Option<Secret>,
 }
 
 /// The client's connect id.
-fn connect_id(number: u8) -> u32
-    ensures { result ≡ word_of number }
+fn connect_id(secret: Option<Secret>, number: u8) -> u32
+    ensures { result ≡ word_of secret number }
 {
-    Pcg32::new(SEED, u64::from(number)).next_word()
+    match secret {
+        Some(secret) => drawn_id(secret, number),
+        None => Pcg32::new(SEED, u64::from(number)).next_word(),
+    }
+}
+
+/// The first word of the client's key stream.
+fn drawn_id(secret: Secret, number: u8) -> u32
+    ensures { result ≡ word_at 10 (key_of secret.key) (2 ^ 63 + number) 0 }
+{
+    let mut words = ChaCha20Rng::from_seed(secret.key);
+    words.set_stream(FIRST_STREAM + u64::from(number));
+    words.next_word()
 }
 
 /// The order by which the client connects.
@@ -39,7 +59,7 @@ pub(crate) fn connect_order(plan: Plan) -> Order
         addr: plan.server,
         channels: CHANNELS,
         info: 0,
-        word: connect_id(plan.number),
+        word: connect_id(plan.secret, plan.number),
     }
 }
 

@@ -63,8 +63,8 @@ gets-staying : (come : List Unsequenced) (own : End) (p q : Peering) → own.pee
 gets-staying come own p q is h g = gets-more come [] own.events (Some p) q (inl (h.seen, h.untaken)) (with-peer come own (Some p) is g)
 
 pub into : (own other new : End) (e : Event) (come : List Unsequenced) → IsFit own → Happens own other e new → Gets come own.events own.peer → Gets (come ++ come_by e) new.events new.peer
-into own other new (Answer put offer now server limits) come f h g =
-    subst (GetsTo (come ++ [])) (sym h.4) (gets-more come [] own.events None (answering now offer server limits) (inl (refl, inl refl)) (with-peer come own None h.0 g))
+into own other new (Answer put offer now offsets server limits) come f h g =
+    subst (GetsTo (come ++ [])) (sym h.4) (gets-more come [] own.events None (answering now offsets offer server limits) (inl (refl, inl refl)) (with-peer come own None h.0 g))
 into own other new (Submit q) come f h g =
     let p : Peering = h.0 in
     subst (GetsTo (come ++ [])) (sym h.3)
@@ -86,7 +86,7 @@ into own other new (Set setting) come f h g = subst (GetsTo (come ++ [])) (sym h
 
 -- what comes was put out by the other end
 pub comes-of : (own other new : End) (e : Event) → Happens own other e new → (u : Unsequenced) → Has (come_by e) u → (x : Put) × Has other.log x × Has (carried x.message) u
-comes-of own other new (Answer put offer now server limits) h u c = absurd c
+comes-of own other new (Answer put offer now offsets server limits) h u c = absurd c
 comes-of own other new (Submit q) h u c = absurd c
 comes-of own other new (Emit now) h u c = absurd c
 comes-of own other new (Come put now sent) h u c = (let t = h.2 in (put, t.logged, c))

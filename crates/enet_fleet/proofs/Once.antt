@@ -36,7 +36,7 @@ use Rattle.law_unsequenced.proofs.Taking.{Gets}
 use Rattle.law_network.specs.Calls.{Call}
 use Rattle.law_network.specs.Calls as call
 use Rattle.law_network.specs.Headline.{received}
-use Rattle.law_network.specs.Law.{AreNamed, GoesOn, IsElsewhere, IsBetween, Faces, Begins}
+use Rattle.law_network.specs.Law.{AreNamed, time_drawn, GoesOn, IsElsewhere, IsBetween, Faces, Begins}
 use Rattle.law_network.specs.Log.{Logged, greatest_at}
 use Rattle.law_network.specs.Network.{HostEnd, Site, end_of, numbers_of}
 use Rattle.law_network.specs.Shown.{IsLogged, Shows, ShowsFar, RunsAt}
@@ -322,11 +322,11 @@ begun-track w from old new count k x qs none shown (Calls (call.Connect address 
     let at : w.count ≡ x = ap (λ (z : HostEnd). z.connection) is ∙ of in
     let y = asked w from old new address channels info word name happens (nothing-of old count w.count k (λ e h same. none e h (same ∙ at))) in
     subst (λ (z : HostEnd). Track new z qs) is (record {
-      own = (asking_pair old.host.clock y.0 (limits_of old.host.config)).one;
+      own = (asking_pair old.host.clock (time_drawn old.host.config name) y.0 (limits_of old.host.config)).one;
       shows = y.3;
-      fit = (asking-kept old.host.clock y.0 (limits_of old.host.config)).one;
+      fit = (asking-kept old.host.clock (time_drawn old.host.config name) y.0 (limits_of old.host.config)).one;
       come = [];
-      gets = gets-first (asking_pair old.host.clock y.0 (limits_of old.host.config)).one refl refl refl;
+      gets = gets-first (asking_pair old.host.clock (time_drawn old.host.config name) y.0 (limits_of old.host.config)).one refl refl refl;
       numbers = no-numbers qs;
     })
 begun-track w from old new count k x qs none shown (Calls (call.Connect address channels info word (Ok name))) happens t (inr more) of = absurd more

@@ -27,7 +27,7 @@ use Rattle.enet_deadlines.specs.Sets.{IsIn}
 use Rattle.enet_sleepers.specs.Sleeping.{Noted, KeepsSleepers}
 use Rattle.enet_sleepers.proofs.Keeping.{keeps-set}
 use Rattle.enet_slot.proofs.Shown.{length-shown}
-use Rattle.enet_slot.specs.Giving.{limits_of, unused_slot, joined_terms, joined_slots, given, offer_from, server_from, Basis, asking, answering}
+use Rattle.enet_slot.specs.Giving.{limits_of, unused_slot, joined_terms, joined_slots, given, drawn_for, offer_from, server_from, Basis, asking, answering}
 use Rattle.enet_slot.specs.declared.giving.Question.{Question}
 use Rattle.enet_slot.specs.Slot.{greatest, SlotState, with_peer, with_peer_in, with_changed, changed}
 use Rattle.enet_host.specs.Held.{AreLimited}
@@ -179,7 +179,7 @@ connects-held basis slots new question r old (no_slot some none) = old
 connects-held basis slots new question r old (no_memory i some at) = old
 connects-held basis slots new question r old (asks i s some at there) =
     set-held slots i (asking basis i s question) old
-    (given-held s question.address (peers.connecting basis.clock (offer_from basis.config i s question) (limits_of basis.config)) (λ e. absurd (cc)))
+    (given-held s question.address (peers.connecting basis.clock (drawn_for basis.config i s).offsets.time (offer_from basis.config i s question) (limits_of basis.config)) (λ e. absurd (cc)))
 
 offers-held : (basis : Basis) (slots new : List SlotState) (from : Addr) (o : Offer) (answer : Received) → HoldsNoFree slots → Offers (record { basis = basis; slots = slots }) from o answer new → HoldsNoFree new
 offers-held basis slots new from o answer old (receiving.refused why is) = old
@@ -187,7 +187,7 @@ offers-held basis slots new from o answer old (receiving.repeated is known) = ol
 offers-held basis slots new from o answer old (receiving.no_slot is known none) = old
 offers-held basis slots new from o answer old (receiving.no_memory i is known at) = old
 offers-held basis slots new from o answer old (receiving.answers i s is known at there) =
-    set-held slots i (answering basis i s from o) old (given-held s from (peers.answering basis.clock o (server_from basis.config i s) (limits_of basis.config)) (λ e. absurd (cc)))
+    set-held slots i (answering basis i s from o) old (given-held s from (peers.answering basis.clock (drawn_for basis.config i s).offsets o (server_from basis.config i s o) (limits_of basis.config)) (λ e. absurd (cc)))
 
 -- a datagram comes
 pub arrives-held : (basis : Basis) (slots new : List SlotState) (from : Addr) (bytes : List ℕ) (answer : Received) → HoldsNoFree slots → Arrives (record { basis = basis; slots = slots }) from bytes answer new → HoldsNoFree new

@@ -1,6 +1,7 @@
 -- What a user's calls make of a host.
 use Rattle.std.specs.Prelude.{◌≡◌, ℕ, Option, Some, None, Result, Ok, Err, List, length, map, slice_set}
 use Rattle.enet_codec.specs.declared.address.Addr.{Addr}
+use Rattle.enet_codec.specs.declared.config.Secret.{Secret}
 use Rattle.enet_codec.specs.declared.event.Event.{Event}
 use Rattle.enet_codec.specs.declared.event.PeerRef.{PeerRef}
 use Rattle.enet_codec.specs.declared.refusal.Refusal.{Refusal}
@@ -42,6 +43,10 @@ with_bandwidth h incoming outgoing = record h {
   config = record h.config { incoming = incoming; outgoing = outgoing };
   slots = map (changed (λ p. peers.with_bandwidth p incoming outgoing)) h.slots;
 }
+
+-- what the host draws by from now on. What peers that are there have drawn stays
+abbrev pub with_secret : Host → Secret → Host
+with_secret h secret = record h { config = record h.config { secret = Some secret } }
 
 -- the first slot in turn that has an event gave it
 pub record TakesOne (old : Host) (event : Event) (new : Host) : Type 0 where

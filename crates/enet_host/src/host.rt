@@ -10,7 +10,7 @@ ghost use Rattle.enet_slot.specs.Sharing.{wants_room};
 ghost use Rattle.enet_slot.specs.Slotted.{all_shown};
 ghost use Rattle.enet_host.specs.Serving.{Serves};
 ghost use Rattle.enet_host.specs.Ticking.{ticked, clock_after};
-ghost use Rattle.enet_host.specs.Calls.{with_bandwidth, Takes};
+ghost use Rattle.enet_host.specs.Calls.{with_bandwidth, with_secret, Takes};
 
 use crate::connecting::connect;
 use crate::emitting::emit;
@@ -19,7 +19,7 @@ use crate::receiving::receive;
 use crate::ticking::pass_time;
 use crate::totals::Totals;
 use crate::turns::slot_after;
-use enet_codec::{Addr, Config, Event, PeerRef, Received, Refusal};
+use enet_codec::{Addr, Config, Event, PeerRef, Received, Refusal, Secret};
 use enet_sleepers::Sleepers;
 use enet_slot::{Question, Slot, Start, joined_slots, set_bandwidth, unused_slots};
 use std::alloc::Global;
@@ -227,6 +227,14 @@ impl HostCore {
         self.start.config.outgoing = outgoing;
         self.sleepers.wake_held();
         Ok(())
+    }
+
+    /// Sets the host's secret (`Config::secret`): by it each peer that begins from now on gets sent times and numbers of its own. Peers
+    /// that are there stay as they are.
+    pub fn set_secret(&mut self, secret: Secret)
+        ensures { self.new ≡ with_secret self.old secret }
+    {
+        self.start.config.secret = Some(secret);
     }
 
     /// The next event of the next slot that has one: Connect first, then the packets in the order of dispatch, then Disconnect,

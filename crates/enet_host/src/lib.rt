@@ -19,6 +19,8 @@
 //!   (`SubmitsEach`).
 //! - `tick` and `set_bandwidth` are one change on each slot; once a second the outgoing bandwidth is shared out among the connected
 //!   peers. `due_in` is in how many milliseconds time brings something: a tick of fewer changes the clock alone (`IsDueIn`).
+//! - A peer begins with what its host's secret draws for it (`drawn` of `enet_slot`), as by the settings, or as by `set_secret` since
+//!   (`with_secret`).
 //! - `slot_counts` counts the slots that are free, with a generation left or without, and of the others how far their connections have
 //!   come (`Counts`).
 //! - `sent_again` counts the commands of all peers that are unacknowledged and were sent more than once.
@@ -61,7 +63,7 @@ mod totals;
 mod turns;
 
 pub use enet_codec::{
-    Addr, Config, DisconnectMode, Event, Outward, Packet, PeerRef, Received, Refusal, Stop,
+    Addr, Config, DisconnectMode, Event, Outward, Packet, PeerRef, Received, Refusal, Secret, Stop,
 };
 pub use enet_connect::Terms;
 pub use enet_peer::{Held, PeerState, RoundTrip};

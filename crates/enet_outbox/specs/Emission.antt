@@ -7,6 +7,7 @@ use Rattle.enet_codec.specs.declared.header.Header.{Header}
 use Rattle.enet_codec.specs.Header.{header_text}
 use Rattle.enet_codec.specs.Message.{IsMessage, Message, acknowledge, send_unsequenced, canonical}
 use Rattle.enet_seq.specs.Numbering.{wire}
+use Rattle.enet_rtt.specs.Clock.{told_time}
 use Rattle.enet_throttle.specs.Throttle.{is_admitted, next_counter, transit}
 use Rattle.enet_senders.specs.Controlling as controlling
 use Rattle.enet_fragment.specs.DataCommand.{message_of}
@@ -193,7 +194,7 @@ header_for now to messages = record {
   peer = to.slot;
   session = if to.slot % 4096 == 0xFFF then 0 else to.session;
   compressed = false;
-  sent = if list_any asks messages then Some (now % 65536) else None;
+  sent = if list_any asks messages then Some (told_time now to.offset) else None;
 }
 
 abbrev pub datagram : ℕ → Destination → List Message → List ℕ

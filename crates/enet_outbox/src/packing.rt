@@ -19,6 +19,7 @@ ghost use Rattle.enet_outbox.specs.Private.Packing.{header_asking, most_unused, 
 
 use crate::{Acknowledgement, Destination, Outbox, Pace, Unsequenced, lists};
 use enet_codec::{Command, Head, Header, NO_PEER, write_acknowledge, write_command, write_header};
+use enet_rtt::told_time;
 use enet_sender::{Due, Kind, Occasion};
 use enet_senders::{ControlChannel, Senders, Written};
 use enet_throttle::Throttle;
@@ -416,7 +417,7 @@ fn header_of(now: u32, to: Destination, asks: bool) -> Header
         },
         compressed: false,
         sent: if asks {
-            Some((now % 65_536) as u16)
+            Some(told_time(now, to.offset))
         } else {
             None
         },

@@ -45,6 +45,8 @@ pub struct Destination {
     pub slot: u16,
     /// The session of the datagrams that this end sends; it counts once the slot is known.
     pub session: u8,
+    /// What this end adds to its sent times, modulo 65,536.
+    pub offset: u16,
 }
 
 /// What an acknowledgement matched.

@@ -1,5 +1,5 @@
 -- The other end's DISCONNECT is acknowledged.
-use Rattle.std.proofs.Common.{◌≡◌, ℕ, ◌+◌, ◌≤◌, Bool, true, false, cond, ◌||◌, ◌&&◌, ◌==◌, List, [], ◌∷◌, ◌++◌, refl, sym, ap, subst, ◌∙◌, ◌⊎◌, inl, inr, arith, Option, Some, None, Result}
+use Rattle.std.proofs.Common.{◌≡◌, ℕ, ◌+◌, ◌≤◌, ◌%◌, ◌^◌, Bool, true, false, cond, ◌||◌, ◌&&◌, ◌==◌, List, [], ◌∷◌, ◌++◌, refl, sym, ap, subst, ◌∙◌, ◌⊎◌, inl, inr, arith, Option, Some, None, Result}
 use Rattle.std.specs.Prelude.{is_some, max, min}
 use Rattle.std.specs.List.{list_any, slice_get}
 use Rattle.enet_codec.specs.declared.command.Head.{Head}
@@ -12,6 +12,7 @@ use Rattle.enet_senders.specs.Controlling as controlling
 use Rattle.enet_sender.specs.declared.sent.Sent.{Sent}
 use Rattle.enet_sender.specs.Sender as sender
 use Rattle.enet_sender.specs.Due.{SendingEnd}
+use Rattle.enet_rtt.specs.Clock.{meant_time}
 use Rattle.enet_outbox.specs.declared.parts.Acknowledgement.{Acknowledgement}
 use Rattle.enet_outbox.specs.declared.parts.Matched.{Matched}
 use Rattle.enet_outbox.specs.declared.parts.Matched.TheVariants as matched
@@ -73,13 +74,16 @@ matched-stays o channel number = by (channel == 0xFF)
     by true = refl
     by false = on (slice_get o.senders channel)
 
-acknowledged-waits : (a : Acknowledgement) (p : Peering) (now channel number time : ℕ) → IsAnswering a p → IsAnswering a (on_acknowledge (at-end p) now channel number time)
-acknowledged-waits a p now channel number time w = by (matched_by p.outbox channel number time)
+acknowledged-waits : (a : Acknowledgement) (p : Peering) (now channel number told : ℕ) → IsAnswering a p → IsAnswering a (on_acknowledge (at-end p) now channel number told)
+acknowledged-waits a p now channel number told w = by (matched_by p.outbox channel number meant)
   where
+    meant : ℕ
+    meant = meant_time told (p.offset % 2 ^ 16)
+
     left : IsAnswering a (at-end (record p { outbox = after_acknowledgement p.outbox channel number }))
     left = (refl, w.1, matched-stays p.outbox channel number ∙ w.2)
 
-    by : (x : Matched) → IsAnswering a (on_match x (at-end p) (acknowledged (at-end p) now channel number time))
+    by : (x : Matched) → IsAnswering a (on_match x (at-end p) (acknowledged (at-end p) now channel number meant))
     by matched.Nothing = (refl, w.1, w.2)
     by matched.Data = left
     by (matched.Control what) = left

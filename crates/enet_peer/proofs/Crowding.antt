@@ -1,5 +1,5 @@
 -- Where a command is answered, fewer acknowledgements wait than may.
-use Rattle.std.proofs.Common.{◌≡◌, ℕ, ◌≤◌, Bool, true, false, cond, ◌&&◌, not, List, length, Option, Some, None, Result, Ok, Err, refl, sym, ap, subst, ◌∙◌, arith}
+use Rattle.std.proofs.Common.{◌≡◌, ℕ, ◌≤◌, ◌%◌, ◌^◌, Bool, true, false, cond, ◌&&◌, not, List, length, Option, Some, None, Result, Ok, Err, refl, sym, ap, subst, ◌∙◌, arith}
 use Rattle.std.specs.Prelude.{is_some, nat_le}
 use Rattle.std.proofs.lemmas.Bool.Decides.{nat_tests}
 use Rattle.enet_codec.specs.declared.command.Verify.{Verify}
@@ -10,6 +10,7 @@ use Rattle.enet_connect.specs.declared.terms.Terms.{Terms}
 use Rattle.enet_connect.specs.Verification.{confirmed}
 use Rattle.enet_senders.specs.declared.control.Control.{Control}
 use Rattle.enet_senders.specs.declared.control.Control.TheVariants as control
+use Rattle.enet_rtt.specs.Clock.{meant_time}
 use Rattle.enet_outbox.specs.declared.parts.Acknowledgement.{Acknowledgement}
 use Rattle.enet_outbox.specs.declared.parts.Matched.{Matched}
 use Rattle.enet_outbox.specs.declared.parts.Matched.TheVariants as matched
@@ -63,12 +64,15 @@ match-fewer (matched.Control what) p q e =
     let a : waiting (with_answer p.state what q) ≤ waiting q = answer-fewer p.state what q in
     omega arith
 
-acknowledge-fewer : (p : Peering) (now channel number time : ℕ) → waiting (on_acknowledge p now channel number time) ≤ waiting p
-acknowledge-fewer p now channel number time = by (is_connecting p.state)
+acknowledge-fewer : (p : Peering) (now channel number told : ℕ) → waiting (on_acknowledge p now channel number told) ≤ waiting p
+acknowledge-fewer p now channel number told = by (is_connecting p.state)
   where
-    by : (b : Bool) → waiting (cond b p (on_match (matched_by p.outbox channel number time) p (acknowledged p now channel number time))) ≤ waiting p
+    meant : ℕ
+    meant = meant_time told (p.offset % 2 ^ 16)
+
+    by : (b : Bool) → waiting (cond b p (on_match (matched_by p.outbox channel number meant) p (acknowledged p now channel number meant))) ≤ waiting p
     by true = omega arith
-    by false = match-fewer (matched_by p.outbox channel number time) p (acknowledged p now channel number time) (gone-same p now channel number time)
+    by false = match-fewer (matched_by p.outbox channel number meant) p (acknowledged p now channel number meant) (gone-same p now channel number meant)
 
 welcome-fewer : (p : Peering) (v : Verify) (o : Option Terms) → waiting (welcomed p v o) ≤ waiting p
 welcome-fewer p v None =

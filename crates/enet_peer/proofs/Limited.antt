@@ -1,5 +1,5 @@
 -- Whatever happens to a peer, its inbox keeps the limits with which it began.
-use Rattle.std.proofs.Common.{◌≡◌, ℕ, ◌&&◌, Bool, true, false, cond, not, List, [], ◌∷◌, length, sym, subst, Option, Some, None, Result, Ok, Err, slice_get}
+use Rattle.std.proofs.Common.{◌≡◌, ℕ, ◌%◌, ◌^◌, ◌&&◌, Bool, true, false, cond, not, List, [], ◌∷◌, length, sym, subst, Option, Some, None, Result, Ok, Err, slice_get}
 use Rattle.std.specs.Prelude.{is_some, nat_lt, nat_le}
 use Rattle.enet_codec.specs.declared.command.Head.{Head}
 use Rattle.enet_codec.specs.declared.command.Verify.{Verify}
@@ -22,6 +22,7 @@ use Rattle.enet_receiver.specs.declared.took.Took.TheVariants.{Held, Again, Outs
 use Rattle.enet_receiver.specs.Foresight.{ReceivingEnd, outcome_for}
 use Rattle.enet_inbox.specs.Inbox.{Inbox, is_full, is_full_for, given_way}
 use Rattle.enet_inbox.specs.DataEffect.{DataEffect, handled, stopped as refused, unsequenced, unsequenced_taken, by_took, sequenced, sequenced_on, passed_over, makes_room, met, arrival, arrival_of}
+use Rattle.enet_rtt.specs.Clock.{meant_time}
 use Rattle.enet_outbox.specs.declared.parts.Matched.{Matched}
 use Rattle.enet_outbox.specs.declared.parts.Matched.TheVariants as matched
 use Rattle.enet_outbox.specs.Outbox.{is_done, matched_by, lateness, with_control}
@@ -107,10 +108,11 @@ match-limited x y matched.Nothing old gone h g = h
 match-limited x y matched.Data old gone h g = settled-limited x y gone g
 match-limited x y (matched.Control what) old gone h g = settled-limited x y (with_answer old.state what gone) (answer-limited x y old.state what gone g)
 
-acknowledge-limited : (x y : ℕ) (p : Peering) (now channel number time : ℕ) → HasLimits x y p → HasLimits x y (on_acknowledge p now channel number time)
-acknowledge-limited x y p now channel number time h =
-    let gone : Peering = on_match (matched_by p.outbox channel number time) p (acknowledged p now channel number time) in
-    if-peer x y (is_connecting p.state) p gone h (match-limited x y (matched_by p.outbox channel number time) p (acknowledged p now channel number time) h h)
+acknowledge-limited : (x y : ℕ) (p : Peering) (now channel number told : ℕ) → HasLimits x y p → HasLimits x y (on_acknowledge p now channel number told)
+acknowledge-limited x y p now channel number told h =
+    let meant : ℕ = meant_time told (p.offset % 2 ^ 16) in
+    let gone : Peering = on_match (matched_by p.outbox channel number meant) p (acknowledged p now channel number meant) in
+    if-peer x y (is_connecting p.state) p gone h (match-limited x y (matched_by p.outbox channel number meant) p (acknowledged p now channel number meant) h h)
 
 welcome-limited : (x y : ℕ) (p : Peering) (v : Verify) (o : Option Terms) → HasLimits x y p → HasLimits x y (welcomed p v o)
 welcome-limited x y p v None h = unwelcomed-holds (HasLimits x y) p v h h

@@ -1,5 +1,5 @@
 -- The places of acknowledgements: where one may be queued there is one, and where one was wanted one more waits.
-use Rattle.std.proofs.Common.{◌≡◌, ℕ, ◌+◌, ◌≤◌, ◌⊎◌, inl, inr, Bool, true, false, cond, Option, Some, None, Result, Ok, Err, [], ◌∷◌, length, refl, sym, ap, subst, ◌∙◌, arith}
+use Rattle.std.proofs.Common.{◌≡◌, ℕ, ◌+◌, ◌≤◌, ◌%◌, ◌^◌, ◌⊎◌, inl, inr, Bool, true, false, cond, Option, Some, None, Result, Ok, Err, [], ◌∷◌, length, refl, sym, ap, subst, ◌∙◌, arith}
 use Rattle.std.specs.Prelude.{◌&&◌, ◌||◌, not, nat_lt, is_some, IsTrue}
 use Rattle.std.proofs.lemmas.Bool.Decides.{nat_tests}
 use Rattle.std.proofs.lemmas.List.{length-append}
@@ -10,6 +10,7 @@ use Rattle.enet_connect.specs.declared.terms.Terms.{Terms}
 use Rattle.enet_connect.specs.Verification.{confirmed}
 use Rattle.enet_senders.specs.declared.control.Control.{Control}
 use Rattle.enet_senders.specs.declared.control.Control.TheVariants as control
+use Rattle.enet_rtt.specs.Clock.{meant_time}
 use Rattle.enet_outbox.specs.declared.parts.Matched.{Matched}
 use Rattle.enet_outbox.specs.declared.parts.Matched.TheVariants as matched
 use Rattle.enet_outbox.specs.Outbox.{matched_by}
@@ -272,11 +273,11 @@ unanswered s p what now channel number time n t e w a = by-state s e w
     by-state state.Ended e w = quiet state.Ended e (ended what)
     by-state state.Parting e w = quiet state.Parting e (parting what)
 
-acknowledge_place : (p : Peering) (now channel number time n t : ℕ) → is_answered_in (on_acknowledge p now channel number time).state (acknowledge n t) ≡ true → wants_place p (acknowledge n t) ≡ true
-acknowledge_place p now channel number time n t a =
+acknowledge_place : (p : Peering) (now channel number told n t : ℕ) → is_answered_in (on_acknowledge p now channel number told).state (acknowledge n t) ≡ true → wants_place p (acknowledge n t) ≡ true
+acknowledge_place p now channel number told n t a =
     elim (acknowledge_or_not (wants_place p (acknowledge n t))) [
       | inl yes' ↦ yes'
-      | inr no' ↦ absurd (unanswered p.state p (matched_by p.outbox channel number time) now channel number time n t refl no' a)
+      | inr no' ↦ absurd (unanswered p.state p (matched_by p.outbox channel number (meant_time told (p.offset % 2 ^ 16))) now channel number (meant_time told (p.offset % 2 ^ 16)) n t refl no' a)
     ]
 
 place_for : (p : Peering) (now : ℕ) (sent : Option ℕ) (h : Rattle.enet_codec.specs.declared.command.Head.Head) (may : Bool) (body : Body) → may_be_answered sent (record { head = h; body = body }) may ≡ true

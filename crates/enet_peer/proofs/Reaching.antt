@@ -1,5 +1,5 @@
 -- Whatever happens to a peer, it keeps what every peer keeps.
-use Rattle.std.proofs.Common.{◌≡◌, ℕ, zero, suc, ◌+◌, Bool, true, false, cond, ltb, leb, ◌&&◌, not, ◌==◌, List, [], ◌∷◌, ◌++◌, map, take, length, refl, sym, ap, subst, ◌∙◌, ◌⊎◌, inl, inr, arith, Option, Some, None, Result, Ok, Err, slice_set}
+use Rattle.std.proofs.Common.{◌≡◌, ℕ, zero, suc, ◌+◌, ◌%◌, ◌^◌, Bool, true, false, cond, ltb, leb, ◌&&◌, not, ◌==◌, List, [], ◌∷◌, ◌++◌, map, take, length, refl, sym, ap, subst, ◌∙◌, ◌⊎◌, inl, inr, arith, Option, Some, None, Result, Ok, Err, slice_set}
 use Rattle.std.specs.Prelude.{is_some}
 use Rattle.std.specs.List.{slice_get, range_with_len}
 use Rattle.enet_codec.specs.declared.command.Head.{Head}
@@ -38,6 +38,7 @@ use Rattle.enet_sender.specs.declared.outgoing.Occasion.{Occasion}
 use Rattle.enet_sender.specs.Sender.{Sender, Next, next, with_skipped}
 use Rattle.enet_sender.specs.Sender as sender
 use Rattle.enet_sender.specs.Due.{SendingEnd, new_end}
+use Rattle.enet_rtt.specs.Clock.{meant_time}
 use Rattle.enet_outbox.specs.declared.parts.Acknowledgement.{Acknowledgement}
 use Rattle.enet_outbox.specs.declared.parts.Unsequenced.{Unsequenced}
 use Rattle.enet_outbox.specs.declared.parts.Matched.{Matched}
@@ -51,6 +52,7 @@ use Rattle.enet_peer.specs.Peering.{Peering, joined, connecting, answering}
 use Rattle.enet_peer.specs.declared.parts.PeerState.{PeerState}
 use Rattle.enet_peer.specs.declared.parts.PeerState.TheVariants as state
 use Rattle.enet_peer.specs.declared.parts.Limits.{Limits}
+use Rattle.enet_peer.specs.declared.parts.Offsets.{Offsets}
 use Rattle.enet_peer.specs.declared.parts.PeerEvent.{PeerEvent}
 use Rattle.enet_peer.specs.declared.parts.PeerEvent.TheVariants as event
 use Rattle.enet_peer.specs.Endings.{ended, freed, disconnecting, parting, settled, is_later, cut_off_in}
@@ -263,11 +265,14 @@ with-answer-keeps p state.Answering (control.VerifyConnect verify) h = record { 
 with-answer-keeps p state.Disconnecting (control.Disconnect info) h = ended-keeps p 0 h
 with-answer-keeps p s what h = h
 
-acknowledged-keeps : (p : Peering) (now channel number time : ℕ) → IsReachable p → IsReachable (on_acknowledge p now channel number time)
-acknowledged-keeps p now channel number time h = by-state (is_connecting p.state)
+acknowledged-keeps : (p : Peering) (now channel number told : ℕ) → IsReachable p → IsReachable (on_acknowledge p now channel number told)
+acknowledged-keeps p now channel number told h = by-state (is_connecting p.state)
   where
+    meant : ℕ
+    meant = meant_time told (p.offset % 2 ^ 16)
+
     q : Peering
-    q = sampled (record p { outbox = after_acknowledgement p.outbox channel number }) now time
+    q = sampled (record p { outbox = after_acknowledgement p.outbox channel number }) now meant
 
     a : IsReachable q
     a = matched-keeps p channel number h
@@ -277,9 +282,9 @@ acknowledged-keeps p now channel number time h = by-state (is_connecting p.state
     by matched.Data = settled-keeps q a
     by (matched.Control what) = settled-keeps (with_answer p.state what q) (with-answer-keeps q p.state what a)
 
-    by-state : (b : Bool) → IsReachable (cond b p (accepted p now channel number time))
+    by-state : (b : Bool) → IsReachable (cond b p (accepted p now channel number meant))
     by-state true = h
-    by-state false = by (matched_by p.outbox channel number time)
+    by-state false = by (matched_by p.outbox channel number meant)
 
 welcomed-keeps : (p : Peering) (v : Verify) (o : Option Terms) → IsReachable p → IsReachable (welcomed p v o)
 welcomed-keeps p v None h = unwelcomed-holds IsReachable p v h (ended-keeps p 0 h)
@@ -647,10 +652,10 @@ handed-at-first n most = at-all HandedOver (λ (channel : ℕ). receiving.new_en
 pub joined-reached : (now : ℕ) (terms : Terms) (limits : Limits) → IsReachable (joined now terms limits)
 joined-reached now terms limits = record { still = tt; waits = tt; places = places-at-first terms.channels; handed_over = handed-at-first terms.channels limits.max_packet }
 
-pub connecting-reached : (now : ℕ) (offer : Offer) (limits : Limits) → IsReachable (connecting now offer limits)
-connecting-reached now offer limits =
+pub connecting-reached : (now offset : ℕ) (offer : Offer) (limits : Limits) → IsReachable (connecting now offset offer limits)
+connecting-reached now offset offer limits =
     record { still = tt; waits = tt; places = places-at-first (asked offer).channels; handed_over = handed-at-first (asked offer).channels limits.max_packet }
 
-pub answering-reached : (now : ℕ) (offer : Offer) (server : Server) (limits : Limits) → IsReachable (answering now offer server limits)
-answering-reached now offer server limits =
+pub answering-reached : (now : ℕ) (offsets : Offsets) (offer : Offer) (server : Server) (limits : Limits) → IsReachable (answering now offsets offer server limits)
+answering-reached now offsets offer server limits =
     record { still = tt; waits = tt; places = places-at-first (granted offer server).channels; handed_over = handed-at-first (granted offer server).channels limits.max_packet }

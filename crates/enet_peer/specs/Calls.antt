@@ -64,7 +64,7 @@ abbrev pub pace_of : Peering → ℕ → Pace
 pace_of p now = record { now = now; timeout = timeout p.estimate; window = p.terms.window; mtu = max 576 (min p.terms.mtu 4096) }
 
 abbrev pub destination_of : Peering → Destination
-destination_of p = record { slot = p.terms.slot; session = p.terms.outgoing_session }
+destination_of p = record { slot = p.terms.slot; session = p.terms.outgoing_session; offset = p.offset }
 
 -- a datagram has gone, if there was one to go: the first acknowledgement that goes in AckDisconnect is that of the DISCONNECT;
 -- once its last DISCONNECT has gone a parting peer is free

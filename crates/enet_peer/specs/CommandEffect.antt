@@ -1,11 +1,11 @@
 -- What a command that comes makes of a peer.
-use Rattle.std.specs.Prelude.{◌≡◌, ℕ, ◌&&◌, ◌||◌, ◌==◌, not, Bool, true, false, if◌then◌else◌, nat_lt, length, Option, Some, None, Result, Ok, Err, is_some, ◌⊎◌}
+use Rattle.std.specs.Prelude.{◌≡◌, ℕ, ◌&&◌, ◌||◌, ◌==◌, ◌%◌, ◌^◌, not, Bool, true, false, if◌then◌else◌, nat_lt, length, Option, Some, None, Result, Ok, Err, is_some, ◌⊎◌}
 use Rattle.enet_codec.specs.declared.command.Head.{Head}
 use Rattle.enet_codec.specs.declared.command.Verify.{Verify}
 use Rattle.enet_codec.specs.declared.stop.Stop.{Stop}
 use Rattle.enet_codec.specs.declared.stop.Stop.TheVariants as stop
 use Rattle.enet_codec.specs.Message.{Message, Body, acknowledge, connect, verify_connect, disconnect, ping, send_fragment, send_unreliable_fragment, bandwidth_limit, throttle_configure}
-use Rattle.enet_rtt.specs.Clock.{sample_of}
+use Rattle.enet_rtt.specs.Clock.{sample_of, meant_time}
 use Rattle.enet_rtt.specs.Timing.{Estimate, after_sample}
 use Rattle.enet_throttle.specs.Throttle.{with_interval}
 use Rattle.enet_throttle.specs.Bandwidth.{window_size}
@@ -117,10 +117,11 @@ abbrev pub is_connecting : PeerState → Bool
 is_connecting state.Connecting = true
 is_connecting _ = false
 
--- an acknowledgement comes. At a client that waits for its server's answer none has an effect: the answer alone stands for the
--- acknowledgement of CONNECT
+-- an acknowledgement comes, with the time that it repeats. At a client that waits for its server's answer none has an effect: the answer
+-- alone stands for the acknowledgement of CONNECT
 abbrev pub on_acknowledge : Peering → ℕ → ℕ → ℕ → ℕ → Peering
-on_acknowledge p now channel number time = if is_connecting p.state then p else accepted p now channel number time
+on_acknowledge p now channel number told =
+    if is_connecting p.state then p else accepted p now channel number (meant_time told (p.offset % 2 ^ 16))
 
 -- a server's answer that isn't accepted ends the connection. One with another connect id than was asked with can't be this server's,
 -- and has no effect

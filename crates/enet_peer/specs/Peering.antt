@@ -15,6 +15,7 @@ use Rattle.enet_outbox.specs.Outbox.{Outbox, empty_outbox, with_control}
 use Rattle.enet_peer.specs.declared.parts.PeerState.{PeerState}
 use Rattle.enet_peer.specs.declared.parts.PeerState.TheVariants as state
 use Rattle.enet_peer.specs.declared.parts.Limits.{Limits}
+use Rattle.enet_peer.specs.declared.parts.Offsets.{Offsets}
 
 pub record Peering : Type 0 where
   pub state : PeerState
@@ -23,6 +24,7 @@ pub record Peering : Type 0 where
   pub terms : Terms
   pub offer : Offer  -- what the client asked for
   pub limits : Limits
+  pub offset : ℕ  -- what this end adds to its sent times, modulo 65536
   pub patience : Patience
   pub ping_interval : ℕ
   pub estimate : Estimate
@@ -52,7 +54,7 @@ no_offer = record {
 abbrev pub throttle_for : Terms → Throttling
 throttle_for t = with_interval start t.throttle_interval t.acceleration t.deceleration
 
--- a peer that is connected from the start, its number 1 of channel 0xFF counting as sent
+-- a peer that is connected from the start, its number 1 of channel 0xFF counting as sent. Nothing is added to its sent times
 abbrev pub joined : ℕ → Terms → Limits → Peering
 joined now terms limits = record {
   state = state.Connected;
@@ -61,6 +63,7 @@ joined now terms limits = record {
   terms = terms;
   offer = no_offer;
   limits = limits;
+  offset = 0;
   patience = standard_patience;
   ping_interval = 500;
   estimate = fresh;
@@ -72,19 +75,21 @@ joined now terms limits = record {
 }
 
 -- a client that asks: CONNECT is queued as number 1
-abbrev pub connecting : ℕ → Offer → Limits → Peering
-connecting now offer limits = record (joined now (asked offer) limits) {
+abbrev pub connecting : (now offset : ℕ) → Offer → Limits → Peering
+connecting now offset offer limits = record (joined now (asked offer) limits) {
   state = state.Connecting;
+  offset = offset;
   offer = offer;
   outbox = with_control (empty_outbox (asked offer).channels 0 (throttle_for (asked offer))) (control.Connect offer);
 }
 
--- a server that answers: VERIFY_CONNECT is queued as number 1
-abbrev pub answering : ℕ → Offer → Server → Limits → Peering
-answering now offer server limits = record (joined now (granted offer server) limits) {
+-- a server that answers: VERIFY_CONNECT is queued, with the number after that which is added to its numbers
+abbrev pub answering : ℕ → Offsets → Offer → Server → Limits → Peering
+answering now offsets offer server limits = record (joined now (granted offer server) limits) {
   state = state.Answering;
   is_server = true;
+  offset = offsets.time;
   info = offer.info;
   other_incoming = offer.incoming_bandwidth;
-  outbox = with_control (empty_outbox (granted offer server).channels 0 (throttle_for (granted offer server))) (control.VerifyConnect (verification_of offer server));
+  outbox = with_control (empty_outbox (granted offer server).channels offsets.number (throttle_for (granted offer server))) (control.VerifyConnect (verification_of offer server));
 }

@@ -16,7 +16,7 @@ use enet_codec::{Acknowledged, Command, Head, Stop, Verify};
 use enet_connect::confirm;
 use enet_inbox::Foreseen;
 use enet_outbox::{Acknowledgement, Matched};
-use enet_rtt::round_trip_sample;
+use enet_rtt::{meant_time, round_trip_sample};
 use enet_senders::Control;
 use enet_throttle::window_of;
 
@@ -334,14 +334,14 @@ impl Peer {
     /// An acknowledgement comes. At a client that waits for its server's answer none has an effect: the answer alone stands for
     /// the acknowledgement of CONNECT.
     #[inline(always)]
-    fn on_acknowledge(&mut self, now: u32, channel: u8, number: u16, time: u16)
-        ensures peer { self.new.peer ≡ on_acknowledge self.old.peer now channel number time }
+    fn on_acknowledge(&mut self, now: u32, channel: u8, number: u16, told: u16)
+        ensures peer { self.new.peer ≡ on_acknowledge self.old.peer now channel number told }
         ensures acknowledgement_room { self.old.acknowledgement_room ≤ self.new.acknowledgement_room }
     {
         if self.state == PeerState::Connecting {
             return;
         }
-        self.acknowledge(now, channel, number, time);
+        self.acknowledge(now, channel, number, meant_time(told, self.offset));
     }
 
     /// An acknowledgement takes away what it matches: the command of its number, where that was sent at the time that it repeats. One
@@ -364,7 +364,7 @@ impl Peer {
         }
     }
 
-    /// A round trip was measured, by the sent time that an acknowledgement repeats.
+    /// A round trip was measured, by the time at which what is acknowledged was sent.
     #[inline(always)]
     fn sample(&mut self, now: u32, time: u16)
         ensures peer { self.new.peer ≡ sampled self.old.peer now time }

@@ -11,6 +11,7 @@ ghost use Rattle.enet_connect.specs.declared.terms.Terms.{Terms};
 ghost use Rattle.enet_sender.specs.CommandChoice.{Packet};
 ghost use Rattle.enet_outbox.specs.declared.parts.Acknowledgement.{Acknowledgement};
 ghost use Rattle.enet_peer.specs.declared.parts.Limits.{Limits};
+ghost use Rattle.enet_peer.specs.declared.parts.Offsets.{Offsets};
 ghost use Rattle.enet_peer.specs.declared.parts.PeerEvent.{PeerEvent};
 ghost use Rattle.enet_peer.specs.declared.parts.PeerState.TheVariants.{Connected, DisconnectLater};
 ghost use Rattle.enet_peer.specs.Peering.{Peering, answering, connecting, joined};
@@ -24,8 +25,8 @@ ghost use Rattle.enet_peer.specs.Reachable.{Answers, IsAnswering, IsReachable, a
 /// sender at a place is that of the channel of this number. No receiver keeps what it has dispatched.
 pub fn reachable_stays()
     ensures joined { (now : ℕ) (terms : Terms) (limits : Limits) → IsReachable (joined now terms limits) }
-    ensures connecting { (now : ℕ) (offer : Offer) (limits : Limits) → IsReachable (connecting now offer limits) }
-    ensures answering { (now : ℕ) (offer : Offer) (server : Server) (limits : Limits) → IsReachable (answering now offer server limits) }
+    ensures connecting { (now offset : ℕ) (offer : Offer) (limits : Limits) → IsReachable (connecting now offset offer limits) }
+    ensures answering { (now : ℕ) (offsets : Offsets) (offer : Offer) (server : Server) (limits : Limits) → IsReachable (answering now offsets offer server limits) }
     ensures submitted { (r : Result (Unit {0}) (Refusal × List ℕ)) (p q : Peering) (channel : ℕ) (packet : Packet) → IsReachable p → Submits r p q channel packet → IsReachable q }
     ensures put_out { (now : ℕ) (len : Option ℕ) (p q : Peering) (buf : List ℕ) → IsReachable p → PutsOut now len p q buf → IsReachable q }
     ensures obeyed { (r : Result (Unit {0}) Stop) (p q : Peering) (now : ℕ) (sent : Option ℕ) (m : Message) → IsReachable p → Obeys r (wants_memory p now sent m) (obeyed p now sent m) p q → IsReachable q }

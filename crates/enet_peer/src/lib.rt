@@ -50,6 +50,6 @@ pub use datagram::{receive, what_was_put_out_comes};
 pub use heading::{read_heading, read_offer};
 pub use held::Held;
 pub use laws::{disconnect_is_answered, reachable_stays};
-pub use parts::{Limits, PeerEvent, PeerState};
+pub use parts::{Limits, Offsets, PeerEvent, PeerState};
 pub use peer::Peer;
 pub use readings::RoundTrip;

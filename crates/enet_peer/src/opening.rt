@@ -6,7 +6,7 @@ ghost use Rattle.enet_outbox.specs.Outbox.{empty_outbox};
 ghost use Rattle.enet_peer.specs.Peered.{is_agreed_in};
 ghost use Rattle.enet_peer.specs.Peering.{no_offer, throttle_for, joined, connecting, answering};
 
-use crate::{Limits, Peer, PeerState};
+use crate::{Limits, Offsets, Peer, PeerState};
 use enet_codec::{Offer, Refusal};
 use enet_connect::{Server, Terms, answer, asked_terms, verification};
 use enet_inbox::Inbox;
@@ -27,41 +27,52 @@ impl Peer {
         Peer::opened(alloc, now, PeerState::Connected, 1, terms, limits)
     }
 
-    /// A client that asks for a connection at the time `now` in milliseconds: CONNECT waits to be put out. E1 where memory is
-    /// refused.
+    /// A client that asks for a connection at the time `now` in milliseconds: CONNECT waits to be put out. It adds `offset` to its
+    /// sent times. E1 where memory is refused.
     pub fn connecting(
         alloc: Global,
         now: u32,
+        offset: u16,
         offer: Offer,
         limits: Limits,
     ) -> Result<Peer, Refusal>
-        ensures peer { IfOk result (λ p. p.peer ≡ connecting now offer limits) }
+        ensures peer { IfOk result (λ p. p.peer ≡ connecting now offset offer limits) }
         ensures memory { IfErr result (λ why. why ≡ Refusal.Memory) }
     {
         let terms = asked_terms(&offer);
         let mut peer = Peer::opened(alloc, now, PeerState::Connecting, 0, terms, limits)?;
+        peer.offset = offset;
         peer.offer = offer;
         peer.outbox.queue_control(Control::Connect(offer));
         Ok(peer)
     }
 
     /// A server that answers an offer of 1 to 255 channels at the time `now` in milliseconds: VERIFY_CONNECT waits to be put
-    /// out. E1 where memory is refused.
+    /// out, under the number after `offsets.number`. E1 where memory is refused.
     pub fn answering(
         alloc: Global,
         now: u32,
+        offsets: Offsets,
         offer: Offer,
         server: Server,
         limits: Limits,
     ) -> Result<Peer, Refusal>
         requires { IsTrue (is_channel_count offer.channels) }
-        ensures peer { IfOk result (λ p. p.peer ≡ answering now offer server limits) }
+        ensures peer { IfOk result (λ p. p.peer ≡ answering now offsets offer server limits) }
         ensures memory { IfErr result (λ why. why ≡ Refusal.Memory) }
     {
         let Some(terms) = answer(&offer, &server) else {
             unreachable!()
         };
-        let mut peer = Peer::opened(alloc, now, PeerState::Answering, 0, terms, limits)?;
+        let mut peer = Peer::opened(
+            alloc,
+            now,
+            PeerState::Answering,
+            offsets.number,
+            terms,
+            limits,
+        )?;
+        peer.offset = offsets.time;
         peer.is_server = true;
         peer.info = offer.info;
         peer.other_incoming = offer.incoming_bandwidth;
@@ -95,6 +106,7 @@ impl Peer {
             terms,
             offer: no_offer(),
             limits,
+            offset: 0,
             patience: Patience::standard(),
             ping_interval: 500,
             timing: Timing::new(),

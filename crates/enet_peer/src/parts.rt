@@ -39,6 +39,14 @@ pub struct Limits {
     pub outgoing: u32,
 }
 
+/// What a peer adds to its sent times, in milliseconds, and to its numbers on channel 0xFF, both modulo 65,536. Only who sees its
+/// datagrams knows them. The other end repeats both, and needs to know neither.
+#[derive(Clone, Copy)]
+pub struct Offsets {
+    pub time: u16,
+    pub number: u16,
+}
+
 /// What a peer tells its user.
 #[derive(Drop)]
 pub enum PeerEvent {

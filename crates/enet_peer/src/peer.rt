@@ -24,6 +24,8 @@ pub struct Peer {
     /// What the client asked for.
     pub(crate) offer: Offer,
     pub(crate) limits: Limits,
+    /// What this end adds to its sent times, modulo 65,536.
+    pub(crate) offset: u16,
     pub(crate) patience: Patience,
     pub(crate) ping_interval: u32,
     pub(crate) timing: Timing,
@@ -55,6 +57,7 @@ impl Model for Peer {
         terms = p.terms;
         offer = p.offer;
         limits = p.limits;
+        offset = p.offset;
         patience = p.patience;
         ping_interval = p.ping_interval;
         estimate = p.timing;

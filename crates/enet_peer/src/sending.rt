@@ -85,6 +85,7 @@ impl Peer {
         Destination {
             slot: self.terms.slot,
             session: self.terms.outgoing_session,
+            offset: self.offset,
         }
     }
 

@@ -4,6 +4,7 @@ use crate::failure::Failure;
 use enet_codec::Addr;
 use enet_console::DemoOptions;
 use enet_demo::Demonstration;
+use enet_service::system_secret;
 use std::net::Net;
 use std::rt::Clock;
 use std::sync::Wait;
@@ -21,6 +22,7 @@ where
         clients: options.clients,
         turns: options.turns,
         server: options.port.map(|port| Addr { ip: HERE, port }),
+        secret: system_secret(),
     };
     let visits = enet_demo::demonstrate(rt, shown)?;
     for (client, visit) in visits.iter().enumerate() {

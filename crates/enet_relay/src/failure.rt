@@ -34,6 +34,9 @@ pub enum Failure {
     /// The file to inspect can't be opened, and this is what the system says of it.
     #[error("{0}")]
     File(io::Error),
+    /// The system gives no secret to serve with.
+    #[error("the system gives no secret (getentropy failed); --no-secret serves without one")]
+    NoSecret,
     /// The system makes no second thread.
     #[error("no second thread can be made")]
     NoThread,

@@ -3,11 +3,11 @@
 use crate::failure::Failure;
 use crate::monitor::Monitor;
 use crate::watching::Operator;
-use enet_codec::Refusal;
+use enet_codec::{Refusal, Secret};
 use enet_console::{Admission, Length, ServeOptions, ServerThreads};
 use enet_metrics::{Figures, Pages};
 use enet_serve::{ChatServer, Gauge, Rules, RunLength, Settings, Unopened, Watch};
-use enet_service::Report;
+use enet_service::{Report, system_secret};
 use std::alloc::Global;
 use std::net::{Ipv4Addr, Net, SocketAddr};
 use std::rt::Clock;
@@ -32,6 +32,7 @@ where
         mtu: options.admission.mtu,
         receive_buffer: options.admission.receive_buffer,
         rules: rules_of(&options.admission),
+        secret: secret_for(options.has_secret)?,
     };
     // Where no thread can be made, a join does its parts one after the other: nothing would be relayed until the run is over.
     let wants_thread = options.threads == ServerThreads::Two || options.metrics.is_some();
@@ -44,6 +45,17 @@ where
     server.take_leave(rt);
     server.close();
     served
+}
+
+// By what its host draws, if it is to have that.
+fn secret_for(has_secret: bool) -> Result<Option<Secret>, Failure> {
+    if !has_secret {
+        return Ok(None);
+    }
+    match system_secret() {
+        Some(secret) => Ok(Some(secret)),
+        None => Err(Failure::NoSecret),
+    }
 }
 
 // Whom it lets in.

@@ -17,6 +17,18 @@ IsEarlier a b = 86400000 ≤ elapsed_time a b
 abbrev pub sample_of : ℕ → ℕ → ℕ
 sample_of now sent = max 1 ((now + 2 ^ 16 - sent) % 2 ^ 16)
 
+-- The sent time of 16 bits that a datagram tells at a moment, of a peer that adds so much to its times.
+abbrev pub told_time : ℕ → ℕ → ℕ
+told_time now offset = (now + offset) % 2 ^ 16
+
+-- What a told time stands for, of a peer that adds so much to its times.
+abbrev pub meant_time : ℕ → ℕ → ℕ
+meant_time told offset = (told + 2 ^ 16 - offset) % 2 ^ 16
+
+-- It stands for the moment at which it was told.
+abbrev pub ShowsToldTime : Type 0
+ShowsToldTime = (now offset : ℕ) → offset < 2 ^ 16 → meant_time (told_time now offset) offset ≡ now % 2 ^ 16
+
 -- For times that don't wrap, of which the clock shows the remainders: the time that has passed is shown rightly where it
 -- is less than 2^32 ms.
 abbrev pub ShowsElapsedTime : Type 0

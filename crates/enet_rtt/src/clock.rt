@@ -1,7 +1,7 @@
 //! The clock, on which a moment is earlier or later than another.
 
 ghost use Rattle.std.specs.Prelude.{◌≡◌, ◌↔◌, IsTrue};
-ghost use Rattle.enet_rtt.specs.Clock.{elapsed_time, IsEarlier, sample_of, ShowsElapsedTime, TellsEarlier};
+ghost use Rattle.enet_rtt.specs.Clock.{elapsed_time, IsEarlier, sample_of, told_time, meant_time, ShowsElapsedTime, TellsEarlier, ShowsToldTime};
 
 /// The milliseconds from the moment `since` until `now`, modulo 2^32.
 pub fn elapsed(now: u32, since: u32) -> u32
@@ -27,10 +27,27 @@ pub fn round_trip_sample(now: u32, sent: u16) -> u32
     u32::from(low.wrapping_sub(sent)).max(1)
 }
 
+/// The sent time that a datagram tells at the moment `now`, of a peer that adds `offset` to its times, modulo 65,536 (our profile).
+#[inline(always)]
+pub fn told_time(now: u32, offset: u16) -> u16
+    ensures { result ≡ told_time now offset }
+{
+    ((now % 65_536) as u16).wrapping_add(offset)
+}
+
+/// The time of 16 bits that a told one stands for, of a peer that adds `offset` to its times (our profile).
+#[inline(always)]
+pub fn meant_time(told: u16, offset: u16) -> u16
+    ensures { result ≡ meant_time told offset }
+{
+    told.wrapping_sub(offset)
+}
+
 /// A law of the definitions, over times that don't wrap and of which the clock shows the remainders modulo 2^32: it shows
 /// rightly how much time has passed, where that is less than 2^32 ms, and which of two moments is earlier, where they
-/// are less than a day apart.
+/// are less than a day apart. And a told time stands for the moment at which it was told.
 pub fn clock_is_right()
     ensures elapsed { ShowsElapsedTime }
     ensures earlier { TellsEarlier }
+    ensures told { ShowsToldTime }
 {}

@@ -12,10 +12,12 @@
 
 mod clock;
 mod expiry;
+mod send_times;
 mod timing;
 mod transmission;
 
-pub use clock::{clock_is_right, earlier, elapsed, round_trip_sample};
+pub use clock::{clock_is_right, earlier, elapsed, meant_time, round_trip_sample, told_time};
 pub use expiry::{Expiry, Patience, expired};
+pub use send_times::SendTimes;
 pub use timing::{Timing, estimate_stays_within};
 pub use transmission::Transmission;

@@ -4,6 +4,7 @@ use Rattle.std.specs.List.{position, remove}
 use Rattle.enet_codec.specs.Message.{Message, Body, connect, verify_connect, disconnect, ping, bandwidth_limit, throttle_configure, IsMessage, canonical}
 use Rattle.enet_codec.specs.Writing.{Puts}
 use Rattle.enet_seq.specs.Windows.{after, ahead}
+use Rattle.enet_rtt.specs.SendTimes.{no_sends, with_send, has_time}
 use Rattle.enet_rtt.specs.Transmission as transmission
 use Rattle.enet_rtt.specs.declared.expiry.Patience.{Patience}
 use Rattle.enet_rtt.specs.declared.expiry.Expiry.{Expiry}
@@ -61,11 +62,11 @@ message_of n = record {
 
 -- sent once more
 abbrev pub again : ℕ → SentControl → SentControl
-again now p = record p { transmission = transmission.again now p.transmission }
+again now p = record p { transmission = transmission.again now p.transmission; times = with_send now p.times }
 
 -- sent for the first time
 abbrev pub begun : ℕ → ℕ → Numbered → SentControl
-begun now timeout n = record { command = n; transmission = transmission.begun now timeout }
+begun now timeout n = record { command = n; transmission = transmission.begun now timeout; times = with_send now no_sends }
 
 -- a command goes for the first time only where its number is less than 8,192 past the oldest unacknowledged one
 abbrev pub is_in_span : List SentControl → ℕ → Bool
@@ -118,10 +119,19 @@ without_place sent (Some i) = remove sent i
 abbrev pub after_acknowledgement : Commands → ℕ → Commands
 after_acknowledgement c number = record c { sent = without_place c.sent (position_of number c.sent) }
 
+-- whether this time is that of a send of it. Of a server's answer each send counts by itself: by its acknowledgement a client is who
+-- it says it is
+abbrev pub went_as : Control → ℕ → SentControl → Bool
+went_as (control.VerifyConnect verify) time p = has_time time p.times
+went_as _ time p = transmission.went_at time p.transmission
+
+abbrev pub went_at : ℕ → SentControl → Bool
+went_at time p = went_as p.command.control time p
+
 -- what it was, where this time is that of a send of it
 abbrev pub control_of : ℕ → Option SentControl → Option Control
 control_of time None = None
-control_of time (Some p) = if transmission.went_at time p.transmission then Some p.command.control else None
+control_of time (Some p) = if went_at time p then Some p.command.control else None
 
 abbrev pub control_at : ℕ → List SentControl → Option ℕ → Option Control
 control_at time sent None = None

@@ -2,10 +2,10 @@
 
 ghost use Rattle.std.specs.Prelude.{◌≡◌, []};
 ghost use Rattle.enet_codec.specs.Message.{view, payload_of};
-ghost use Rattle.enet_senders.specs.Controlling.{is_reliable, message_of};
+ghost use Rattle.enet_senders.specs.Controlling.{is_reliable, message_of, went_at};
 
 use enet_codec::{CONTROL_CHANNEL, Command, Head, Offer, Verify};
-use enet_rtt::Transmission;
+use enet_rtt::{SendTimes, Transmission};
 
 /// What one end tells the other of the connection itself.
 #[derive(Clone, Copy)]
@@ -53,6 +53,8 @@ pub struct SentControl {
     pub command: Numbered,
     /// How it was sent so far.
     pub transmission: Transmission,
+    /// When it was sent.
+    pub times: SendTimes,
 }
 
 impl Control {
@@ -68,6 +70,24 @@ impl Control {
             | Control::Ping
             | Control::BandwidthLimit { .. }
             | Control::ThrottleConfigure { .. } => true,
+        }
+    }
+}
+
+impl SentControl {
+    /// Whether it was sent at this time of 16 bits, as an acknowledgement repeats one. Of VERIFY_CONNECT each send counts by itself (our
+    /// profile).
+    pub(crate) fn went_at(&self, time: u16) -> bool
+        ensures { result ≡ went_at time self.now }
+    {
+        match self.command.control {
+            Control::VerifyConnect(_) => self.times.contains(time),
+            Control::Connect(_)
+            | Control::Disconnect { .. }
+            | Control::DisconnectNow { .. }
+            | Control::Ping
+            | Control::BandwidthLimit { .. }
+            | Control::ThrottleConfigure { .. } => self.transmission.went_at(time),
         }
     }
 }

@@ -178,7 +178,7 @@ impl ControlChannel {
         ensures none { IfNone result (self.new ≡ self.old) }
     {
         let place = position_of(&self.sent, number)?;
-        if !self.sent[place].transmission.went_at(time) {
+        if !self.sent[place].went_at(time) {
             return None;
         }
         let sent = self.sent.remove(place)?;

@@ -15,7 +15,7 @@ ghost use Rattle.enet_senders.specs.Invariant.{KeepsRoom, room_of};
 
 use crate::{Numbered, SentControl};
 use enet_codec::write_command;
-use enet_rtt::{Expiry, Patience, Transmission};
+use enet_rtt::{Expiry, Patience, SendTimes, Transmission};
 use enet_seq::ahead;
 use std::collections::VecDeque;
 
@@ -89,7 +89,9 @@ pub fn send_again(sent: &mut VecDeque<SentControl>, place: usize, now: u32)
     ensures len { deque_len sent.new ≡ deque_len sent.old }
     ensures capacity { deque_capacity sent.new ≡ deque_capacity sent.old }
 {
-    sent[place].transmission.send_again(now);
+    let sent = &mut sent[place];
+    sent.transmission.send_again(now);
+    sent.times.add(now);
 }
 
 /// The head of the queue goes for the first time, and is kept where it is acknowledged.
@@ -115,6 +117,7 @@ pub fn send_head(
         sent.push_back_reserved(SentControl {
             command,
             transmission: Transmission::begin(now, timeout),
+            times: SendTimes::begin(now),
         });
     }
 }

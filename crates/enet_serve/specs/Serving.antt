@@ -74,7 +74,7 @@ unsettled_of server = server.kept.unsettled
 
 -- the settings of its host
 abbrev pub config_of : Settings → Config
-config_of settings = record (standard_config settings.peers settings.channels) { mtu = settings.mtu; generations = 4294967295 }
+config_of settings = record (standard_config settings.peers settings.channels) { mtu = settings.mtu; generations = 4294967295; secret = settings.secret }
 
 -- whether there are hosts with these numbers of peers and channels and this mtu
 abbrev pub is_in_range : Settings → Bool

@@ -9,7 +9,7 @@ use crate::leaving::take_leave;
 use crate::registrar::Registrar;
 use crate::threads::{Carryover, begin_alone, begin_relay, end_alone, left_or_nothing, relay_on};
 use enet_chat::{Gauge, RelayParts};
-use enet_codec::{Addr, Config, Refusal};
+use enet_codec::{Addr, Config, Refusal, Secret};
 use enet_events::Poster;
 use enet_guard::{Guarded, Register, Rules};
 use enet_host::HostCore;
@@ -43,6 +43,8 @@ pub struct Settings {
     pub receive_buffer: Option<u32>,
     /// Whom the guard in front of its host lets ask for a connection.
     pub rules: Rules,
+    /// By what its host draws (`Config::secret`); with none it goes as ENet does.
+    pub secret: Option<Secret>,
 }
 
 impl Settings {
@@ -56,6 +58,7 @@ impl Settings {
         let mut config = Config::standard(self.peers, self.channels);
         config.mtu = self.mtu;
         config.generations = u32::MAX;
+        config.secret = self.secret;
         config
     }
 }

@@ -52,7 +52,7 @@ pub use enet_host::HostCore;
 pub use enet_turn::{Core, Fault, Report, Service, run};
 pub use enet_wire::{
     Bell, MOST_LOST_PER_TURN, MOST_PER_TURN, MemoryWire, MioWire, SendOutcome, Step, Told,
-    Unopened, Wire,
+    Unopened, Wire, system_secret, system_word,
 };
 pub use queues::{Ends, Queues};
 pub use run_length::{RunLength, TURNS_AT_ONCE, is_over};

@@ -9,9 +9,11 @@ use Rattle.enet_connect.specs.declared.terms.Terms.{Terms}
 use Rattle.enet_peer.specs.declared.parts.Limits.{Limits}
 use Rattle.enet_peer.specs.Peering.{Peering}
 use Rattle.enet_peer.specs.Peering as peers
+use Rattle.enet_slot.specs.declared.drawing.Drawn.{Drawn}
 use Rattle.enet_slot.specs.declared.giving.Question.{Question}
 use Rattle.enet_slot.specs.declared.giving.Start.{Start}
 use Rattle.enet_slot.specs.Slot.{SlotState}
+use Rattle.enet_slot.specs.Drawing.{drawn, session_or_drawn}
 
 -- what a host goes by where a datagram comes or a peer begins: its settings, and its clock in milliseconds
 pub record Basis : Type 0 where
@@ -82,12 +84,16 @@ offer_from c i s question = record {
   info = question.info;
 }
 
+-- what is drawn for the next peer of slot i
+abbrev pub drawn_for : Config → ℕ → SlotState → Drawn
+drawn_for c i s = drawn c.secret i s.generation
+
 -- what a server answers an offer by from a slot
-abbrev pub server_from : Config → ℕ → SlotState → Server
-server_from c i s = record {
+abbrev pub server_from : Config → ℕ → SlotState → Offer → Server
+server_from c i s offer = record {
   slot = i;
-  incoming_session = s.incoming_session;
-  outgoing_session = s.outgoing_session;
+  incoming_session = session_or_drawn s.incoming_session offer.outgoing_session (drawn_for c i s).incoming_session;
+  outgoing_session = session_or_drawn s.outgoing_session offer.incoming_session (drawn_for c i s).outgoing_session;
   channels = c.channels;
   mtu = c.mtu;
   incoming_bandwidth = c.incoming;
@@ -97,9 +103,11 @@ server_from c i s = record {
 -- slot i once a client has asked this from it
 abbrev pub asking : Basis → ℕ → SlotState → Question → SlotState
 asking basis i s question =
-    given s question.address (peers.connecting basis.clock (offer_from basis.config i s question) (limits_of basis.config))
+    given s question.address
+    (peers.connecting basis.clock (drawn_for basis.config i s).offsets.time (offer_from basis.config i s question) (limits_of basis.config))
 
 -- slot i once a server has answered from it the offer of one at this address
 abbrev pub answering : Basis → ℕ → SlotState → Addr → Offer → SlotState
 answering basis i s from offer =
-    given s from (peers.answering basis.clock offer (server_from basis.config i s) (limits_of basis.config))
+    given s from
+    (peers.answering basis.clock (drawn_for basis.config i s).offsets offer (server_from basis.config i s offer) (limits_of basis.config))

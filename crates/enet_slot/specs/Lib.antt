@@ -1,4 +1,5 @@
 pub mod Slot
+pub mod Drawing
 pub mod Giving
 pub mod Receiving
 pub mod Holding

@@ -4,12 +4,13 @@ ghost use Rattle.std.specs.Prelude.{◌≡◌, ◌≤◌, IsTrue, OnOk, OnErr, I
 ghost use Rattle.enet_connect.specs.Terms.{is_channel_count};
 ghost use Rattle.enet_peer.specs.Peering as peers;
 ghost use Rattle.enet_slot.specs.Slot.{name_of};
-ghost use Rattle.enet_slot.specs.Giving.{basis_of, limits_of, joined_terms, offer_from, server_from, given, asking, answering};
+ghost use Rattle.enet_slot.specs.Giving.{basis_of, limits_of, joined_terms, offer_from, drawn_for, server_from, given, asking, answering};
 
 use crate::Slot;
+use crate::drawing::{Drawn, draw, session_or_drawn};
 use enet_codec::{Addr, Config, PeerRef, Refusal};
 use enet_connect::{Offer, Server, Terms};
-use enet_peer::{Limits, Peer};
+use enet_peer::{Limits, Offsets, Peer};
 use enet_throttle::window_of;
 use std::alloc::Global;
 
@@ -92,14 +93,23 @@ fn offer_from(config: &Config, number: u16, slot: &Slot, question: &Question) ->
     }
 }
 
-/// What a server answers an offer by from a slot.
-fn server_from(config: &Config, number: u16, slot: &Slot) -> Server
-    ensures { result ≡ server_from config.now number slot.now.slot }
+/// What a server answers an offer by from a slot, for whose next peer this was drawn.
+fn server_from(config: &Config, number: u16, slot: &Slot, offer: &Offer, drawn: &Drawn) -> Server
+    requires { drawn.now ≡ drawn_for config.now number slot.now.slot }
+    ensures { result ≡ server_from config.now number slot.now.slot offer.now }
 {
     Server {
         slot: number,
-        incoming_session: slot.incoming_session,
-        outgoing_session: slot.outgoing_session,
+        incoming_session: session_or_drawn(
+            slot.incoming_session,
+            offer.outgoing_session,
+            drawn.incoming_session,
+        ),
+        outgoing_session: session_or_drawn(
+            slot.outgoing_session,
+            offer.incoming_session,
+            drawn.outgoing_session,
+        ),
         channels: config.channels,
         mtu: config.mtu,
         incoming_bandwidth: config.incoming,
@@ -147,14 +157,32 @@ impl Slot {
         ensures unchanged { OnErr result (self.new.slot ≡ self.old.slot) }
         ensures memory { IfErr result (λ why. why ≡ Refusal.Memory) }
     {
-        let offer = offer_from(&start.config, number, self, &question);
-        let limits = limits_of(&start.config);
-        let peer = Peer::connecting(start.alloc, start.clock, offer, limits)?;
-        self.give(question.address, peer);
-        Ok(PeerRef {
+        let name = PeerRef {
             slot: number,
             generation: self.generation,
-        })
+        };
+        let drawn = draw(start.config.secret, number, name.generation);
+        self.ask_with(start, number, question, drawn.offsets.time)?;
+        Ok(name)
+    }
+
+    /// The same for a peer that adds this to its sent times.
+    fn ask_with(
+        &mut self,
+        start: &Start,
+        number: u16,
+        question: Question,
+        offset: u16,
+    ) -> Result<(), Refusal>
+        ensures asks { OnOk result (self.new.slot ≡ given self.old.slot question.address (peers.connecting start.now.clock offset (offer_from start.now.config number self.old.slot question) (limits_of start.now.config))) }
+        ensures unchanged { OnErr result (self.new.slot ≡ self.old.slot) }
+        ensures memory { IfErr result (λ why. why ≡ Refusal.Memory) }
+    {
+        let offer = offer_from(&start.config, number, self, &question);
+        let limits = limits_of(&start.config);
+        let peer = Peer::connecting(start.alloc, start.clock, offset, offer, limits)?;
+        self.give(question.address, peer);
+        Ok(())
     }
 
     /// Gives the slot of this number to a peer at this address, whose offer it answers. E1 where memory is refused, with
@@ -171,9 +199,27 @@ impl Slot {
         ensures unchanged { OnErr result (self.new.slot ≡ self.old.slot) }
         ensures memory { IfErr result (λ why. why ≡ Refusal.Memory) }
     {
-        let server = server_from(&start.config, number, self);
+        let drawn = draw(start.config.secret, number, self.generation);
+        let server = server_from(&start.config, number, self, &offer, &drawn);
+        self.answer_with(start, from, offer, server, drawn.offsets)
+    }
+
+    /// The same as this server, for a peer that adds these to what it tells.
+    fn answer_with(
+        &mut self,
+        start: &Start,
+        from: Addr,
+        offer: Offer,
+        server: Server,
+        offsets: Offsets,
+    ) -> Result<(), Refusal>
+        requires { IsTrue (is_channel_count offer.channels) }
+        ensures answers { OnOk result (self.new.slot ≡ given self.old.slot from (peers.answering start.now.clock offsets offer server (limits_of start.now.config))) }
+        ensures unchanged { OnErr result (self.new.slot ≡ self.old.slot) }
+        ensures memory { IfErr result (λ why. why ≡ Refusal.Memory) }
+    {
         let limits = limits_of(&start.config);
-        let peer = Peer::answering(start.alloc, start.clock, offer, server, limits)?;
+        let peer = Peer::answering(start.alloc, start.clock, offsets, offer, server, limits)?;
         self.give(from, peer);
         Ok(())
     }

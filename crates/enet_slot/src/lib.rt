@@ -3,11 +3,11 @@
 //! Proved, each call exactly by small definitions over a slot (`SlotState`): what a user's call does is that call of its peer
 //! (`on_peer`), with E2 where the slot is free; `receive` and `emit` are its peer's (`PeerReceives`, `PeerEmits`, `Passes`), and so is `take`
 //! (`GivesEvent`). After each of them a slot whose peer is free gives it up: it keeps the sessions of the connection that it had,
-//! and has the next generation (`vacated`). `ask` and `answer` give it to a peer (`asking`, `answering`). The tests of `refused_by`, in
-//! their order, say which datagrams it takes in, and `is_available` says whether it can be given out. A slot of which `only_waits`
-//! answers true has nothing that goes and nothing to tell (`Waits`). `tick` is its peer's (`changed`), and `due_in` says in how many
-//! milliseconds that brings something. `held` is what its peer holds of what the other end sent (`held_in`), within `most_in`. Want of
-//! memory changes nothing.
+//! and has the next generation (`vacated`). `ask` and `answer` give it to a peer (`asking`, `answering`), which begins with what the
+//! host's secret draws for it (`drawn`). The tests of `refused_by`, in their order, say which datagrams it takes in, and `is_available`
+//! says whether it can be given out. A slot of which `only_waits` answers true has nothing that goes and nothing to tell (`Waits`). `tick`
+//! is its peer's (`changed`), and `due_in` says in how many milliseconds that brings something. `held` is what its peer holds of what the
+//! other end sent (`held_in`), within `most_in`. Want of memory changes nothing.
 //! Over all slots of a host: `unused_slots` and `joined_slots` make them, `any_is_connection` looks for a connection,
 //! `set_bandwidth` (`changed`) and `share_out` (`shared`) are one change on each, and `count_slots` says how many are free and how far the
 //! others have come (`Counts`). Where an offer is to go is said (`IsSeat`), and found by `enet_sleepers`.
@@ -17,6 +17,7 @@
 mod all;
 mod calls;
 mod counting;
+mod drawing;
 mod emitting;
 mod events;
 mod giving;

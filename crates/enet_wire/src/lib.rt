@@ -1,4 +1,5 @@
-//! The network as a service sees it: the trait [`Wire`], a wire in memory, and a UDP socket with a bell that ends its wait.
+//! The network as a service sees it: the trait [`Wire`], a wire in memory, and a UDP socket with a bell that ends its wait; and secrets and
+//! connect ids that the system draws.
 //!
 //! Proved: each wire counts its faults exactly, E14 comes exactly where the count rises, a spent wire does nothing, and each wire tells its
 //! calls, truly: one in memory in a list, a socket in a [`Journal`], which clauses alone read. No wire gives a datagram from port 0, since
@@ -10,10 +11,12 @@
 //! milliseconds add up, and that an address that is taken is E14, with what the system says; by `check_service`, that a wire in memory isn't
 //! starved where there is memory; by scripts/check-clients.sh: a reception that fails once.
 //! Neither: that a bell wakes a thread, whether the service is idle or expects orders, how long a wait takes, when a datagram comes, how
-//! many datagrams the system keeps, which of its errors are faults, and that `reason` is that of the last fault.
+//! many datagrams the system keeps, which of its errors are faults, that `reason` is that of the last fault, and that nobody else knows what
+//! [`system_secret`] and [`system_word`] got of the system.
 #![tactic(auto)]
 
 mod bell;
+mod drawn;
 mod journal;
 mod journaled;
 mod memory;
@@ -22,6 +25,7 @@ mod told;
 mod wire;
 
 pub use bell::Bell;
+pub use drawn::{system_secret, system_word};
 pub use journal::{Journal, Note};
 pub use memory::MemoryWire;
 pub use socket::{MioWire, Unopened};

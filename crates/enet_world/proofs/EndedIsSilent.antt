@@ -1,5 +1,5 @@
 -- A peer that has ended has nothing to put out, whatever happens.
-use Rattle.std.proofs.Common.{◌≡◌, ◌≢◌, ℕ, zero, suc, ◌&&◌, Bool, true, false, cond, List, [], ◌∷◌, length, map, refl, sym, ap, subst, ◌∙◌, Option, Some, None, is_some, nat_lt, leb, not}
+use Rattle.std.proofs.Common.{◌≡◌, ◌≢◌, ℕ, zero, suc, ◌%◌, ◌^◌, ◌&&◌, Bool, true, false, cond, List, [], ◌∷◌, length, map, refl, sym, ap, subst, ◌∙◌, Option, Some, None, is_some, nat_lt, leb, not}
 use Rattle.std.specs.List.{position, slice_get}
 use Rattle.enet_codec.specs.declared.command.Verify.{Verify}
 use Rattle.enet_codec.specs.declared.event.PeerRef.{PeerRef}
@@ -7,7 +7,7 @@ use Rattle.enet_codec.specs.declared.refusal.Refusal.{Refusal}
 use Rattle.enet_codec.specs.declared.refusal.Refusal.TheVariants.{NotConnected}
 use Rattle.enet_codec.specs.declared.stop.Stop.TheVariants as stop
 use Rattle.enet_codec.specs.Message.{Message}
-use Rattle.enet_rtt.specs.Clock.{elapsed_time}
+use Rattle.enet_rtt.specs.Clock.{elapsed_time, meant_time}
 use Rattle.enet_rtt.specs.declared.expiry.Expiry.{Expiry}
 use Rattle.enet_rtt.specs.declared.expiry.Expiry.TheVariants.{No, Resend, End}
 use Rattle.enet_connect.specs.declared.terms.Terms.{Terms}
@@ -123,9 +123,12 @@ silent-answer p state.Disconnecting (control.Disconnect info) h = silent-ended p
 silent-answer p s what h = h
 
 -- a command comes to a peer that hasn't ended
-silent-acknowledge : (p : Peering) (now channel number time : ℕ) → p.state ≢ state.Ended → IsSilent (on_acknowledge p now channel number time)
-silent-acknowledge p now channel number time n = by-state (is_connecting p.state)
+silent-acknowledge : (p : Peering) (now channel number told : ℕ) → p.state ≢ state.Ended → IsSilent (on_acknowledge p now channel number told)
+silent-acknowledge p now channel number told n = by-state (is_connecting p.state)
   where
+    time : ℕ
+    time = meant_time told (p.offset % 2 ^ 16)
+
     q : Peering
     q = sampled (record p { outbox = after_acknowledgement p.outbox channel number }) now time
 

@@ -1,6 +1,6 @@
 -- What rounds in which the network loses nothing are to the two ends of a connection: rounds of the law of progress, or one of them is past
 -- its connection.
-use Rattle.std.proofs.Common.{◌≡◌, ◌≢◌, ◌<◌, ◌%◌, ◌⊎◌, ℕ, zero, suc, ◌+◌, Bool, true, false, cond, List, [], ◌∷◌, ◌++◌, append-nil, length, refl, sym, ap, subst, ◌∙◌, inl, inr, arith, Option, Some, None, Result, Ok, Err, is_some}
+use Rattle.std.proofs.Common.{◌≡◌, ◌≢◌, ◌<◌, ◌⊎◌, ℕ, zero, suc, ◌+◌, Bool, true, false, cond, List, [], ◌∷◌, ◌++◌, append-nil, length, refl, sym, ap, subst, ◌∙◌, inl, inr, arith, Option, Some, None, Result, Ok, Err, is_some}
 use Rattle.std.proofs.lemmas.Option.{slice_get_within}
 use Rattle.std.specs.List.{slice_get}
 use Rattle.enet_codec.specs.declared.address.Addr.{Addr}
@@ -16,10 +16,12 @@ use Rattle.enet_peer.specs.declared.parts.PeerState.TheVariants as state
 use Rattle.enet_peer.specs.Peering.{Peering}
 use Rattle.enet_peer.specs.Calls.{pace_of, next_event, event_after, packet_event}
 use Rattle.enet_peer.specs.Calls as peers
+use Rattle.enet_rtt.specs.Clock.{told_time}
 use Rattle.enet_slot.specs.Calls.{peer_tells}
 use Rattle.enet_host.specs.Host.{named}
 use Rattle.enet_host.specs.Ticking.{clock_after}
 use Rattle.law_connection.specs.Connection.{Put, End}
+use Rattle.law_connection.specs.Law.{offset_of}
 use Rattle.law_connection.specs.LinkSteps.{Has}
 use Rattle.law_connection.specs.Steps.{Emit, Happens}
 use Rattle.law_connection.specs.Steps as event
@@ -193,7 +195,7 @@ pub record IsOwn (now x : ℕ) (own far new : End) (d : Logged) : Type 0 where
   pub is : IsLogged new.log d
   pub goes : Happens own far (Emit now) new
   pub all : new.log ≡ own.log ++ is.puts
-  pub sent : (y : Put) → Has is.puts y → y.message.head.acknowledge ≡ true → is.header.sent ≡ Some (now % 65536)
+  pub sent : (y : Put) → Has is.puts y → y.message.head.acknowledge ≡ true → is.header.sent ≡ Some (told_time now (offset_of own))
 
 -- a side put out datagram k: what became of the end there
 pub record PutsOut (joined : Bool) (v : World) (x : ℕ) (side : Side) (now : ℕ) (own far : End) (k : ℕ) : Type 0 where
@@ -348,11 +350,11 @@ brought joined b v x side now own far p k received o r h none is plain lone q is
         (far-end j b x (other side) far o.new s ends) (live far q is_q on_q) g.is (g.of ∙ sym ends.of_e) slot.0 slot.1 none in
         let m : Moved v x (other side) o.new (λ end. AllObeyed there g.is.header.sent g.is.puts far o.new end) =
         moved b v x (other side) far o.new (Delivers k received) (λ end. AllObeyed there g.is.header.sent g.is.puts far o.new end) ends h shown in
-        let came = all-come there (now % 65536) g.is.header.sent g.is.puts o.new far m.0 g.sent (puts-none-ends now own far o.new p g.is.puts is lone g.goes g.all) m.2 (q, is_q, on_q) in (
+        let came = all-come there (told_time now (offset_of own)) g.is.header.sent g.is.puts o.new far m.0 g.sent (puts-none-ends now own far o.new p g.is.puts is lone g.goes g.all) m.2 (q, is_q, on_q) in (
           1,
           o.new,
           m.0,
-          done m.0 m.1 (all-joint (j x) there (now % 65536) o.new g.is.puts far m.0 came.0 o.joint) came.1,
+          done m.0 m.1 (all-joint (j x) there (told_time now (offset_of own)) o.new g.is.puts far m.0 came.0 o.joint) came.1,
           one-put now there own far o.new m.0 (record { goes = g.goes; new = g.is.puts; logged = g.all; arrived = m.0; come = came.0; events = 0; takes = refl {a = m.0} }),
         )
 

@@ -66,7 +66,7 @@ held : (P : Peering → Type 0) (new after : End) (q : Peering) → new ≡ afte
 held P new after q same is h = (q, ap (λ (e : End). e.peer) same ∙ is, h)
 
 pub lasts-event : (P : Peering → Type 0) → Lasts P → (own other new : End) (e : Event) → Happens own other e new → Holds P own → Holds P new
-lasts-event P k own other new (event.Answer put offer now server limits) x h = absurd (let z : ◌≡◌ {A = Option Peering} None (Some h.0) = sym x.0 ∙ h.1 in cc)
+lasts-event P k own other new (event.Answer put offer now offsets server limits) x h = absurd (let z : ◌≡◌ {A = Option Peering} None (Some h.0) = sym x.0 ∙ h.1 in cc)
 lasts-event P k own other new (event.Submit q) x h =
     held P new (event.with_submission own x.0 q) (submitted x.0 q.channel (record { flags = q.flags; body = q.body })) x.3 refl (k.submits x.0 q.channel (record { flags = q.flags; body = q.body }) x.2 (holds-here P own x.0 x.1 h))
 lasts-event P k own other new (event.Emit now) x h = held P new (event.with_emission own other x.0 now) (emitted x.0 now) x.2 refl (k.emits x.0 now (holds-here P own x.0 x.1 h))

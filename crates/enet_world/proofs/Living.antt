@@ -12,7 +12,7 @@ use Rattle.enet_peer.specs.Peering.{Peering}
 use Rattle.enet_peer.specs.Peering as peers
 use Rattle.enet_peer.specs.Calls.{pace_of, is_connected}
 use Rattle.enet_slot.specs.declared.giving.Question.{Question}
-use Rattle.enet_slot.specs.Giving.{limits_of, joined_terms, offer_from, server_from}
+use Rattle.enet_slot.specs.Giving.{limits_of, joined_terms, offer_from, drawn_for, server_from}
 use Rattle.enet_slot.specs.Slot.{SlotState}
 use Rattle.enet_host.specs.Host.{Host, named}
 use Rattle.enet_host.specs.Opening as opening
@@ -45,8 +45,8 @@ use Rattle.enet_world.proofs.Offers.{AsksAlone, asks-lasts, none-asks, asking-as
 -- each beginning of a peer has it
 pub record Starts (P : Peering → Type 0) : Type 0 where
   pub joined : (c : Config) → c.mtu ≤ 4096 → P (peers.joined c.clock (joined_terms c) (limits_of c))
-  pub asks : (c : Config) (now i : ℕ) (s : SlotState) (question : Question) → c.mtu ≤ 4096 → P (peers.connecting now (offer_from c i s question) (limits_of c))
-  pub answers : (c : Config) (now i : ℕ) (s : SlotState) (o : Offer) → P (peers.answering now o (server_from c i s) (limits_of c))
+  pub asks : (c : Config) (now i : ℕ) (s : SlotState) (question : Question) → c.mtu ≤ 4096 → P (peers.connecting now (drawn_for c i s).offsets.time (offer_from c i s question) (limits_of c))
+  pub answers : (c : Config) (now i : ℕ) (s : SlotState) (o : Offer) → P (peers.answering now (drawn_for c i s).offsets o (server_from c i s o) (limits_of c))
 
 given : (P : Peering → Type 0) → Starts P → (c : Call) (h : Host) (i : ℕ) (s t : SlotState) (p : Peering) → h.config.mtu ≤ 4096 → falling.Begins c (common_of h) i s t → t.peer ≡ Some p → P p
 given P k c h i s t p low (falling.asks address channels info word is some free) has =
@@ -129,14 +129,14 @@ fits-lasts = record {
 pub named-fits : (joined : Bool) (w : World) → IsReached joined w → (side : Side) (name : PeerRef) (p : Peering) → named (site_of w side).host.slots name ≡ Some p → Fits p
 named-fits = named-has Fits fits-lasts (record {
   joined = λ c low. joined-fits c.clock (joined_terms c) (limits_of c) low;
-  asks = λ c now i s question low. asking-fits now (offer_from c i s question) (limits_of c) low;
-  answers = λ c now i s o. answering-fits now o (server_from c i s) (limits_of c);
+  asks = λ c now i s question low. asking-fits now (drawn_for c i s).offsets.time (offer_from c i s question) (limits_of c) low;
+  answers = λ c now i s o. answering-fits now (drawn_for c i s).offsets o (server_from c i s o) (limits_of c);
 })
 
 -- ---- a CONNECT is a client's
 pub named-asks : (joined : Bool) (w : World) → IsReached joined w → (side : Side) (name : PeerRef) (p : Peering) → named (site_of w side).host.slots name ≡ Some p → AsksAlone p
 named-asks = named-has AsksAlone asks-lasts (record {
   joined = λ c low. none-asks (peers.joined c.clock (joined_terms c) (limits_of c)) refl refl;
-  asks = λ c now i s question low. asking-asks (peers.connecting now (offer_from c i s question) (limits_of c)) refl;
-  answers = λ c now i s o. answering-asks (peers.answering now o (server_from c i s) (limits_of c)) _ refl refl refl;
+  asks = λ c now i s question low. asking-asks (peers.connecting now (drawn_for c i s).offsets.time (offer_from c i s question) (limits_of c)) refl;
+  answers = λ c now i s o. answering-asks (peers.answering now (drawn_for c i s).offsets o (server_from c i s o) (limits_of c)) _ refl refl refl;
 })

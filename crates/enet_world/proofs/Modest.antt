@@ -1,12 +1,12 @@
 -- What a peer of which nothing is set has to send on channel 0xFF, whatever happens: while the connection stands at most one PING, and while a
 -- server awaits the client at most one command.
-use Rattle.std.proofs.Common.{◌≡◌, ℕ, ◌&&◌, leb, Bool, true, false, cond, length, refl, ap, subst, Option, Some, None, nat_lt}
+use Rattle.std.proofs.Common.{◌≡◌, ℕ, ◌%◌, ◌^◌, ◌&&◌, leb, Bool, true, false, cond, length, refl, ap, subst, Option, Some, None, nat_lt}
 use Rattle.std.specs.List.{slice_get, list_all}
 use Rattle.enet_codec.specs.Message.{Message}
 use Rattle.enet_codec.specs.declared.command.Verify.{Verify}
 use Rattle.enet_connect.specs.declared.terms.Terms.{Terms}
 use Rattle.enet_connect.specs.Verification.{confirmed}
-use Rattle.enet_rtt.specs.Clock.{elapsed_time}
+use Rattle.enet_rtt.specs.Clock.{elapsed_time, meant_time}
 use Rattle.enet_rtt.specs.declared.expiry.Expiry.{Expiry}
 use Rattle.enet_rtt.specs.declared.expiry.Expiry.TheVariants.{No, Resend, End as Ends}
 use Rattle.enet_senders.specs.declared.control.Control.TheVariants as control
@@ -87,9 +87,12 @@ meets-answering p now sent m h = obeys-each IsModest old now sent m (record {
     old : Peering
     old = record p { state = state.Answering }
 
-    gone : (channel number time : ℕ) → IsModest (on_acknowledge old now channel number time)
-    gone channel number time = go (matched_by p.outbox channel number time) refl
+    gone : (channel number told : ℕ) → IsModest (on_acknowledge old now channel number told)
+    gone channel number told = go (matched_by p.outbox channel number time) refl
       where
+        time : ℕ
+        time = meant_time told (p.offset % 2 ^ 16)
+
         less : IsLone is_any (outbox.after_acknowledgement p.outbox channel number).control
         less = acknowledged-lone is_any p.outbox channel number h
 

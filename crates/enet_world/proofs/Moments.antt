@@ -52,6 +52,7 @@ outlasts p now is controls channels =
 pub record Waited (now : ℕ) (p q : Peering) : Type 0 where
   pub state : q.state ≡ p.state
   pub heard : q.heard ≡ p.heard
+  pub offset : q.offset ≡ p.offset
   pub acknowledgements : q.outbox.acknowledgements ≡ p.outbox.acknowledgements
   pub controls : (t : SentControl) → Has q.outbox.control.sent t → (bound : ℕ) × (x : SentControl) × Has p.outbox.control.sent x × (controlling.marked bound now x ≡ t)
   pub channels : (channel : ℕ) (t : Sent) → HasSent q.outbox.senders channel t → (bound : ℕ) × (x : Sent) × HasSent p.outbox.senders channel x × (sender.marked bound now x ≡ t)
@@ -60,7 +61,7 @@ waited-pinged : (p q : Peering) (now : ℕ) → Waited now p q → Waited now p 
 waited-pinged p q now k = by (is_pinged q now)
   where
     by : (b : Bool) → Waited now p (cond b (record q { outbox = with_control q.outbox control.Ping }) q)
-    by true = record { state = k.state; heard = k.heard; acknowledgements = k.acknowledgements; controls = k.controls; channels = k.channels }
+    by true = record { state = k.state; heard = k.heard; offset = k.offset; acknowledgements = k.acknowledgements; controls = k.controls; channels = k.channels }
     by false = k
 
 sent-marked : (bound now : ℕ) (xs : List SendingEnd) (channel : ℕ) (t : Sent) → HasSent (map (marked_sender bound now) xs) channel t → (x : Sent) × HasSent xs channel x × (sender.marked bound now x ≡ t)
@@ -85,6 +86,7 @@ waited p now lasts = subst (λ (x : Peering). Waited now p x) (sym is) (by (has_
     by true f = waited-pinged p (record p { outbox = outbox.marked p.outbox (growth_bound p) now }) now (record {
       state = refl;
       heard = refl;
+      offset = refl;
       acknowledgements = refl;
       controls = λ t h. (let k = Has-mapped (controlling.marked (growth_bound p) now) p.outbox.control.sent t h in (growth_bound p, k.0, k.1, k.2));
       channels = λ channel t h. (let k = sent-marked (growth_bound p) now p.outbox.senders channel t h in (growth_bound p, k.0, k.1, k.2));
@@ -92,6 +94,7 @@ waited p now lasts = subst (λ (x : Peering). Waited now p x) (sym is) (by (has_
     by false f = (let both = or-both (list_any (controlling.is_late now) p.outbox.control.sent) _ f in waited-pinged p p now (record {
       state = refl;
       heard = refl;
+      offset = refl;
       acknowledgements = refl;
       controls = λ t h. (0, t, h, ap (λ (y : Transmission). record t { transmission = y }) (unmarked now t.transmission (none-of (controlling.is_late now) p.outbox.control.sent t both.0 h)));
       channels = λ channel t h. (
@@ -105,7 +108,7 @@ waited p now lasts = subst (λ (x : Peering). Waited now p x) (sym is) (by (has_
 
 -- nor does it matter that its throttle is limited
 pub waited-limited : (p q : Peering) (now limit : ℕ) → Waited now p q → Waited now p (with_throttle_limit q limit)
-waited-limited p q now limit k = record { state = k.state; heard = k.heard; acknowledgements = k.acknowledgements; controls = k.controls; channels = k.channels }
+waited-limited p q now limit k = record { state = k.state; heard = k.heard; offset = k.offset; acknowledgements = k.acknowledgements; controls = k.controls; channels = k.channels }
 
 -- what holds of both ends together holds on
 pub ticks-joint : (joined : Bool) (now : ℕ) (own other new : End) → Ticks now own other new → Joint joined own other → Joint joined new other

@@ -1,9 +1,10 @@
 -- A PING that goes where nothing is lost is acknowledged, as what goes on the channels is; and what a peer that stays connected keeps meanwhile.
-use Rattle.std.proofs.Common.{◌≡◌, ℕ, zero, suc, ◌+◌, ◌&&◌, ◌==◌, not, Bool, true, false, cond, List, [], ◌∷◌, length, map, refl, sym, ap, subst, ◌∙◌, inl, inr, ◌⊎◌, arith, Option, Some, None}
+use Rattle.std.proofs.Common.{◌≡◌, ℕ, zero, suc, ◌+◌, ◌%◌, ◌^◌, ◌&&◌, ◌==◌, not, Bool, true, false, cond, List, [], ◌∷◌, length, map, refl, sym, ap, subst, ◌∙◌, inl, inr, ◌⊎◌, arith, Option, Some, None}
 use Rattle.std.proofs.lemmas.Bool.Decides.{nat_tests}
 use Rattle.enet_codec.specs.Message.{Message}
 use Rattle.enet_codec.specs.declared.stop.Stop.{Stop}
 use Rattle.enet_codec.specs.declared.stop.Stop.TheVariants as stop
+use Rattle.enet_rtt.specs.Clock.{meant_time}
 use Rattle.enet_rtt.specs.Transmission.{went_at}
 use Rattle.enet_senders.specs.Controlling as controlling
 use Rattle.enet_senders.specs.declared.control.Control.{Control}
@@ -37,12 +38,13 @@ use Rattle.enet_world.proofs.Pings.{IsLone, Idle, Queued, Sent, is_ping, Meets, 
 pub record Leaves (now : ℕ) (p q : Peering) : Type 0 where
   pub controls : (t : SentControl) → Has q.outbox.control.sent t → Has p.outbox.control.sent t
   pub heard : (q.heard ≡ p.heard) ⊎ (q.heard ≡ now)
+  pub offset : q.offset ≡ p.offset
 
 leaves-self : (now : ℕ) (p : Peering) → Leaves now p p
-leaves-self now p = record { controls = λ t h. h; heard = inl refl }
+leaves-self now p = record { controls = λ t h. h; heard = inl refl; offset = refl }
 
 pub leaves-then : (now : ℕ) (p q r : Peering) → Leaves now p q → Leaves now q r → Leaves now p r
-leaves-then now p q r a b = record { controls = λ t h. a.controls t (b.controls t h); heard = by b.heard }
+leaves-then now p q r a b = record { controls = λ t h. a.controls t (b.controls t h); heard = by b.heard; offset = b.offset ∙ a.offset }
   where
     by : (r.heard ≡ q.heard) ⊎ (r.heard ≡ now) → (r.heard ≡ p.heard) ⊎ (r.heard ≡ now)
     by (inr e) = inr e
@@ -51,17 +53,17 @@ leaves-then now p q r a b = record { controls = λ t h. a.controls t (b.controls
 meets-leaves : (now : ℕ) (m : Message) (p : Peering) → Meets (Leaves now p) now m p
 meets-leaves now m p = record {
   same = leaves-self now p;
-  holds = λ b. record { controls = λ t h. h; heard = inl refl };
-  acknowledges = λ channel number time. record { controls = gone channel number; heard = inr refl };
-  hears = λ n. record { controls = λ t h. h; heard = inl refl };
-  paces = λ interval acceleration deceleration. record { controls = λ t h. h; heard = inl refl };
+  holds = λ b. record { controls = λ t h. h; heard = inl refl; offset = refl };
+  acknowledges = λ channel number time. record { controls = gone channel number; heard = inr refl; offset = refl };
+  hears = λ n. record { controls = λ t h. h; heard = inl refl; offset = refl };
+  paces = λ interval acceleration deceleration. record { controls = λ t h. h; heard = inl refl; offset = refl };
   ends = λ b info e. ends b info;
-  answers = λ q a k. record { controls = k.controls; heard = k.heard };
+  answers = λ q a k. record { controls = k.controls; heard = k.heard; offset = k.offset };
 }
   where
     ends : (b : Bool) (info : ℕ) → Leaves now p (on_last_disconnect p b info)
-    ends true info = record { controls = λ t h. absurd h; heard = inl refl }
-    ends false info = record { controls = λ t h. absurd h; heard = inl refl }
+    ends true info = record { controls = λ t h. absurd h; heard = inl refl; offset = refl }
+    ends false info = record { controls = λ t h. absurd h; heard = inl refl; offset = refl }
 
     gone : (channel number : ℕ) (t : SentControl) → Has (after_acknowledgement p.outbox channel number).control.sent t → Has p.outbox.control.sent t
     gone channel number t h = by (channel == 0xFF) h
@@ -115,10 +117,10 @@ stood-all now time from (put ∷ puts) to new q c is on lone =
 
 -- the user takes
 abbrev Untouched : Peering → Peering → Type 0
-Untouched p q = (q.outbox ≡ p.outbox) × (q.heard ≡ p.heard)
+Untouched p q = (q.outbox ≡ p.outbox) × (q.heard ≡ p.heard) × (q.offset ≡ p.offset)
 
 untouched : (p q : Peering) (e : PeerEvent) → next_event p ≡ Some (record { event = e; after = q }) → Untouched p q
-untouched p q e next = took (λ r t. Untouched p r) p q e next (λ info g. (refl, refl)) (λ x rest g u. (refl, refl)) (λ g u at. (refl, refl))
+untouched p q e next = took (λ r t. Untouched p r) p q e next (λ info g. (refl, refl, refl)) (λ x rest g u. (refl, refl, refl)) (λ g u at. (refl, refl, refl))
 
 pub stood-takes : (now n : ℕ) (own other new : End) (p : Peering) → Takes n own other new → own.peer ≡ Some p → p.state ≡ state.Connected → IsLone is_ping p.outbox.control → Stood now new p
 stood-takes now zero own other new p t is on lone = record { peer = p; is = ap (λ (e : End). e.peer) t ∙ is; on = on; leaves = leaves-self now p; lone = lone }
@@ -133,7 +135,7 @@ stood-takes now (suc n) own other new p t is on lone =
       peer = rest.peer;
       is = rest.is;
       on = rest.on;
-      leaves = leaves-then now p one.peer rest.peer (record { controls = λ x k. subst (λ (o : Outbox). Has o.control.sent x) left.0 k; heard = inl left.1 }) rest.leaves;
+      leaves = leaves-then now p one.peer rest.peer (record { controls = λ x k. subst (λ (o : Outbox). Has o.control.sent x) left.0 k; heard = inl left.1; offset = left.2 }) rest.leaves;
       lone = rest.lone;
     }
 
@@ -222,11 +224,18 @@ same-number m n = by (m == n) refl
     by true e = inl (grind (arith, nat_tests))
     by false e = inr (λ h. grind (arith, nat_tests))
 
-one-away : (p : Peering) (now time number then' : ℕ) → p.state ≡ state.Connected → IsLone is_ping p.outbox.control → NoneOf (obeyed p now (Some time) (acknowledgement_of (record { channel = 0xFF; number = number; time = then' }))).after.outbox.control.sent number then'
+ping-went : (t : SentControl) (time : ℕ) → is_ping t.command.control ≡ true → controlling.went_at time t ≡ went_at time t.transmission
+ping-went t time e = ap (λ (c : Control). controlling.went_as c time t) (is-ping t.command.control e)
+
+one-away : (p : Peering) (now time number then' : ℕ) → p.state ≡ state.Connected → IsLone is_ping p.outbox.control
+    → NoneOf (obeyed p now (Some time) (acknowledgement_of (record { channel = 0xFF; number = number; time = then' }))).after.outbox.control.sent number (meant_time then' (p.offset % 2 ^ 16))
 one-away p now time number then' on lone t h e went = by lone
   where
     m : Message
     m = acknowledgement_of (record { channel = 0xFF; number = number; time = then' })
+
+    meant : ℕ
+    meant = meant_time then' (p.offset % 2 ^ 16)
 
     before : Has p.outbox.control.sent t
     before = (let l = meets (Leaves now p) p now (Some time) m on (meets-leaves now m p) in l.controls t h)
@@ -239,7 +248,8 @@ one-away p now time number then' on lone t h e went = by lone
     by (Idle a b) = subst (λ (l : List SentControl). Has l t) b before
     by (Queued n ok a b) = subst (λ (l : List SentControl). Has l t) b before
     by (Sent x ok a b) =
-        let z = taken-away p now (Some time) number then' on (waits p.outbox.control.sent before) (λ u k same. ap (λ (y : SentControl). went_at then' y.transmission) (only u k ∙ sym (only t before)) ∙ went) in
+        let z = taken-away p now (Some time) number then' on (waits p.outbox.control.sent before)
+        (λ u k same. ping-went u meant (subst (λ (y : SentControl). is_ping y.command.control ≡ true) (sym (only u k)) ok) ∙ ap (λ (y : SentControl). went_at meant y.transmission) (only u k ∙ sym (only t before)) ∙ went) in
         none-at (obeyed p now (Some time) m).after.outbox.control.sent (z.less ∙ ap (λ (l : List SentControl). length l) b) h
       where
         only : (u : SentControl) → Has p.outbox.control.sent u → u ≡ x
@@ -251,11 +261,12 @@ one-away p now time number then' on lone t h e went = by lone
         waits (y ∷ xs) (inr k) = inr (waits xs k)
 
 pub came-away : (now time : ℕ) (from : End) (puts : List Put) (to new : End) (p : Peering) (put : Put) (number then' : ℕ) → AllCome now time from puts to new → Has puts put → to.peer ≡ Some p → p.state ≡ state.Connected → IsLone is_ping p.outbox.control
-    → put.message ≡ acknowledgement_of (record { channel = 0xFF; number = number; time = then' }) → Has from.log put → (q : Peering) × (new.peer ≡ Some q) × NoneOf q.outbox.control.sent number then'
+    → put.message ≡ acknowledgement_of (record { channel = 0xFF; number = number; time = then' }) → Has from.log put → (q : Peering) × (new.peer ≡ Some q) × NoneOf q.outbox.control.sent number (meant_time then' (p.offset % 2 ^ 16))
 came-away now time from [] to new p put number then' come has is on lone message logged = absurd has
 came-away now time from (x ∷ puts) to new p put number then' come (inr has) is on lone message logged =
     let k = stood-one now time from x to come.0 p come.1 is lone in
-    came-away now time from puts come.0 new k.peer put number then' come.2 has k.is k.on k.lone message logged
+    let rest = came-away now time from puts come.0 new k.peer put number then' come.2 has k.is k.on k.lone message logged in
+    (rest.0, rest.1, subst (λ n. NoneOf rest.0.outbox.control.sent number (meant_time then' (n % 2 ^ 16))) k.leaves.offset rest.2)
 came-away now time from (x ∷ puts) to new p put number then' come (inl same) is on lone message logged = elim come.1.after [
   | inl h ↦
       let k = stood-one now time from x to come.0 p come.1 is lone in
@@ -274,5 +285,5 @@ came-away now time from (x ∷ puts) to new p put number then' come (inl same) i
     said : x.message ≡ m
     said = ap (λ (y : Put). y.message) same ∙ message
 
-    none : NoneOf (obeyed p now (Some time) m).after.outbox.control.sent number then'
+    none : NoneOf (obeyed p now (Some time) m).after.outbox.control.sent number (meant_time then' (p.offset % 2 ^ 16))
     none = one-away p now time number then' on lone

@@ -1,6 +1,6 @@
 -- At most one command of channel 0xFF is queued or sent, and while the connection stands that is a PING: what each thing that happens at a
 -- peer makes of it. And what a command that comes makes of a peer, for any property.
-use Rattle.std.proofs.Common.{◌≡◌, ℕ, zero, suc, ◌&&◌, ◌==◌, Bool, true, false, cond, List, [], ◌∷◌, ◌++◌, length, map, refl, sym, ap, subst, ◌∙◌, inl, inr, ◌⊎◌, arith, Option, Some, None, Result, Ok, Err, is_some}
+use Rattle.std.proofs.Common.{◌≡◌, ℕ, zero, suc, ◌%◌, ◌^◌, ◌&&◌, ◌==◌, Bool, true, false, cond, List, [], ◌∷◌, ◌++◌, length, map, refl, sym, ap, subst, ◌∙◌, inl, inr, ◌⊎◌, arith, Option, Some, None, Result, Ok, Err, is_some}
 use Rattle.std.proofs.lemmas.Bool.Decides.{nat_tests}
 use Rattle.std.proofs.lemmas.List.{nil_from_length}
 use Rattle.std.specs.List.{slice_get, slice_set, remove}
@@ -8,6 +8,7 @@ use Rattle.enet_codec.specs.Message.{Message, Body, acknowledge, connect, verify
 use Rattle.enet_codec.specs.declared.stop.Stop.{Stop}
 use Rattle.enet_codec.specs.declared.stop.Stop.TheVariants as stop
 use Rattle.enet_codec.specs.declared.command.Verify.{Verify}
+use Rattle.enet_rtt.specs.Clock.{meant_time}
 use Rattle.enet_senders.specs.declared.control.Control.{Control}
 use Rattle.enet_senders.specs.declared.control.Control.TheVariants as control
 use Rattle.enet_senders.specs.declared.control.Numbered.{Numbered}
@@ -187,7 +188,7 @@ answered-holds P q m sent may answers h = go (m.head.acknowledge && may && is_an
 pub record Obeys (P : Peering → Type 0) (now : ℕ) (sent : Option ℕ) (m : Message) (p : Peering) : Type 0 where
   pub same : P p
   pub holds : (b : Inbox) → P (record p { inbox = b })
-  pub acknowledges : (number time : ℕ) → P (on_acknowledge p now m.head.channel number time)
+  pub acknowledges : (number told : ℕ) → P (on_acknowledge p now m.head.channel number told)
   pub verifies : (v : Verify) → P (on_verify_in p.state p v)
   pub ends : (info : ℕ) → m.body ≡ disconnect info → P (on_disconnect_in p.state p (m.head.acknowledge && is_some sent) info)
   pub hears : (n : ℕ) → P (on_bandwidth p n)
@@ -243,7 +244,7 @@ pub meets-connected : (P : Peering → Type 0) (p : Peering) (now : ℕ) (sent :
 meets-connected P p now sent m k = obeys-each P (connected p) now sent m (record {
   same = k.same;
   holds = k.holds;
-  acknowledges = λ number time. gone m.head.channel number time (matched_by p.outbox m.head.channel number time);
+  acknowledges = λ number told. gone m.head.channel number (meant_time told (p.offset % 2 ^ 16)) (matched_by p.outbox m.head.channel number (meant_time told (p.offset % 2 ^ 16)));
   verifies = λ v. k.same;
   ends = λ info e. k.ends (m.head.acknowledge && is_some sent) info e;
   hears = k.hears;

@@ -1,6 +1,7 @@
 -- A round without losses between two connected peers: patience outlasts it, and what waits after it waited before, or was acknowledged since.
-use Rattle.std.proofs.Common.{◌≡◌, ℕ, ◌<◌, Bool, true, false, List, refl, sym, ap, subst, ◌∙◌, inl, inr, ◌⊎◌, Some, ◌^◌, arith}
+use Rattle.std.proofs.Common.{◌≡◌, ℕ, ◌%◌, ◌<◌, Bool, true, false, List, refl, sym, ap, subst, ◌∙◌, inl, inr, ◌⊎◌, Some, ◌^◌, arith}
 use Rattle.std.specs.List.{slice_get}
+use Rattle.enet_rtt.specs.Clock.{meant_time}
 use Rattle.enet_rtt.specs.Expiry.{gives_up, standard_patience}
 use Rattle.enet_rtt.specs.Transmission.{went_at}
 use Rattle.enet_rtt.specs.declared.transmission.Transmission.{Transmission}
@@ -43,8 +44,8 @@ pub record IsPlain (p : Peering) : Type 0 where
 pub record Ready (d a b : ℕ) (p q : Peering) : Type 0 where
   pub one_channels : (channel : ℕ) (t : Sent) → HasSent p.outbox.senders channel t → IsOld d a p.heard t.transmission
   pub one_controls : (t : SentControl) → Has p.outbox.control.sent t → IsOld d a p.heard t.transmission
-  pub two_channels : (channel : ℕ) (t : Sent) → HasSent q.outbox.senders channel t → IsOld d b q.heard t.transmission ⊎ (HasARound d b q.heard t.transmission × AnswersAt p channel t.command.number t.transmission)
-  pub two_controls : (t : SentControl) → Has q.outbox.control.sent t → IsOld d b q.heard t.transmission ⊎ (HasARound d b q.heard t.transmission × AnswersAt p 0xFF t.command.number t.transmission)
+  pub two_channels : (channel : ℕ) (t : Sent) → HasSent q.outbox.senders channel t → IsOld d b q.heard t.transmission ⊎ (HasARound d b q.heard t.transmission × AnswersAt q.offset p channel t.command.number t.transmission)
+  pub two_controls : (t : SentControl) → Has q.outbox.control.sent t → IsOld d b q.heard t.transmission ⊎ (HasARound d b q.heard t.transmission × AnswersAt q.offset p 0xFF t.command.number t.transmission)
 
 -- so no patience is over by the next moments
 pub one-lasts : (d a b : ℕ) (p q : Peering) → d < 30000 → IsPlain p → Ready d a b p q → has_ended p.outbox (moment a d) p.patience p.heard ≡ false
@@ -162,22 +163,22 @@ steady-round joined d a b c e p q low i is_p is_q plain_p plain_q ready r = reco
     c0 t h = (let w = t1.waited.controls t h in subst (λ (y : SentControl). P y.transmission) w.3 (old-marked d a p.heard w.0 w.1.transmission low (ready.one_controls w.1 w.2)))
 
     -- an acknowledgement that waited at the one end waits when it begins to put out
-    waits-yet : (channel m n : ℕ) (x t : Transmission) → m ≡ n → ((time : ℕ) → went_at time x ≡ went_at time t) → AnswersAt p channel m x → AnswersAt p0 channel n t
+    waits-yet : (channel m n : ℕ) (x t : Transmission) → m ≡ n → ((time : ℕ) → went_at time x ≡ went_at time t) → AnswersAt q.offset p channel m x → AnswersAt q0.offset p0 channel n t
     waits-yet channel m n x t same went w =
-        (w.0, subst (λ (l : List Acknowledgement). Has l (record { channel = channel; number = n; time = w.0 })) (sym t1.waited.acknowledgements) (subst (λ k. Has p.outbox.acknowledgements (record { channel = channel; number = k; time = w.0 })) same w.1), sym (went w.0) ∙ w.2)
+        (w.0, subst (λ (l : List Acknowledgement). Has l (record { channel = channel; number = n; time = w.0 })) (sym t1.waited.acknowledgements) (subst (λ k. Has p.outbox.acknowledgements (record { channel = channel; number = k; time = w.0 })) same w.1), ap (λ k. went_at (meant_time w.0 (k % 2 ^ 16)) t) t2.waited.offset ∙ sym (went (meant_time w.0 (q.offset % 2 ^ 16))) ∙ w.2)
 
-    at_two : (channel : ℕ) (t : Sent) → HasSent q0.outbox.senders channel t → Q t.transmission ⊎ AnswersAt p0 channel t.command.number t.transmission
+    at_two : (channel : ℕ) (t : Sent) → HasSent q0.outbox.senders channel t → Q t.transmission ⊎ AnswersAt q0.offset p0 channel t.command.number t.transmission
     at_two channel t h = (let w = t2.waited.channels channel t h in by w.0 w.1 w.3 (ready.two_channels channel w.1 w.2))
       where
-        by : (bound : ℕ) (x : Sent) → Rattle.enet_sender.specs.Sender.marked bound there x ≡ t → IsOld d b q.heard x.transmission ⊎ (HasARound d b q.heard x.transmission × AnswersAt p channel x.command.number x.transmission) → Q t.transmission ⊎ AnswersAt p0 channel t.command.number t.transmission
+        by : (bound : ℕ) (x : Sent) → Rattle.enet_sender.specs.Sender.marked bound there x ≡ t → IsOld d b q.heard x.transmission ⊎ (HasARound d b q.heard x.transmission × AnswersAt q.offset p channel x.command.number x.transmission) → Q t.transmission ⊎ AnswersAt q0.offset p0 channel t.command.number t.transmission
         by bound x same (inl old) = inl (subst (λ (y : Sent). Q y.transmission) same (old-marked d b q.heard bound x.transmission low old))
         by bound x same (inr k) = inr (waits-yet channel x.command.number t.command.number x.transmission t.transmission (ap (λ (y : Sent). y.command.number) same)
             (λ time. sym (went-marked bound there x.transmission time) ∙ ap (λ (y : Sent). went_at time y.transmission) same) k.1)
 
-    controls_two : (t : SentControl) → Has q0.outbox.control.sent t → Q t.transmission ⊎ AnswersAt p0 0xFF t.command.number t.transmission
+    controls_two : (t : SentControl) → Has q0.outbox.control.sent t → Q t.transmission ⊎ AnswersAt q0.offset p0 0xFF t.command.number t.transmission
     controls_two t h = (let w = t2.waited.controls t h in by w.0 w.1 w.3 (ready.two_controls w.1 w.2))
       where
-        by : (bound : ℕ) (x : SentControl) → Rattle.enet_senders.specs.Controlling.marked bound there x ≡ t → IsOld d b q.heard x.transmission ⊎ (HasARound d b q.heard x.transmission × AnswersAt p 0xFF x.command.number x.transmission) → Q t.transmission ⊎ AnswersAt p0 0xFF t.command.number t.transmission
+        by : (bound : ℕ) (x : SentControl) → Rattle.enet_senders.specs.Controlling.marked bound there x ≡ t → IsOld d b q.heard x.transmission ⊎ (HasARound d b q.heard x.transmission × AnswersAt q.offset p 0xFF x.command.number x.transmission) → Q t.transmission ⊎ AnswersAt q0.offset p0 0xFF t.command.number t.transmission
         by bound x same (inl old) = inl (subst (λ (y : SentControl). Q y.transmission) same (old-marked d b q.heard bound x.transmission low old))
         by bound x same (inr k) = inr (waits-yet 0xFF x.command.number t.command.number x.transmission t.transmission (ap (λ (y : SentControl). y.command.number) same)
             (λ time. sym (went-marked bound there x.transmission time) ∙ ap (λ (y : SentControl). went_at time y.transmission) same) k.1)
@@ -307,18 +308,19 @@ steady-round joined d a b c e p q low i is_p is_q plain_p plain_q ready r = reco
     v_heard = since-by v.heard q1.heard q.heard there v_since q1_heard
 
     -- an acknowledgement that came to wait at the one end waits at last
-    waits-at-last : (channel number time : ℕ) (t : Transmission) (y : Peering) → r.one_in.peer ≡ Some y → Has y.outbox.acknowledgements (record { channel = channel; number = number; time = time }) → went_at time t ≡ true → AnswersAt u channel number t
-    waits-at-last channel number time t y is h went =
+    waits-at-last : (n channel number time : ℕ) (t : Transmission) (y : Peering) → r.one_in.peer ≡ Some y → Has y.outbox.acknowledgements (record { channel = channel; number = number; time = time }) → went_at (meant_time time (n % 2 ^ 16)) t ≡ true
+        → v.offset ≡ n → AnswersAt v.offset u channel number t
+    waits-at-last n channel number time t y is h went own =
         let z : Acknowledgement = record { channel = channel; number = number; time = time } in
         let k = took-all r.events_one r.one_in r.two_out e.one s2.peer r.takes_one s2.is s2.on in
-        (time, subst (λ (w : Peering). Has w.outbox.acknowledgements z) (same-peer e.one k.peer u k.is s3.is) (k.kept.acknowledgements z (subst (λ (w : Peering). Has w.outbox.acknowledgements z) (same-peer r.one_in y s2.peer is s2.is) h)), went)
+        (time, subst (λ (w : Peering). Has w.outbox.acknowledgements z) (same-peer e.one k.peer u k.is s3.is) (k.kept.acknowledgements z (subst (λ (w : Peering). Has w.outbox.acknowledgements z) (same-peer r.one_in y s2.peer is s2.is) h)), ap (λ k. went_at (meant_time time (k % 2 ^ 16)) t) own ∙ went)
 
     -- of what was put in now
     new : (t : Transmission) (X : Type 0) → R t → t.due ≡ false → X → IsOld d there v.heard t ⊎ (HasARound d there v.heard t × X)
     new t X (inl o) due w = inl (old-since d there q1.heard v.heard t v_since (older-stays d there q1.heard t due o))
     new t X (inr k) due w = inr (round-since d there q1.heard v.heard t v_since k.1, w)
 
-    v_controls : (t : SentControl) → Has v.outbox.control.sent t → IsOld d there v.heard t.transmission ⊎ (HasARound d there v.heard t.transmission × AnswersAt u 0xFF t.command.number t.transmission)
+    v_controls : (t : SentControl) → Has v.outbox.control.sent t → IsOld d there v.heard t.transmission ⊎ (HasARound d there v.heard t.transmission × AnswersAt v.offset u 0xFF t.command.number t.transmission)
     v_controls t h = by (f2.all t at_out)
       where
         at_out : Has q2.outbox.control.sent t
@@ -327,9 +329,9 @@ steady-round joined d a b c e p q low i is_p is_q plain_p plain_q ready r = reco
         due : t.transmission.due ≡ false
         due = (let rests = r.back.spent q2 f2.is in controls-rest _ _ q2.outbox.control rests.controls t at_out)
 
-        by : Has q1.outbox.control.sent t ⊎ AnswersAt f2.other 0xFF t.command.number t.transmission → IsOld d there v.heard t.transmission ⊎ (HasARound d there v.heard t.transmission × AnswersAt u 0xFF t.command.number t.transmission)
+        by : Has q1.outbox.control.sent t ⊎ AnswersAt q2.offset f2.other 0xFF t.command.number t.transmission → IsOld d there v.heard t.transmission ⊎ (HasARound d there v.heard t.transmission × AnswersAt v.offset u 0xFF t.command.number t.transmission)
         by (inl old) = inl (old-since d there q.heard v.heard t.transmission v_heard (older-stays d there q.heard t.transmission due (mid_controls t old)))
-        by (inr w) = new t.transmission (AnswersAt u 0xFF t.command.number t.transmission) (each.3.0 t (subst (λ (y : Peering). Has y.outbox.control.sent t) (sym same_q2) at_out)) due (waits-at-last 0xFF t.command.number w.0 t.transmission f2.other f2.other_is w.1 w.2)
+        by (inr w) = new t.transmission (AnswersAt v.offset u 0xFF t.command.number t.transmission) (each.3.0 t (subst (λ (y : Peering). Has y.outbox.control.sent t) (sym same_q2) at_out)) due (waits-at-last q2.offset 0xFF t.command.number w.0 t.transmission f2.other f2.other_is w.1 w.2 f3.leaves.offset)
 
     b2 : Sending joined (HasSent x.first.other.outbox.senders) x.first.other x.first.peer r.two_out r.one_in
     b2 = x.then'
@@ -337,7 +339,7 @@ steady-round joined d a b c e p q low i is_p is_q plain_p plain_q ready r = reco
     k2 : Came r.two_out e.two b2.peer
     k2 = took-all r.events_two r.two_out e.one e.two b2.peer r.takes_two b2.is b2.connected
 
-    v_channels : (channel : ℕ) (t : Sent) → HasSent v.outbox.senders channel t → IsOld d there v.heard t.transmission ⊎ (HasARound d there v.heard t.transmission × AnswersAt u channel t.command.number t.transmission)
+    v_channels : (channel : ℕ) (t : Sent) → HasSent v.outbox.senders channel t → IsOld d there v.heard t.transmission ⊎ (HasARound d there v.heard t.transmission × AnswersAt v.offset u channel t.command.number t.transmission)
     v_channels channel t h = by (b2.all channel t at_out)
       where
         at_out : HasSent b2.peer.outbox.senders channel t
@@ -349,8 +351,8 @@ steady-round joined d a b c e p q low i is_p is_q plain_p plain_q ready r = reco
         due : t.transmission.due ≡ false
         due = (let rests = r.back.spent b2.peer b2.is in sender-rests (occasion (pace_of b2.peer there) b2.peer.outbox) at_out.0.sender (rests.channels channel at_out.0 at_out.1) t at_out.2)
 
-        by : HasSent x.first.other.outbox.senders channel t ⊎ OnItsWay r.one_in channel t → IsOld d there v.heard t.transmission ⊎ (HasARound d there v.heard t.transmission × AnswersAt u channel t.command.number t.transmission)
+        by : HasSent x.first.other.outbox.senders channel t ⊎ OnItsWay b2.peer.offset r.one_in channel t → IsOld d there v.heard t.transmission ⊎ (HasARound d there v.heard t.transmission × AnswersAt v.offset u channel t.command.number t.transmission)
         by (inl old) = inl (old-since d there q.heard v.heard t.transmission v_heard
             (older-stays d there q.heard t.transmission due (mid channel t (subst (λ (y : Peering). HasSent y.outbox.senders channel t) (same-peer r.two_in x.first.other q1 x.first.other_is f1.is) old))))
-        by (inr w) = new t.transmission (AnswersAt u channel t.command.number t.transmission) (each.3.1 at_each.0 (Rattle.law_progress.proofs.Waiting.Has-at each.0.outbox.senders channel at_each.0 at_each.1) t at_each.2) due
-            (waits-at-last channel t.command.number w.0 t.transmission w.1 w.2 w.3 w.4)
+        by (inr w) = new t.transmission (AnswersAt v.offset u channel t.command.number t.transmission) (each.3.1 at_each.0 (Rattle.law_progress.proofs.Waiting.Has-at each.0.outbox.senders channel at_each.0 at_each.1) t at_each.2) due
+            (waits-at-last b2.peer.offset channel t.command.number w.0 t.transmission w.1 w.2 w.3 w.4 (f3.leaves.offset ∙ ap (λ (y : Peering). y.offset) (same-peer r.two_out q2 b2.peer f2.is b2.is)))

@@ -1,6 +1,8 @@
 -- One end puts out all that it may, and then the other: what becomes of the PING that waits at either.
-use Rattle.std.proofs.Common.{◌≡◌, ℕ, zero, suc, ◌%◌, Bool, true, false, cond, List, [], ◌∷◌, ◌++◌, refl, sym, ap, subst, ◌∙◌, inl, inr, ◌⊎◌, Some}
+use Rattle.std.proofs.Common.{◌≡◌, ℕ, zero, suc, ◌%◌, ◌^◌, Bool, true, false, cond, List, [], ◌∷◌, ◌++◌, refl, sym, ap, subst, ◌∙◌, inl, inr, ◌⊎◌, Option, Some}
 use Rattle.enet_codec.specs.Message.{Message}
+use Rattle.enet_rtt.specs.Clock.{told_time, meant_time}
+use Rattle.enet_rtt.specs.Transmission.{went_at}
 use Rattle.enet_rtt.specs.declared.transmission.Transmission.{Transmission}
 use Rattle.enet_senders.specs.Controlling as controlling
 use Rattle.enet_senders.specs.declared.control.Control.{Control}
@@ -16,9 +18,10 @@ use Rattle.enet_peer.specs.Peering.{Peering}
 use Rattle.enet_peer.specs.Calls.{pace_of}
 use Rattle.enet_rtt.specs.Timing.{timeout}
 use Rattle.law_connection.specs.Connection.{End}
+use Rattle.law_connection.specs.Law.{offset_in, offset_of}
 use Rattle.law_connection.proofs.Lists.{Has-push, Has-push_left}
 use Rattle.law_progress.specs.Exchanges.{PutsOne, PutsMany}
-use Rattle.law_progress.proofs.BothRounds.{AnswersAt, went-last}
+use Rattle.law_progress.proofs.BothRounds.{AnswersAt, told-last}
 use Rattle.law_progress.proofs.Controls.{GoesControl, Heads, Repeats, goes-control}
 use Rattle.law_progress.proofs.Exchanges.{same-peer, put_out, Gone, gone, Came, all-came, took-all}
 use Rattle.law_progress.proofs.Kept.{go-or-stay}
@@ -79,10 +82,10 @@ sent-lone f c (Sent x ok a b) t h = elim (subst (λ (l : List SentControl). Has 
 
 -- ---- an end puts out all that it may: the other's peer
 pub puts-stood : (now there n : ℕ) (from to from' to' : End) (p : Peering) → PutsMany now there n from to from' to' → to.peer ≡ Some p → p.state ≡ state.Connected → IsLone is_ping p.outbox.control → Stood there to' p
-puts-stood now there zero from to from' to' p m is on lone = record { peer = p; is = ap (λ (x : End). x.peer) m.1 ∙ is; on = on; leaves = record { controls = λ t h. h; heard = inl refl }; lone = lone }
+puts-stood now there zero from to from' to' p m is on lone = record { peer = p; is = ap (λ (x : End). x.peer) m.1 ∙ is; on = on; leaves = record { controls = λ t h. h; heard = inl refl; offset = refl }; lone = lone }
 puts-stood now there (suc n) from to from' to' p m is on lone =
     let o : PutsOne now there from to m.0 m.1 = m.2 in
-    let arrives = stood-all there (now % 65536) m.0 o.new to o.arrived p o.come is on lone in
+    let arrives = stood-all there (told_time now (offset_of from)) m.0 o.new to o.arrived p o.come is on lone in
     let takes = stood-takes there o.events o.arrived m.0 m.1 arrives.peer o.takes arrives.is arrives.on arrives.lone in
     let rest = puts-stood now there n m.0 m.1 from' to' takes.peer m.3 takes.is takes.on takes.lone in
     record { peer = rest.peer; is = rest.is; on = rest.on; leaves = leaves-then there p takes.peer rest.peer (leaves-then there p arrives.peer takes.peer arrives.leaves takes.leaves) rest.leaves; lone = rest.lone }
@@ -106,7 +109,7 @@ pub record Pinging (D : SentControl → Type 0) (from to : End) : Type 0 where
   pub other_is : to.peer ≡ Some other
   pub other_on : other.state ≡ state.Connected
   pub other_lone : IsLone is_ping other.outbox.control
-  pub all : (t : SentControl) → Has peer.outbox.control.sent t → D t ⊎ AnswersAt other 0xFF t.command.number t.transmission
+  pub all : (t : SentControl) → Has peer.outbox.control.sent t → D t ⊎ AnswersAt peer.offset other 0xFF t.command.number t.transmission
 
 pinging-one : (D : SentControl → Type 0) (now there : ℕ) (from to from' to' : End) → PutsOne now there from to from' to' → Pinging D from to → Pinging D from' to'
 pinging-one D now there from to from' to' o k = record {
@@ -130,14 +133,21 @@ pinging-one D now there from to from' to' o k = record {
     lone : IsLone is_ping p.outbox.control
     lone = filled-lone is_ping (pace_of k.peer now) k.peer.outbox k.lone
 
+    told : ℕ
+    told = told_time now (offset_of from)
+
+    -- that is by the peer's own times
+    told-is : told ≡ told_time now k.peer.offset
+    told-is = ap (λ (o : Option Peering). told_time now (offset_in o)) k.is
+
     arrives : Stood there o.arrived k.other
-    arrives = stood-all there (now % 65536) from' o.new to o.arrived k.other o.come k.other_is k.other_on k.other_lone
+    arrives = stood-all there told from' o.new to o.arrived k.other o.come k.other_is k.other_on k.other_lone
 
     takes : Stood there to' arrives.peer
     takes = stood-takes there o.events o.arrived from' to' arrives.peer o.takes arrives.is arrives.on arrives.lone
 
     came : Came to o.arrived k.other
-    came = all-came there (now % 65536) from' o.new to o.arrived k.other o.come k.other_is k.other_on
+    came = all-came there told from' o.new to o.arrived k.other o.come k.other_is k.other_on
 
     taken : Came o.arrived to' arrives.peer
     taken = took-all o.events o.arrived from' to' arrives.peer o.takes arrives.is arrives.on
@@ -146,10 +156,10 @@ pinging-one D now there from to from' to' o k = record {
     still : (a : Acknowledgement) → Has arrives.peer.outbox.acknowledgements a → Has takes.peer.outbox.acknowledgements a
     still a h = subst (λ (x : Peering). Has x.outbox.acknowledgements a) (same-peer to' taken.peer takes.peer taken.is takes.is) (taken.kept.acknowledgements a h)
 
-    all : (t : SentControl) → Has p.outbox.control.sent t → D t ⊎ AnswersAt takes.peer 0xFF t.command.number t.transmission
+    all : (t : SentControl) → Has p.outbox.control.sent t → D t ⊎ AnswersAt k.peer.offset takes.peer 0xFF t.command.number t.transmission
     all t h = by (pinged-from (pace_of k.peer now) k.peer.outbox t h)
       where
-        by : Has k.peer.outbox.control.sent t ⊎ (Has (filled (pace_of k.peer now) k.peer.outbox).messages (controlling.message_of t.command) × (t.transmission.last ≡ now)) → D t ⊎ AnswersAt takes.peer 0xFF t.command.number t.transmission
+        by : Has k.peer.outbox.control.sent t ⊎ (Has (filled (pace_of k.peer now) k.peer.outbox).messages (controlling.message_of t.command) × (t.transmission.last ≡ now)) → D t ⊎ AnswersAt k.peer.offset takes.peer 0xFF t.command.number t.transmission
         by (inl old) = elim (k.all t old) [
           | inl d ↦ inl d
           | inr w ↦
@@ -158,9 +168,9 @@ pinging-one D now there from to from' to' o k = record {
         ]
         by (inr goes) =
             let put = g.put (controlling.message_of t.command) goes.0 in
-            let a : Acknowledgement = record { channel = 0xFF; number = t.command.number; time = now % 65536 } in
-            let r = came-pinged there (now % 65536) from' o.new to o.arrived put.0 t.command o.come put.1 (sent-lone is_ping p.outbox.control lone t h) put.3 put.2 in
-            inr (now % 65536, still a (subst (λ (x : Peering). Has x.outbox.acknowledgements a) (same-peer o.arrived r.0 arrives.peer r.1 arrives.is) r.2), went-last t.transmission now goes.1)
+            let a : Acknowledgement = record { channel = 0xFF; number = t.command.number; time = told } in
+            let r = came-pinged there told from' o.new to o.arrived put.0 t.command o.come put.1 (sent-lone is_ping p.outbox.control lone t h) put.3 put.2 in
+            inr (told, still a (subst (λ (x : Peering). Has x.outbox.acknowledgements a) (same-peer o.arrived r.0 arrives.peer r.1 arrives.is) r.2), ap (λ n. went_at (meant_time n (k.peer.offset % 2 ^ 16)) t.transmission) told-is ∙ told-last k.peer.offset t.transmission now goes.1)
 
 pub pinging-many : (D : SentControl → Type 0) (now there n : ℕ) (from to from' to' : End) → PutsMany now there n from to from' to' → Pinging D from to → Pinging D from' to'
 pinging-many D now there zero from to from' to' m k = subst (λ (x : End). Pinging D x to') (sym m.0) (subst (λ (x : End). Pinging D from x) (sym m.1) k)
@@ -168,11 +178,13 @@ pinging-many D now there (suc n) from to from' to' m k = pinging-many D now ther
 
 -- its acknowledgement goes and takes it away, or waits still
 pub answers-pinged : (D : SentControl → Type 0) (now there n : ℕ) (from to from' to' : End) (q p : Peering) → PutsMany now there n from to from' to' → from.peer ≡ Some q → q.state ≡ state.Connected
-    → to.peer ≡ Some p → p.state ≡ state.Connected → IsLone is_ping p.outbox.control → ((t : SentControl) → Has p.outbox.control.sent t → D t ⊎ AnswersAt q 0xFF t.command.number t.transmission)
-    → (r : Peering) × (to'.peer ≡ Some r) × (s : Peering) × (from'.peer ≡ Some s) × ((t : SentControl) → Has r.outbox.control.sent t → D t ⊎ AnswersAt s 0xFF t.command.number t.transmission)
+    → to.peer ≡ Some p → p.state ≡ state.Connected → IsLone is_ping p.outbox.control → ((t : SentControl) → Has p.outbox.control.sent t → D t ⊎ AnswersAt p.offset q 0xFF t.command.number t.transmission)
+    → (r : Peering) × (to'.peer ≡ Some r) × (s : Peering) × (from'.peer ≡ Some s) × ((t : SentControl) → Has r.outbox.control.sent t → D t ⊎ AnswersAt p.offset s 0xFF t.command.number t.transmission)
 answers-pinged D now there zero from to from' to' q p m is on other_is other_on lone all = (p, ap (λ (x : End). x.peer) m.1 ∙ other_is, q, ap (λ (x : End). x.peer) m.0 ∙ is, all)
 answers-pinged D now there (suc n) from to from' to' q p m is on other_is other_on lone all =
-    answers-pinged D now there n m.0 m.1 from' to' (put_out q now) takes.peer m.3 g.peer on takes.is takes.on takes.lone left
+    let rest = answers-pinged D now there n m.0 m.1 from' to' (put_out q now) takes.peer m.3 g.peer on takes.is takes.on takes.lone
+    (λ t h. subst (λ k. D t ⊎ AnswersAt k (put_out q now) 0xFF t.command.number t.transmission) (sym same) (left t h)) in
+    (rest.0, rest.1, rest.2, rest.3, λ t h. subst (λ k. D t ⊎ AnswersAt k rest.2 0xFF t.command.number t.transmission) same (rest.4 t h))
   where
     o : PutsOne now there from to m.0 m.1
     o = m.2
@@ -181,24 +193,27 @@ answers-pinged D now there (suc n) from to from' to' q p m is on other_is other_
     g = gone now from to m.0 q o.new o.goes is on o.logged
 
     arrives : Stood there o.arrived p
-    arrives = stood-all there (now % 65536) m.0 o.new to o.arrived p o.come other_is other_on lone
+    arrives = stood-all there (told_time now (offset_of from)) m.0 o.new to o.arrived p o.come other_is other_on lone
 
     takes : Stood there m.1 arrives.peer
     takes = stood-takes there o.events o.arrived m.0 m.1 arrives.peer o.takes arrives.is arrives.on arrives.lone
 
-    left : (t : SentControl) → Has takes.peer.outbox.control.sent t → D t ⊎ AnswersAt (put_out q now) 0xFF t.command.number t.transmission
+    same : takes.peer.offset ≡ p.offset
+    same = takes.leaves.offset ∙ arrives.leaves.offset
+
+    left : (t : SentControl) → Has takes.peer.outbox.control.sent t → D t ⊎ AnswersAt p.offset (put_out q now) 0xFF t.command.number t.transmission
     left t h = by (all t (arrives.leaves.controls t then'))
       where
         then' : Has arrives.peer.outbox.control.sent t
         then' = takes.leaves.controls t h
 
-        by : D t ⊎ AnswersAt q 0xFF t.command.number t.transmission → D t ⊎ AnswersAt (put_out q now) 0xFF t.command.number t.transmission
+        by : D t ⊎ AnswersAt p.offset q 0xFF t.command.number t.transmission → D t ⊎ AnswersAt p.offset (put_out q now) 0xFF t.command.number t.transmission
         by (inl d) = inl d
         by (inr w) = elim ((go-or-stay (pace_of q now) q.outbox).acknowledgements a w.1) [
           | inl stays ↦ inr (w.0, stays, w.2)
           | inr went ↦
               let put = g.put (acknowledgement_of a) went in
-              let none = came-away there (now % 65536) m.0 o.new to o.arrived p put.0 t.command.number w.0 o.come put.1 other_is other_on lone put.3 put.2 in
+              let none = came-away there (told_time now (offset_of from)) m.0 o.new to o.arrived p put.0 t.command.number w.0 o.come put.1 other_is other_on lone put.3 put.2 in
               absurd (none.2 t (subst (λ (y : Peering). Has y.outbox.control.sent t) (same-peer o.arrived arrives.peer none.0 arrives.is none.1) then') refl w.2)
         ]
           where

@@ -1,7 +1,8 @@
 -- A peer of which nothing is set has ENet's patience and pings when it wasn't heard for 500 ms, by a clock of 32 bits, whatever happens.
-use Rattle.std.proofs.Common.{◌≡◌, ◌<◌, ◌^◌, ℕ, ◌&&◌, Bool, true, false, cond, length, Option, Some, None, is_some, nat_lt}
+use Rattle.std.proofs.Common.{◌≡◌, ◌<◌, ◌%◌, ◌^◌, ℕ, ◌&&◌, Bool, true, false, cond, length, Option, Some, None, is_some, nat_lt}
 use Rattle.enet_codec.specs.declared.command.Verify.{Verify}
 use Rattle.enet_codec.specs.Message.{Message}
+use Rattle.enet_rtt.specs.Clock.{meant_time}
 use Rattle.enet_rtt.specs.Expiry.{standard_patience}
 use Rattle.enet_rtt.specs.declared.expiry.Expiry.{Expiry}
 use Rattle.enet_rtt.specs.declared.expiry.Expiry.TheVariants.{No, Resend, End}
@@ -38,9 +39,12 @@ unset-answer p state.Answering (control.VerifyConnect verify) h = h
 unset-answer p state.Disconnecting (control.Disconnect info) h = h
 unset-answer p s what h = h
 
-unset-acknowledge : (p : Peering) (now channel number time : ℕ) → now < 2 ^ 32 → IsUnset p → IsUnset (on_acknowledge p now channel number time)
-unset-acknowledge p now channel number time low h = by-state (is_connecting p.state)
+unset-acknowledge : (p : Peering) (now channel number told : ℕ) → now < 2 ^ 32 → IsUnset p → IsUnset (on_acknowledge p now channel number told)
+unset-acknowledge p now channel number told low h = by-state (is_connecting p.state)
   where
+    time : ℕ
+    time = meant_time told (p.offset % 2 ^ 16)
+
     q : Peering
     q = sampled (record p { outbox = after_acknowledgement p.outbox channel number }) now time
 

@@ -1,9 +1,10 @@
 -- What becomes of a peer whose user only takes: it is connected, acknowledges a DISCONNECT or has ended, and goes on in that order.
-use Rattle.std.proofs.Common.{◌≡◌, ◌≢◌, ◌⊎◌, inl, inr, ℕ, Bool, true, false, cond, List, [], ◌∷◌, refl, sym, ap, subst, ◌∙◌, Option, Some, None, Ok, Err}
+use Rattle.std.proofs.Common.{◌≡◌, ◌≢◌, ◌⊎◌, inl, inr, ℕ, ◌%◌, ◌^◌, Bool, true, false, cond, List, [], ◌∷◌, refl, sym, ap, subst, ◌∙◌, Option, Some, None, Ok, Err}
 use Rattle.std.specs.Prelude.{is_some}
 use Rattle.enet_codec.specs.declared.command.Head.{Head}
 use Rattle.enet_codec.specs.declared.packet.Packet.{Packet}
 use Rattle.enet_codec.specs.Message.{Message, Body, ping}
+use Rattle.enet_rtt.specs.Clock.{meant_time}
 use Rattle.enet_rtt.specs.declared.expiry.Expiry.{Expiry}
 use Rattle.enet_rtt.specs.declared.expiry.Expiry.TheVariants.{No, Resend, End as Ends}
 use Rattle.enet_senders.specs.declared.control.Control.TheVariants as control
@@ -71,7 +72,7 @@ acknowledging-obeyed : (r : Peering) (now : ℕ) (sent : Option ℕ) (h : Head) 
 acknowledging-obeyed r now sent h body = obeys-each (λ q. Next state.AckDisconnect q.state) p now sent (record { head = h; body = body }) (record {
   same = inl refl;
   holds = λ b. inl refl;
-  acknowledges = λ number time. inl (taken-away number time (matched_by p.outbox h.channel number time));
+  acknowledges = λ number told. (let time : ℕ = meant_time told (p.offset % 2 ^ 16) in inl (taken-away number time (matched_by p.outbox h.channel number time)));
   verifies = λ v. inl refl;
   ends = λ info e. inl refl;
   hears = λ n. inl refl;

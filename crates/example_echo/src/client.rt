@@ -4,11 +4,11 @@ use crate::node::Node;
 use bytes::Bytes;
 use enet_codec::{Addr, Event, PeerRef, RELIABLE, Refusal};
 use enet_host::Config;
+use enet_wire::system_word;
 use std::alloc::Global;
 use std::net::Net;
 use std::rt::Clock;
 use std::sync::Wait;
-use std::time::SystemTime;
 
 const CHANNELS: u8 = 2;
 
@@ -40,8 +40,8 @@ impl Visit {
     }
 
     /// Asks the server at this address for a connection. E1 for want of memory.
-    pub fn ask<R: Clock>(&mut self, rt: &R, server: Addr) -> Result<(), Refusal> {
-        self.node.host.connect(server, CHANNELS, 0, connect_id(rt))?;
+    pub fn ask(&mut self, server: Addr) -> Result<(), Refusal> {
+        self.node.host.connect(server, CHANNELS, 0, connect_id())?;
         Ok(())
     }
 
@@ -115,14 +115,7 @@ fn words(alloc: Global, length: usize) -> Result<Bytes, Refusal> {
     Bytes::from_vec(bytes).map_err(|_| Refusal::Memory)
 }
 
-// A number by which both ends know this connection, and which a stranger shall not guess. Here it is of the clock; a client that is
-// played on the open internet draws it.
-fn connect_id<R: Clock>(rt: &R) -> u32 {
-    match SystemTime::now(rt) {
-        Ok(now) => match now.duration_since(SystemTime::UNIX_EPOCH) {
-            Ok(since) => since.subsec_nanos(),
-            Err(_) => 1,
-        },
-        Err(_) => 1,
-    }
+// A number by which both ends know this connection. The system draws it, so that no stranger can guess it; where it gives none, 1 has to do.
+fn connect_id() -> u32 {
+    system_word().unwrap_or(1)
 }

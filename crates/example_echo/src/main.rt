@@ -85,7 +85,7 @@ fn go_through<R: Wait + Clock>(
     at: Addr,
     mut server: Option<&mut Server>,
 ) -> Result<u32, Refusal> {
-    visit.ask(rt, at)?;
+    visit.ask(at)?;
     for _ in 0..MOST_TURNS {
         if let Some(server) = &mut server {
             server.turn(rt)?;

@@ -3,6 +3,7 @@
 use crate::node::Node;
 use enet_codec::{Addr, Event, Refusal};
 use enet_host::Config;
+use enet_wire::system_secret;
 use std::net::Net;
 use std::rt::Clock;
 use std::sync::Wait;
@@ -25,6 +26,8 @@ impl Server {
     pub fn open<R: Net + AllocGlobal>(rt: &R, at: Addr) -> Result<Server, Refusal> {
         let mut config = Config::standard(CLIENTS, CHANNELS);
         config.generations = u32::MAX;
+        // By it nobody can connect in another's name without seeing the answers. Where the system gives none, the server goes without.
+        config.secret = system_secret();
         let node = Node::open(rt, at, config)?;
         Ok(Server { node })
     }

@@ -18,7 +18,7 @@ mod rule;
 use enet_codec::{Addr, Config, Refusal};
 use enet_service::{
     Bell, BoundService, Ends, EventReceiver, MioWire, OrderSender, QueueSink, QueueSource, Queues,
-    RunLength, Shared, Signals, Unwatched, beside_turns,
+    RunLength, Shared, Signals, Unwatched, beside_turns, system_secret,
 };
 use game::Game;
 use std::env;
@@ -65,7 +65,7 @@ fn settings_in(words: &[String]) -> Option<Settings> {
     })
 }
 
-/// Serves, and tells how many have won.
+/// Serves, with a secret where the system gives one, and tells how many have won.
 fn serve<R>(rt: &R, settings: Settings) -> Result<u32, Refusal>
 where
     R: Threads + Wait + Net + Clock + Sync + AllocGlobal,
@@ -74,6 +74,7 @@ where
     let bell = wire.bell()?;
     let mut config = Config::standard(CLIENTS, CHANNELS);
     config.generations = u32::MAX;
+    config.secret = system_secret();
     let mut bound = BoundService::open(rt.alloc(), wire, config)?;
     let won = begin(rt, &mut bound, &bell, settings);
     bound.close();

@@ -14,6 +14,7 @@ use Rattle.enet_receiver.specs.Foresight.{ReceivingEnd}
 use Rattle.enet_receiver.specs.Foresight as receiving
 use Rattle.enet_sender.specs.Due.{new_end}
 use Rattle.enet_peer.specs.declared.parts.Limits.{Limits}
+use Rattle.enet_peer.specs.declared.parts.Offsets.{Offsets}
 use Rattle.enet_peer.specs.Peering.{Peering, joined, connecting, answering}
 use Rattle.law_connection.specs.LinkSteps.{fresh_link}
 use Rattle.law_connection.specs.Connection.{End, Connection, packets_of, in_sequence}
@@ -54,8 +55,8 @@ tidy-joined now terms limits big few = record {
 pub least : (n : ℕ) → min n 255 ≤ 255
 least n = omega arith
 
-pub tidy-connecting : (now : ℕ) (offer : Offer) (limits : Limits) → IsTidy [] (connecting now offer limits)
-tidy-connecting now offer limits = record {
+pub tidy-connecting : (now offset : ℕ) (offer : Offer) (limits : Limits) → IsTidy [] (connecting now offset offer limits)
+tidy-connecting now offset offer limits = record {
   places = new-in_place (min offer.channels 255);
   few = new-few (min offer.channels 255) (least offer.channels);
   receivers = new-flat limits.max_packet 0 (min offer.channels 255);
@@ -69,8 +70,8 @@ granted-few a b h = (let t : leb a 255 ≡ true = and-right (leb 1 a) (leb a 255
 granted-big : (n : ℕ) → 28 < max 576 n
 granted-big n = omega arith
 
-pub tidy-answering : (now : ℕ) (offer : Offer) (server : Server) (limits : Limits) → IsTrue (is_channel_count offer.channels) → IsTidy [] (answering now offer server limits)
-tidy-answering now offer server limits count = record {
+pub tidy-answering : (now : ℕ) (offsets : Offsets) (offer : Offer) (server : Server) (limits : Limits) → IsTrue (is_channel_count offer.channels) → IsTidy [] (answering now offsets offer server limits)
+tidy-answering now offsets offer server limits count = record {
   places = new-in_place (min offer.channels server.channels);
   few = new-few (min offer.channels server.channels) (granted-few offer.channels server.channels count);
   receivers = new-flat limits.max_packet 0 (min offer.channels server.channels);
@@ -87,8 +88,8 @@ unsubmitted own other channel none k = elim k.agreed [
   | inr e ↦ absurd (let big : 28 < k.mtu = k.big in let z : mtu_of own ≡ 0 = ap (λ (o : Option Peering). mtu_of (record own { peer = o })) none in let n : k.mtu ≡ 0 = sym e ∙ z in omega arith)
 ]
 
-pub both-answered : (own other : End) (now : ℕ) (offer : Offer) (server : Server) (limits : Limits) → own.peer ≡ None → AreLinked own other → AreLinked (with_peer own (answering now offer server limits)) other
-both-answered own other now offer server limits none b = record {
+pub both-answered : (own other : End) (now : ℕ) (offsets : Offsets) (offer : Offer) (server : Server) (limits : Limits) → own.peer ≡ None → AreLinked own other → AreLinked (with_peer own (answering now offsets offer server limits)) other
+both-answered own other now offsets offer server limits none b = record {
   out = λ channel few. (let k = b.out channel few in
       let h : ShowsSending None channel k.link = subst (λ (o : Option Peering). ShowsSending o channel k.link) none k.sending in
       relinks own other new other channel k k.link (stays k.mtu k.link) refl refl refl (inl (unsubmitted own other channel none k)) (
@@ -113,12 +114,12 @@ both-answered own other now offer server limits none b = record {
     n = min offer.channels server.channels
 
     new : End
-    new = with_peer own (answering now offer server limits)
+    new = with_peer own (answering now offsets offer server limits)
 
 -- a client that asks
 
-asking-out : (now : ℕ) (offer : Offer) (limits : Limits) (channel : ℕ) → IsLinked (with_peer no_end (connecting now offer limits)) no_end channel
-asking-out now offer limits channel = record {
+asking-out : (now offset : ℕ) (offer : Offer) (limits : Limits) (channel : ℕ) → IsLinked (with_peer no_end (connecting now offset offer limits)) no_end channel
+asking-out now offset offer limits channel = record {
   mtu = 576;
   big = omega arith;
   agreed = inl refl;
@@ -140,8 +141,8 @@ asking-out now offer limits channel = record {
   acks = λ p number time h. absurd h;
 }
 
-asking-back : (now : ℕ) (offer : Offer) (limits : Limits) (channel : ℕ) → IsLinked no_end (with_peer no_end (connecting now offer limits)) channel
-asking-back now offer limits channel = record {
+asking-back : (now offset : ℕ) (offer : Offer) (limits : Limits) (channel : ℕ) → IsLinked no_end (with_peer no_end (connecting now offset offer limits)) channel
+asking-back now offset offer limits channel = record {
   mtu = 576;
   big = omega arith;
   agreed = inl refl;
@@ -158,8 +159,8 @@ asking-back now offer limits channel = record {
   acks = λ p number time h. absurd h;
 }
 
-pub asking-both : (now : ℕ) (offer : Offer) (limits : Limits) (c : Connection) → c ≡ asking_pair now offer limits → AreLinked c.one c.two
-asking-both now offer limits c e = subst (λ (x : Connection). AreLinked x.one x.two) (sym e) (record {
-  out = λ channel few. asking-out now offer limits channel;
-  back = λ channel few. asking-back now offer limits channel;
+pub asking-both : (now offset : ℕ) (offer : Offer) (limits : Limits) (c : Connection) → c ≡ asking_pair now offset offer limits → AreLinked c.one c.two
+asking-both now offset offer limits c e = subst (λ (x : Connection). AreLinked x.one x.two) (sym e) (record {
+  out = λ channel few. asking-out now offset offer limits channel;
+  back = λ channel few. asking-back now offset offer limits channel;
 })

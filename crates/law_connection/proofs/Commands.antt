@@ -1,9 +1,10 @@
 -- A command of the log that comes to a peer keeps all links.
-use Rattle.std.proofs.Common.{◌≡◌, ◌≢◌, ℕ, ◌<◌, ◌≤◌, Bool, true, false, cond, ◌==◌, ◌&&◌, not, List, [], ◌∷◌, ◌++◌, refl, sym, ap, subst, ◌∙◌, inl, inr, ◌⊎◌, arith, Option, Some, None}
+use Rattle.std.proofs.Common.{◌≡◌, ◌≢◌, ℕ, ◌%◌, ◌^◌, ◌<◌, ◌≤◌, Bool, true, false, cond, ◌==◌, ◌&&◌, not, List, [], ◌∷◌, ◌++◌, refl, sym, ap, subst, ◌∙◌, inl, inr, ◌⊎◌, arith, Option, Some, None}
 use Rattle.std.proofs.lemmas.Bool.Decides.{nat_tests}
 use Rattle.std.proofs.lemmas.List.{append-nil}
 use Rattle.enet_codec.specs.declared.packet.Packet.{Packet}
 use Rattle.enet_codec.specs.Message.{Message, acknowledge}
+use Rattle.enet_rtt.specs.Clock.{meant_time}
 use Rattle.enet_senders.specs.declared.control.Control.{Control}
 use Rattle.enet_senders.specs.declared.control.Control.TheVariants as control
 use Rattle.enet_packets.specs.declared.incoming_packet.Dispatched.{Dispatched}
@@ -112,16 +113,19 @@ holds-with_answer own other p state.Answering (control.VerifyConnect verify) e h
 holds-with_answer own other p state.Disconnecting (control.Disconnect info) e h = holds-stops own other p (ended p 0) (stops-ended p 0) h
 holds-with_answer own other p s what e h = h
 
-pub holds-acknowledged : (own other : End) (p : Peering) (put : Put) (now number time : ℕ) → Has other.log put → put.message.body ≡ acknowledge number time → (put.message.head.channel < 255 → is_late (sent_on put.message.head.channel own) put.sent_then number ≡ false)
-    → Holds own other p → Holds own other (on_acknowledge p now put.message.head.channel number time)
-holds-acknowledged own other p put now number time logged body late h = by-state (is_connecting p.state)
+pub holds-acknowledged : (own other : End) (p : Peering) (put : Put) (now number told : ℕ) → Has other.log put → put.message.body ≡ acknowledge number told → (put.message.head.channel < 255 → is_late (sent_on put.message.head.channel own) put.sent_then number ≡ false)
+    → Holds own other p → Holds own other (on_acknowledge p now put.message.head.channel number told)
+holds-acknowledged own other p put now number told logged body late h = by-state (is_connecting p.state)
   where
+    time : ℕ
+    time = meant_time told (p.offset % 2 ^ 16)
+
     q : Peering
     q = sampled (record p { outbox = after_acknowledgement p.outbox put.message.head.channel number }) now time
 
     k : Holds own other q
     k = holds-sampled own other (record p { outbox = after_acknowledgement p.outbox put.message.head.channel number }) now time
-        (both-acknowledged (with_peer own p) other p put number time refl logged body late h)
+        (both-acknowledged (with_peer own p) other p put number told refl logged body late h)
 
     by : (x : Matched) → Holds own other (on_match x p q)
     by matched.Nothing = h

@@ -107,7 +107,7 @@ named own other p is b = subst (λ (o : Option Peering). AreLinked (record own {
 
 -- every event
 pub both-happens : (own other new : End) (e : Event) → ((p : Peering) → own.peer ≡ Some p → IsTidy own.submitted p) → IsClean other → AreLinked own other → Happens own other e new → AreLinked new other
-both-happens own other new (Answer put offer now server limits) tidy clean b h = subst (λ x. AreLinked x other) (sym h.4) (both-answered own other now offer server limits h.0 b)
+both-happens own other new (Answer put offer now offsets server limits) tidy clean b h = subst (λ x. AreLinked x other) (sym h.4) (both-answered own other now offsets offer server limits h.0 b)
 both-happens own other new (Submit q) tidy clean b h =
     let p : Peering = h.0 in
     let a = accepted (is_connected p.state) (leb (length p.outbox.senders) q.channel) (ltb p.limits.max_packet (length q.body) || ltb fragment_limit (piece_count (length q.body) p.terms.mtu)) h.2 in

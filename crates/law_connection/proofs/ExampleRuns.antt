@@ -3,6 +3,7 @@ use Rattle.std.proofs.Common.{◌≡◌, ℕ, ◌<◌, false, List, [], ◌∷�
 use Rattle.enet_codec.specs.Message.{ping}
 use Rattle.enet_connect.specs.declared.server.Server.{Server}
 use Rattle.enet_fragment.specs.Cutting as cutting
+use Rattle.enet_peer.specs.declared.parts.Offsets.{Offsets}
 use Rattle.enet_peer.specs.declared.parts.PeerEvent.TheVariants as told
 use Rattle.enet_peer.specs.Peering.{Peering, joined, answering}
 use Rattle.enet_peer.specs.CommandEffect.{obeyed}
@@ -123,17 +124,21 @@ one-datagram-has-one-mark = (
 
 -- a client asks, a host answers, and both are connected
 
+-- nothing is added to the host's times and numbers
+abbrev no_offsets : Offsets
+no_offsets = record { time = 0; number = 0 }
+
 abbrev server : Server
 server = record { slot = 0; incoming_session = 255; outgoing_session = 255; channels = 2; mtu = 1000; incoming_bandwidth = 0; outgoing_bandwidth = 0 }
 
 abbrev asking : Connection
-asking = asking_pair 0 example_offer example_limits
+asking = asking_pair 0 0 example_offer example_limits
 
 abbrev asked : End
 asked = with_emission asking.one asking.two (peer_of asking.one.peer) 0
 
 abbrev answered : End
-answered = with_peer no_end (answering 0 example_offer server example_limits)
+answered = with_peer no_end (answering 0 no_offsets example_offer server example_limits)
 
 abbrev verified : End
 verified = with_emission answered asked (peer_of answered.peer) 0
@@ -150,7 +155,7 @@ host = with_peer verified (obeyed (peer_of verified.peer) 0 None (second confirm
 pub both-ends-connect : OfSomeAsking HasConnected
 unfolding cutting.piece_count connection.reached
 both-ends-connect = (
-  (One, Emit 0) ∷ (Two, Answer (first asked.log) example_offer 0 server example_limits) ∷ (Two, Emit 0) ∷ (One, Come (first verified.log) 0 (Some 0)) ∷ (One, Emit 0)
+  (One, Emit 0) ∷ (Two, Answer (first asked.log) example_offer 0 no_offsets server example_limits) ∷ (Two, Emit 0) ∷ (One, Come (first verified.log) 0 (Some 0)) ∷ (One, Emit 0)
       ∷ (Two, Come (second confirmed.log) 0 None) ∷ [],
   record { one = confirmed; two = host },
   (

@@ -10,6 +10,7 @@ use Rattle.enet_sender.specs.CommandChoice.{fragment_limit}
 use Rattle.enet_sender.specs.CommandChoice as command_choice
 use Rattle.enet_peer.specs.Peering.{Peering, answering}
 use Rattle.enet_peer.specs.declared.parts.Limits.{Limits}
+use Rattle.enet_peer.specs.declared.parts.Offsets.{Offsets}
 use Rattle.enet_peer.specs.declared.parts.PeerEvent.{PeerEvent}
 use Rattle.enet_peer.specs.declared.parts.PeerEvent.TheVariants as told
 use Rattle.enet_peer.specs.declared.parts.PeerState.TheVariants as state
@@ -76,14 +77,14 @@ fit-took own p q e is next h =
     }
 
 -- a server that answers
-fit-answered : (own : End) (now : ℕ) (offer : Offer) (server : Server) (limits : Limits) → IsTrue (is_channel_count offer.channels) → own.peer ≡ None → IsFit own → IsFit (with_peer own (answering now offer server limits))
-fit-answered own now offer server limits count none h =
+fit-answered : (own : End) (now : ℕ) (offsets : Offsets) (offer : Offer) (server : Server) (limits : Limits) → IsTrue (is_channel_count offer.channels) → own.peer ≡ None → IsFit own → IsFit (with_peer own (answering now offsets offer server limits))
+fit-answered own now offsets offer server limits count none h =
     let unsubmitted : own.submitted ≡ [] = subst (λ (o : Option Peering). PeerFits own.submitted o) none h.peer in
-    fit-with own (answering now offer server limits) h (subst (λ (qs : List Packet). IsTidy qs (answering now offer server limits)) (sym unsubmitted) (tidy-answering now offer server limits count))
-    (low-new (answering now offer server limits) limits.max_packet (min offer.channels server.channels) (granted-few offer.channels server.channels count) refl refl)
+    fit-with own (answering now offsets offer server limits) h (subst (λ (qs : List Packet). IsTidy qs (answering now offsets offer server limits)) (sym unsubmitted) (tidy-answering now offsets offer server limits count))
+    (low-new (answering now offsets offer server limits) limits.max_packet (min offer.channels server.channels) (granted-few offer.channels server.channels count) refl refl)
 
 pub fit-happens : (own other new : End) (e : Event) → IsFit own → Happens own other e new → IsFit new
-fit-happens own other new (Answer put offer now server limits) f h = subst IsFit (sym h.4) (fit-answered own now offer server limits h.3 h.0 f)
+fit-happens own other new (Answer put offer now offsets server limits) f h = subst IsFit (sym h.4) (fit-answered own now offsets offer server limits h.3 h.0 f)
 fit-happens own other new (Submit q) f h =
     let p : Peering = h.0 in
     let a = accepted (is_connected p.state) (leb (length p.outbox.senders) q.channel) (ltb p.limits.max_packet (length q.body) || ltb fragment_limit (piece_count (length q.body) p.terms.mtu)) h.2 in

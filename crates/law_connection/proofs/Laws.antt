@@ -79,13 +79,13 @@ joined-kept now1 now2 t1 t2 l1 l2 big1 big2 few1 few2 = record {
   life_two = inl (refl, tt);
 }
 
-pub asking-kept : (now : ℕ) (offer : Offer) (limits : Limits) → Invariant false (asking_pair now offer limits)
-asking-kept now offer limits = record {
-  both = asking-both now offer limits (asking_pair now offer limits) refl;
+pub asking-kept : (now offset : ℕ) (offer : Offer) (limits : Limits) → Invariant false (asking_pair now offset offer limits)
+asking-kept now offset offer limits = record {
+  both = asking-both now offset offer limits (asking_pair now offset offer limits) refl;
   one = record {
-    clean = clean-nothing (with_peer no_end (connecting now offer limits)) refl;
+    clean = clean-nothing (with_peer no_end (connecting now offset offer limits)) refl;
     taken = λ channel far. refl;
-    peer = (tidy-connecting now offer limits, low-new (connecting now offer limits) limits.max_packet (min offer.channels 255) (least offer.channels) refl refl);
+    peer = (tidy-connecting now offset offer limits, low-new (connecting now offset offer limits) limits.max_packet (min offer.channels 255) (least offer.channels) refl refl);
   };
   two = record { clean = clean-nothing no_end refl; taken = λ channel far. refl; peer = refl };
   life_one = (refl, record { none = refl; greeting = refl; untaken = refl });
@@ -102,13 +102,13 @@ kept-joined one two events c big1 big2 few1 few2 r =
     kept-runs true events (joined_pair one two) c r (joined-kept one.now two.now one.terms two.terms one.limits two.limits (big-of one.terms.mtu big1) (big-of two.terms.mtu big2) few1 few2)
 
 kept-asking : OfEachAsking (Invariant false)
-kept-asking now offer limits events c r = kept-runs false events (asking_pair now offer limits) c r (asking-kept now offer limits)
+kept-asking now offset offer limits events c r = kept-runs false events (asking_pair now offset offer limits) c r (asking-kept now offset offer limits)
 
 pub joined-law : JoinedLaw
 joined-law one two events c big1 big2 few1 few2 r = lawful true c (kept-joined one two events c big1 big2 few1 few2 r)
 
 pub asking-law : AskingLaw
-asking-law now offer limits events c r = lawful false c (kept-asking now offer limits events c r)
+asking-law now offset offer limits events c r = lawful false c (kept-asking now offset offer limits events c r)
 
 -- and with it the ends agree on the numbers
 
@@ -119,4 +119,4 @@ pub joined-agree : OfEachJoined Agree
 joined-agree one two events c big1 big2 few1 few2 r = agree true c (kept-joined one two events c big1 big2 few1 few2 r)
 
 pub asking-agree : OfEachAsking Agree
-asking-agree now offer limits events c r = agree false c (kept-asking now offer limits events c r)
+asking-agree now offset offer limits events c r = agree false c (kept-asking now offset offer limits events c r)

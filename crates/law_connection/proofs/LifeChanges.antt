@@ -354,7 +354,7 @@ life-answered joined own q at greeting untaken none h =
     subst (λ (s : PeerState). LivesIn s joined own.events q) (sym at) (k.0, record { none = k.1; greeting = greeting; untaken = untaken })
 
 pub life-happens : (joined : Bool) (own other new : End) (e : Event) → LivesOn joined own → Happens own other e new → LivesOn joined new
-life-happens joined own other new (Answer put offer now server limits) f h = subst (λ (x : End). LivesOn joined x) (sym h.4) (life-answered joined own (answering now offer server limits) refl refl refl h.0 f)
+life-happens joined own other new (Answer put offer now offsets server limits) f h = subst (λ (x : End). LivesOn joined x) (sym h.4) (life-answered joined own (answering now offsets offer server limits) refl refl refl h.0 f)
 life-happens joined own other new (Submit q) f h =
     let p : Peering = h.0 in
     let a = accepted (is_connected p.state) (leb (length p.outbox.senders) q.channel) (ltb p.limits.max_packet (length q.body) || ltb fragment_limit (piece_count (length q.body) p.terms.mtu)) h.2 in

@@ -1,5 +1,5 @@
 -- A property of a peer that each single change keeps is kept by whatever comes, by the clock, by the user's settings and by an emission.
-use Rattle.std.proofs.Common.{◌≡◌, ℕ, ◌<◌, Bool, true, false, cond, ltb, leb, ◌&&◌, not, List, refl, sym, ap, subst, ◌∙◌, inl, inr, arith, Option, Some, None, Result, Ok, Err, length, slice_set}
+use Rattle.std.proofs.Common.{◌≡◌, ℕ, ◌%◌, ◌^◌, ◌<◌, Bool, true, false, cond, ltb, leb, ◌&&◌, not, List, refl, sym, ap, subst, ◌∙◌, inl, inr, arith, Option, Some, None, Result, Ok, Err, length, slice_set}
 use Rattle.std.specs.Prelude.{is_some, max, min}
 use Rattle.std.specs.List.{slice_get}
 use Rattle.enet_codec.specs.declared.command.Head.{Head}
@@ -10,7 +10,7 @@ use Rattle.enet_codec.specs.declared.stop.Stop.TheVariants as stop
 use Rattle.enet_codec.specs.Message.{Message, Body, acknowledge, connect, verify_connect, disconnect, ping, send_reliable, send_unreliable, send_fragment, send_unsequenced, bandwidth_limit, throttle_configure, send_unreliable_fragment}
 use Rattle.enet_seq.specs.Numbering.{wire}
 use Rattle.enet_rtt.specs.declared.expiry.Expiry.TheVariants.{No, Resend, End as Ends}
-use Rattle.enet_rtt.specs.Clock.{elapsed_time}
+use Rattle.enet_rtt.specs.Clock.{elapsed_time, meant_time}
 use Rattle.enet_unsequenced.specs.Groups.{dispatches}
 use Rattle.enet_connect.specs.declared.terms.Terms.{Terms}
 use Rattle.enet_connect.specs.Verification.{confirmed, agreed, is_accepted}
@@ -51,6 +51,7 @@ pub record Core : Type 0 where
   pub mtu : ℕ
   pub connect_id : ℕ
   pub offered : ℕ  -- the connect id of the offer with which it asked
+  pub offset : ℕ  -- what is added to its sent times
   pub greeting : Option ℕ
   pub receivers : List ReceivingEnd
   pub untaken : List Packet
@@ -58,7 +59,7 @@ pub record Core : Type 0 where
   pub senders : List SendingEnd
 
 abbrev pub core : Peering → Core
-core p = record { state = p.state; mtu = p.terms.mtu; connect_id = p.terms.connect_id; offered = p.offer.connect_id; greeting = p.greeting; receivers = p.inbox.receivers; untaken = p.inbox.untaken; control = p.outbox.control; senders = p.outbox.senders }
+core p = record { state = p.state; mtu = p.terms.mtu; connect_id = p.terms.connect_id; offered = p.offer.connect_id; offset = p.offset; greeting = p.greeting; receivers = p.inbox.receivers; untaken = p.inbox.untaken; control = p.outbox.control; senders = p.outbox.senders }
 
 -- a CONNECT, which nothing queues but the beginning of a connection
 abbrev pub is_offer : Control → Bool
@@ -123,7 +124,7 @@ later-stands state.Ended e = absurd (cc)
 later-stands state.Parting e = absurd (cc)
 later-stands state.Free e = absurd (cc)
 
-kept-settled : (P : Peering → Type 0) → Changes P → (p : Peering) → P p → P (settled p)
+pub kept-settled : (P : Peering → Type 0) → Changes P → (p : Peering) → P p → P (settled p)
 kept-settled P k p h = if-peer P (is_later p.state && is_done p.outbox) (disconnecting p p.info) p (λ t. k.disconnects p p.info (later-stands p.state (and-left (is_later p.state) (is_done p.outbox) t)) h) h
 
 -- the clock
@@ -212,7 +213,7 @@ kept-filled P k p pace h =
           (k.drops_data (record p { outbox = f.outbox }) i (record { now = pace.now; timeout = pace.timeout; transit = transit_of f.outbox; most = transit_limit pace f.outbox }) s n there due a));
     }) h
 
-kept-gone_on : (P : Peering → Type 0) → Changes P → (p : Peering) (s : PeerState) → p.state ≡ s → P p → P (gone_on_in s p)
+pub kept-gone_on : (P : Peering → Type 0) → Changes P → (p : Peering) (s : PeerState) → p.state ≡ s → P p → P (gone_on_in s p)
 kept-gone_on P k p state.AckDisconnect e h = k.ends p p.info (ap is_gone e) h
 kept-gone_on P k p state.Parting e h = if-peer P (ltb 0 (length p.outbox.control.queued)) p (freed p) (λ t. h) (k.frees p h)
 kept-gone_on P k p s e h = kept-settled P k p h
@@ -258,9 +259,12 @@ kept-with_answer P k p state.Answering (control.VerifyConnect verify) e h = k.gr
 kept-with_answer P k p state.Disconnecting (control.Disconnect info) e h = k.ends p 0 (ap is_gone e) h
 kept-with_answer P k p s what e h = h
 
-kept-acknowledged : (P : Peering → Type 0) → Changes P → (p : Peering) (now channel number time : ℕ) → is_gone p.state ≡ false → P p → P (on_acknowledge p now channel number time)
-kept-acknowledged P k p now channel number time here h = by-state (is_connecting p.state)
+kept-acknowledged : (P : Peering → Type 0) → Changes P → (p : Peering) (now channel number told : ℕ) → is_gone p.state ≡ false → P p → P (on_acknowledge p now channel number told)
+kept-acknowledged P k p now channel number told here h = by-state (is_connecting p.state)
   where
+    time : ℕ
+    time = meant_time told (p.offset % 2 ^ 16)
+
     q : Peering
     q = sampled (record p { outbox = after_acknowledgement p.outbox channel number }) now time
 

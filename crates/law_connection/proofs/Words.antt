@@ -298,11 +298,11 @@ word-took w own p q e is next h = record {
 -- each event keeps this
 pub word-happens : (w : ℕ) (own far new : End) (e : Event) → IsWord w far → IsWord w own → Happens own far e new → IsWord w new
 unfolding Says
-word-happens w own far new (Answer put offer now server limits) f h x =
-    subst (IsWord w) (sym x.4) (word-with w own (answering now offer server limits) h (record {
+word-happens w own far new (Answer put offer now offsets server limits) f h x =
+    subst (IsWord w) (sym x.4) (word-with w own (answering now offsets offer server limits) h (record {
       terms = f.log put offer x.1 x.2;
       offer = λ t. absurd (let y : state.Answering ≡ state.Connecting = t in cc);
-      says = cleared-queued w 0 (control.VerifyConnect (verification_of offer server)) tt;
+      says = cleared-queued w offsets.number (control.VerifyConnect (verification_of offer server)) tt;
     }))
 word-happens w own far new (Submit q) f h x = subst (IsWord w) (sym x.3) (record {
   log = h.log;
@@ -321,9 +321,9 @@ word-happens w own far new (Set setting) f h x = subst (IsWord w) (sym x.3) (wor
 pub word-none : (w : ℕ) → IsWord w no_end
 word-none w = record { log = λ x o h. absurd h; peer = λ p e. absurd (let y : ◌≡◌ {A = Option Peering} None (Some p) = e in cc) }
 
-pub word-asking : (now : ℕ) (offer : Offer) (limits : Limits) → IsWord offer.connect_id (with_peer no_end (connecting now offer limits))
+pub word-asking : (now offset : ℕ) (offer : Offer) (limits : Limits) → IsWord offer.connect_id (with_peer no_end (connecting now offset offer limits))
 unfolding Says
-word-asking now offer limits = word-with offer.connect_id no_end (connecting now offer limits) (word-none offer.connect_id) (record {
+word-asking now offset offer limits = word-with offer.connect_id no_end (connecting now offset offer limits) (word-none offer.connect_id) (record {
   terms = refl;
   offer = λ t. refl;
   says = cleared-queued offer.connect_id 0 (control.Connect offer) refl;

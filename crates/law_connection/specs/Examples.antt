@@ -32,7 +32,7 @@ OfSomeJoined P = (events : List (Side × Event)) × (c : Connection) × Runs eve
 
 -- or of a client that asks and a host that answers
 abbrev pub OfSomeAsking : (Connection → Type 0) → Type 0
-OfSomeAsking P = (events : List (Side × Event)) × (c : Connection) × Runs events (asking_pair 0 example_offer example_limits) c × P c
+OfSomeAsking P = (events : List (Side × Event)) × (c : Connection) × Runs events (asking_pair 0 0 example_offer example_limits) c × P c
 
 -- a packet was submitted at the one end and taken at the other
 abbrev pub HasTaken : Connection → Type 0

@@ -18,6 +18,14 @@ mtu_in (Some p) = p.terms.mtu
 abbrev pub mtu_of : End → ℕ
 mtu_of e = mtu_in e.peer
 
+-- what is added to an end's sent times
+abbrev pub offset_in : Option Peering → ℕ
+offset_in None = 0
+offset_in (Some p) = p.offset
+
+abbrev pub offset_of : End → ℕ
+offset_of e = offset_in e.peer
+
 -- what the user of one end took of a channel follows what the user of the other submitted on it
 abbrev pub IsInOrder : End → End → Type 0
 IsInOrder from to = (channel : ℕ) → Follows (mtu_of from) (of_channel (mtu_of from) channel from.submitted) (bodies_of (in_sequence channel (packets_of to.events)))
@@ -51,8 +59,8 @@ OfEachJoined P = (one two : JoinedEnd) (events : List (Side × Event)) (c : Conn
 
 -- this holds after every run of a client that asks and a host that knows nothing of it
 abbrev pub OfEachAsking : (Connection → Type 0) → Type 0
-OfEachAsking P = (now : ℕ) (offer : Offer) (limits : Limits) (events : List (Side × Event)) (c : Connection)
-    → Runs events (asking_pair now offer limits) c → P c
+OfEachAsking P = (now offset : ℕ) (offer : Offer) (limits : Limits) (events : List (Side × Event)) (c : Connection)
+    → Runs events (asking_pair now offset offer limits) c → P c
 
 -- the law of one connection
 abbrev pub JoinedLaw : Type 0

@@ -12,6 +12,7 @@ use Rattle.law_connection.specs.Link.{is_late}
 use Rattle.law_connection.specs.LinkSteps.{Has}
 use Rattle.enet_outbox.specs.Emission.{filled}
 use Rattle.enet_peer.specs.declared.parts.Limits.{Limits}
+use Rattle.enet_peer.specs.declared.parts.Offsets.{Offsets}
 use Rattle.enet_peer.specs.declared.parts.PeerEvent.{PeerEvent}
 use Rattle.enet_peer.specs.declared.parts.PeerState.{PeerState}
 use Rattle.enet_peer.specs.Peering.{Peering, joined, connecting, answering}
@@ -51,7 +52,7 @@ MaySet (Throttle interval acceleration deceleration) p = is_connected p.state �
 MaySet _ p = Unit {0}
 
 pub data Event : Type 0 where
-  Answer : (put : Put) (offer : Offer) (now : ℕ) (server : Server) (limits : Limits) → Event  -- CONNECT comes to a host that has no peer yet
+  Answer : (put : Put) (offer : Offer) (now : ℕ) (offsets : Offsets) (server : Server) (limits : Limits) → Event  -- CONNECT comes to a host that has no peer yet, which adds these to its sent times and numbers
   Submit : (packet : Packet) → Event
   Emit : (now : ℕ) → Event  -- a datagram is put out, if there is anything to send
   Come : (put : Put) (now : ℕ) (sent : Option ℕ) → Event  -- a command that the other end put out comes, in a datagram that tells this sent time or none
@@ -86,8 +87,8 @@ with_emission own other p now =
 
 -- one event at one end, the other being as it is
 abbrev pub Happens : End → End → Event → End → Type 0
-Happens own other (Answer put offer now server limits) new =
-    (own.peer ≡ None) × Has other.log put × (put.message.body ≡ connect offer) × IsTrue (is_channel_count offer.channels) × (new ≡ with_peer own (answering now offer server limits))
+Happens own other (Answer put offer now offsets server limits) new =
+    (own.peer ≡ None) × Has other.log put × (put.message.body ≡ connect offer) × IsTrue (is_channel_count offer.channels) × (new ≡ with_peer own (answering now offsets offer server limits))
 Happens own other (Submit q) new =
     (p : Peering) × has_peer own p × (submission_refusal p q.channel (length q.body) ≡ None) × (new ≡ with_submission own p q)
 Happens own other (Emit now) new = (p : Peering) × has_peer own p × (new ≡ with_emission own other p now)
@@ -129,6 +130,6 @@ joined_pair one two = record {
   two = with_peer no_end (joined two.now two.terms two.limits);
 }
 
--- a client that asks, and a host that knows nothing of it
-abbrev pub asking_pair : ℕ → Offer → Limits → Connection
-asking_pair now offer limits = record { one = with_peer no_end (connecting now offer limits); two = no_end }
+-- a client that asks and adds so much to its sent times, and a host that knows nothing of it
+abbrev pub asking_pair : (now offset : ℕ) → Offer → Limits → Connection
+asking_pair now offset offer limits = record { one = with_peer no_end (connecting now offset offer limits); two = no_end }

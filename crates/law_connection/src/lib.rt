@@ -53,7 +53,7 @@ pub fn ends_agree_on_numbers()
 pub fn each_event_keeps()
     ensures joined { (one two : JoinedEnd) → 576 ≤ one.terms.mtu → 576 ≤ two.terms.mtu → one.terms.channels ≤ 255 → two.terms.channels ≤ 255
         → Invariant true (joined_pair one two) }
-    ensures asking { (now : ℕ) (offer : Offer) (limits : Limits) → Invariant false (asking_pair now offer limits) }
+    ensures asking { (now offset : ℕ) (offer : Offer) (limits : Limits) → Invariant false (asking_pair now offset offer limits) }
     ensures event { (joined : Bool) (side : Side) (event : Event) (c d : Connection) → HappensAt side event c d → Invariant joined c → Invariant joined d }
     ensures lawful { (joined : Bool) (c : Connection) → Invariant joined c → IsLawful joined c }
     ensures agree { (joined : Bool) (c : Connection) → Invariant joined c → Agree c }

@@ -17,6 +17,7 @@ use Rattle.enet_codec.proofs.Datagrams.{some-bytes}
 use Rattle.enet_connect.specs.declared.server.Server.{Server}
 use Rattle.enet_connect.specs.Terms.{is_channel_count}
 use Rattle.enet_peer.specs.Heading.{IsRead, IsOffer}
+use Rattle.enet_peer.specs.declared.parts.Offsets.{Offsets}
 use Rattle.enet_peer.specs.declared.parts.PeerState.TheVariants as state
 use Rattle.enet_peer.specs.Peering.{Peering, connecting, answering as answering_peer}
 use Rattle.law_connection.specs.LinkSteps.{Has}
@@ -24,7 +25,7 @@ use Rattle.law_connection.proofs.Lists.{Has-push, Has-slice_get}
 use Rattle.law_connection.specs.Connection.{Put, End, messages_of}
 use Rattle.law_connection.specs.Steps.{Answer, with_peer, no_end}
 use Rattle.law_connection.proofs.Runs.{reached-none}
-use Rattle.enet_slot.specs.Giving.{limits_of, unused_slot, is_available, offer_from, server_from, asking, answering}
+use Rattle.enet_slot.specs.Giving.{limits_of, unused_slot, is_available, offer_from, drawn_for, server_from, asking, answering}
 use Rattle.enet_slot.specs.Slot.{SlotState, name_of}
 use Rattle.enet_host.specs.Host.{Host}
 use Rattle.enet_host.specs.Opening.{host_basis, available, Connects, no_channel, no_slot, no_memory, asks}
@@ -34,7 +35,7 @@ use Rattle.enet_host.specs.Receiving as receiving
 use Rattle.law_network.proofs.Lists.{get-set, get-set_other, get-within}
 use Rattle.law_network.proofs.Names.{IsThere}
 use Rattle.law_network.proofs.Receiving.{is_open}
-use Rattle.law_network.specs.Law.{HasNothingOf, Asked, Begins, Answered}
+use Rattle.law_network.specs.Law.{HasNothingOf, time_drawn, Asked, Begins, Answered}
 use Rattle.law_network.specs.Log.{Logged, ChannelPackets, no_packets, fresh_channels, fresh_greatest, packets_at, greatest_at}
 use Rattle.law_network.specs.Network.{HostEnd, Site, fresh_end}
 use Rattle.law_network.specs.Shown.{IsLogged, Shows, ShowsFar}
@@ -80,7 +81,7 @@ ok-name a b e = cc
 pub record Asks (h : Host) (slots : List SlotState) (word : ℕ) (name : PeerRef) : Type 0 where
   pub offer : Offer
   pub says : offer.connect_id ≡ word
-  pub there : IsThere slots name (connecting h.clock offer (limits_of h.config))
+  pub there : IsThere slots name (connecting h.clock (time_drawn h.config name) offer (limits_of h.config))
 
 pub asked-in : (h : Host) (address : Addr) (channels info word : ℕ) (name : PeerRef) (answer : Result PeerRef Refusal) (slots after : List SlotState) → Connects (host_basis h) slots (record { address = address; channels = channels; info = info; word = word }) answer after → answer ≡ Ok name
     → Asks h after word name
@@ -103,7 +104,7 @@ asked w from old new address channels info word name x none =
       a.offer,
       a.says,
       subst (λ (l : List HostEnd). Has l (fresh_end w.count name)) (sym ends) (Has-push old.ends (fresh_end w.count name)),
-      shows-fresh new w.count name (connecting old.host.clock a.offer (limits_of old.host.config)) (λ e. absurd (let y : state.Connecting ≡ state.Free = e in cc)) a.there
+      shows-fresh new w.count name (connecting old.host.clock (time_drawn old.host.config name) a.offer (limits_of old.host.config)) (λ e. absurd (let y : state.Connecting ≡ state.Free = e in cc)) a.there
           (subst (λ (l : List Logged). (d : Logged) → Has l d → d.connection ≢ w.count) (sym logs) none),
     )
 
@@ -141,17 +142,20 @@ begins : (from : Site) (k : ℕ) (d : Logged) (old new : Site) (f : HostEnd) (fa
     → HasNothingOf d.connection new → IsRead d.text header commands → IsOffer commands o → offer_refused o ≡ None → slice_get old.host.slots j ≡ Some s
     → new.host.slots ≡ slice_set old.host.slots j (answering (host_basis old.host) j s from.address o) → Has (begun_in d.connection (Some j) new.host) f → Begins far new f
 begins from k d old new f far commands header o j s sent shown none read offer fits there set h = record {
-  event = Answer put.0 o old.host.clock server (limits_of old.host.config);
+  event = Answer put.0 o old.host.clock offsets server (limits_of old.host.config);
   own = with_peer no_end p;
   answers = (refl, l.logged put.0 put.1, put.2, counts o fits, refl);
   shows = subst (λ (g : HostEnd). Shows new g (with_peer no_end p)) is (shows-fresh new d.connection (name_of j t) p (λ e. absurd (let y : state.Answering ≡ state.Free = e in cc)) (record { slot = t; there = there'; same = refl; peer = refl }) none);
 }
   where
+    offsets : Offsets
+    offsets = (drawn_for old.host.config j s).offsets
+
     server : Server
-    server = server_from old.host.config j s
+    server = server_from old.host.config j s o
 
     p : Peering
-    p = answering_peer old.host.clock o server (limits_of old.host.config)
+    p = answering_peer old.host.clock offsets o server (limits_of old.host.config)
 
     t : SlotState
     t = answering (host_basis old.host) j s from.address o

@@ -146,7 +146,7 @@ abbrev pub asking_message : Message
 asking_message = record { head = reliable; body = connect offer }
 
 abbrev pub verifying_message : Message
-verifying_message = record { head = reliable; body = verify_connect (verification_of offer (server_from example_config 0 unused_slot)) }
+verifying_message = record { head = reliable; body = verify_connect (verification_of offer (server_from example_config 0 unused_slot offer)) }
 
 abbrev pub confirming_message : Message
 confirming_message = record { head = record { acknowledge = false; unsequenced = false; channel = 0xFF; number = 1 }; body = acknowledge 1 0 }

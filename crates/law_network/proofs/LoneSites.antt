@@ -330,10 +330,10 @@ abbrev pub offer_with : (info word : ℕ) → Offer
 offer_with info word = offer_from example_config 0 unused_slot (record { address = no_address; channels = 1; info = info; word = word })
 
 abbrev pub asking_peer : Offer → Peering
-asking_peer o = peers.connecting 0 o (limits_of example_config)
+asking_peer o = peers.connecting 0 0 o (limits_of example_config)
 
 abbrev pub answering_peer : Offer → Peering
-answering_peer o = peers.answering 0 o (server_from example_config 0 unused_slot) (limits_of example_config)
+answering_peer o = peers.answering 0 (record { time = 0; number = 0 }) o (server_from example_config 0 unused_slot o) (limits_of example_config)
 
 pub asks-first : (side : Side) (far : Site) (info word : ℕ) → far.address ≡ address_of (other side)
     → Happens 0 far (Calls (call.Connect (address_of (other side)) 1 info word (Ok first_name))) (free_site side) (site side (beginning no_totals (asking_peer (offer_with info word))))

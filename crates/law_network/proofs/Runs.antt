@@ -23,7 +23,7 @@ use Rattle.law_network.specs.declared.event.Answer.{Answer}
 use Rattle.law_network.specs.declared.event.Side.{Side}
 use Rattle.law_network.specs.declared.event.WorldEvent.{WorldEvent}
 use Rattle.law_network.specs.declared.event.Side.TheVariants.{A, B}
-use Rattle.law_network.specs.Law.{LawfulEither, AreLawful, OfEachRun, OfEachJoinedRun, OfEachList, OfEachJoinedList}
+use Rattle.law_network.specs.Law.{time_drawn, LawfulEither, AreLawful, OfEachRun, OfEachJoinedRun, OfEachList, OfEachJoinedList}
 use Rattle.law_network.specs.Log.{Logged, ChannelPackets as KeptOf, no_packets, fresh_channels, joined_greatest, packets_at, greatest_at}
 use Rattle.law_network.specs.Network.{HostEnd, Site, fresh_end}
 use Rattle.law_network.specs.Shown.{Shows}
@@ -58,13 +58,13 @@ pub new-pair : (w : Around) (from old new : Site) (what : Happening) (x : ℕ) �
 new-pair w from old new (Calls (call.Connect address channels info word (Ok name))) x happens k ko least most =
     let y = asked w from old new address channels info word name happens (nothing-of old w.count w.count k (λ e h of. let low : e.connection < w.count = k.below e h in let same : e.connection ≡ w.count = of in omega arith)) in
     subst (Pair false new from) (let few : x < w.count + 1 = most in let same : w.count ≡ x = omega arith in same) (record {
-      one = (asking_pair old.host.clock y.0 (limits_of old.host.config)).one;
+      one = (asking_pair old.host.clock (time_drawn old.host.config name) y.0 (limits_of old.host.config)).one;
       two = no_end;
       here = inl (fresh_end w.count name, y.2, refl, y.3);
       there = inr ((λ e h of. let low : e.connection < w.count = ko.below e h in let same : e.connection ≡ w.count = of in omega arith), refl);
-      kept = inl (asking-kept old.host.clock y.0 (limits_of old.host.config));
+      kept = inl (asking-kept old.host.clock (time_drawn old.host.config name) y.0 (limits_of old.host.config));
       word = y.0.connect_id;
-      one_word = word-asking old.host.clock y.0 (limits_of old.host.config);
+      one_word = word-asking old.host.clock (time_drawn old.host.config name) y.0 (limits_of old.host.config);
       two_word = word-none y.0.connect_id;
     })
 new-pair w from old new (Calls c) x happens k ko least most = absurd (let few : x < w.count = most in omega arith)

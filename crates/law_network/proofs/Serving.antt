@@ -1,5 +1,5 @@
 -- A call of service: each end that is asked puts a datagram out or has none.
-use Rattle.std.proofs.Common.{◌≡◌, ◌≢◌, ◌≤◌, ◌<◌, ◌%◌, ◌||◌, ℕ, zero, suc, ◌⊎◌, inl, inr, Bool, true, false, cond, List, [], ◌∷◌, ◌++◌, length, map, take, refl, sym, ap, subst, ◌∙◌, arith, Option, Some, None, slice_get}
+use Rattle.std.proofs.Common.{◌≡◌, ◌≢◌, ◌≤◌, ◌<◌, ◌||◌, ℕ, zero, suc, ◌⊎◌, inl, inr, Bool, true, false, cond, List, [], ◌∷◌, ◌++◌, length, map, take, refl, sym, ap, subst, ◌∙◌, arith, Option, Some, None, slice_get}
 use Rattle.std.proofs.lemmas.List.{map-append}
 use Rattle.std.specs.List.{list_any}
 use Rattle.std.proofs.lemmas.Bool.Decides.{nat_tests}
@@ -17,12 +17,14 @@ use Rattle.enet_fragment.specs.declared.data.DataCommand.{DataCommand}
 use Rattle.enet_fragment.specs.DataCommand.{data_of}
 use Rattle.enet_outbox.specs.Emission.{header_for, filled, HasDatagram}
 use Rattle.enet_outbox.proofs.Spelled.{datagram-spelled}
+use Rattle.enet_rtt.specs.Clock.{told_time}
 use Rattle.enet_peer.specs.declared.parts.PeerState.TheVariants as state
 use Rattle.enet_peer.specs.Peering.{Peering}
 use Rattle.enet_peer.specs.Calls.{PutsOut, pace_of, destination_of}
 use Rattle.law_connection.specs.LinkSteps.{Has}
 use Rattle.law_connection.specs.Connection.{Put, End, messages_of, sent_on, put_by}
 use Rattle.law_connection.specs.Connection as connection
+use Rattle.law_connection.specs.Law.{offset_in}
 use Rattle.law_connection.specs.Steps.{Emit, with_emission}
 use Rattle.law_connection.proofs.Emits.{Has-from_map}
 use Rattle.law_connection.proofs.Runs.{reached-append, reached-none}
@@ -214,7 +216,8 @@ logs-one old new e own far now len q buf k out shows numbers others noted' d cou
     is = logged;
     all = refl;
     sent = λ y there asks. (let r = Has-from_map put ms y there in
-        ap (λ (b : Bool). cond b (Some (now % 65536)) None) (any-of (λ (m : Message). m.head.acknowledge) ms r.0 r.1 (ap (λ (z : Put). z.message.head.acknowledge) r.2 ∙ asks)));
+        ap (λ (b : Bool). cond b (Some (told_time now k.peer.offset)) None) (any-of (λ (m : Message). m.head.acknowledge) ms r.0 r.1 (ap (λ (z : Put). z.message.head.acknowledge) r.2 ∙ asks))
+        ∙ ap (λ (o : Option Peering). Some (told_time now (offset_in o))) (sym k.has));
   };
 }
   where

@@ -78,7 +78,7 @@ steady-peer m own p is s = subst (IsSteady m) (same-some s.0 p (sym s.1 ∙ is))
 
 steady-happens : (m : ℕ) (own far new : End) (e : Event) → SteadyEnd m own → Happens own far e new → SteadyEnd m new
 unfolding SteadyEnd
-steady-happens m own far new (Answer put offer now server limits) s x = absurd (let y : ◌≡◌ {A = Option Peering} None (Some s.0) = sym x.0 ∙ s.1 in cc)
+steady-happens m own far new (Answer put offer now offsets server limits) s x = absurd (let y : ◌≡◌ {A = Option Peering} None (Some s.0) = sym x.0 ∙ s.1 in cc)
 steady-happens m own far new (Submit q) s x =
     (submitted x.0 q.channel (record { flags = q.flags; body = q.body }), ap (λ (z : End). z.peer) x.3, steady-submitted m x.0 q.channel (record { flags = q.flags; body = q.body }) (steady-peer m own x.0 x.1 s))
 steady-happens m own far new (Emit now) s x =

@@ -14,6 +14,7 @@ use Rattle.law_connection.specs.Connection.{End, sent_on}
 use Rattle.law_connection.specs.Law.{IsLawful}
 use Rattle.law_connection.specs.Steps.{Event, Happens as HappensLaw, no_end, asking_pair}
 use Rattle.law_unsequenced.specs.Law.{EachSubmitted}
+use Rattle.enet_slot.specs.Drawing.{drawn}
 use Rattle.enet_slot.specs.Giving.{limits_of}
 use Rattle.enet_slot.specs.Slot.{greatest}
 use Rattle.enet_host.specs.Host.{Host}
@@ -72,12 +73,16 @@ GoOnAt h = (old : Site) → old.host ≡ h → GoOn old
 abbrev pub HasNothingOf : ℕ → Site → Type 0
 HasNothingOf x s = (d : Logged) → Has s.log d → d.connection ≢ x
 
+-- what is drawn for the sent times of the peer of this name; 0 where its host has no secret
+abbrev pub time_drawn : Config → PeerRef → ℕ
+time_drawn c name = (drawn c.secret name.slot name.generation).offsets.time
+
 -- a client asks: its end begins as the first of a pair of the law
 abbrev pub Asked : Type 0
 Asked = (w : Around) (from old new : Site) (address : Addr) (channels info word : ℕ) (name : PeerRef)
     → HappensAmong w from (Calls (call.Connect address channels info word (Ok name))) old new → HasNothingOf w.count old
     → (offer : Offer) × (offer.connect_id ≡ word) × Has new.ends (fresh_end w.count name)
-    × Shows new (fresh_end w.count name) (asking_pair old.host.clock offer (limits_of old.host.config)).one
+    × Shows new (fresh_end w.count name) (asking_pair old.host.clock (time_drawn old.host.config name) offer (limits_of old.host.config)).one
 
 -- a datagram that is brought to a host where an end begins is a CONNECT that the other end put out: the end is one that answers it
 pub record Begins (far : End) (new : Site) (f : HostEnd) : Type 0 where

@@ -1,6 +1,6 @@
 -- Which events of the law of one connection a turn, a datagram that is brought, a tick and a take are to an end of it at their host. By
 -- these a run of two hosts in which nothing is lost is seen to be one of the two ends.
-use Rattle.std.specs.Prelude.{◌≡◌, ◌≢◌, ◌≤◌, ◌%◌, ◌⊎◌, ◌++◌, ℕ, true, List, [], ◌∷◌, Option, Some, None, slice_get}
+use Rattle.std.specs.Prelude.{◌≡◌, ◌≢◌, ◌≤◌, ◌⊎◌, ◌++◌, ℕ, true, List, [], ◌∷◌, Option, Some, None, slice_get}
 use Rattle.enet_codec.specs.declared.address.Addr.{Addr}
 use Rattle.enet_codec.specs.declared.event.Event.{Event as Told}
 use Rattle.enet_codec.specs.declared.event.PeerRef.{PeerRef}
@@ -8,7 +8,9 @@ use Rattle.enet_codec.specs.declared.event.Received.{Received}
 use Rattle.enet_peer.specs.declared.parts.PeerState.TheVariants as state
 use Rattle.enet_peer.specs.Peering.{Peering}
 use Rattle.enet_peer.specs.CommandEffect.{obeyed}
+use Rattle.enet_rtt.specs.Clock.{told_time}
 use Rattle.law_connection.specs.LinkSteps.{Has}
+use Rattle.law_connection.specs.Law.{offset_of}
 use Rattle.law_connection.specs.Connection.{Put, End}
 use Rattle.law_connection.specs.Steps.{Happens, Emit, Tick, Take, Set, ThrottleLimit, InTime, with_peer}
 use Rattle.enet_slot.specs.Receiving.{no_peer}
@@ -31,11 +33,12 @@ pub record IsShownAs (new : Site) (e : HostEnd) (Holds : End → Type 0) : Type 
   pub shows : Shows new after end
   pub holds : Holds end
 
--- a datagram has just the commands that an end put out, in order, and tells when they went, if any asks for its acknowledgement
+-- a datagram has just the commands that an end put out, in order, and tells when they went by the end's own times, if any asks for its
+-- acknowledgement
 pub record HasPut (now : ℕ) (own new : End) (d : Logged) : Type 0 where
   pub is : IsLogged new.log d
   pub all : new.log ≡ own.log ++ is.puts
-  pub sent : (x : Put) → Has is.puts x → x.message.head.acknowledge ≡ true → is.header.sent ≡ Some (now % 65536)
+  pub sent : (x : Put) → Has is.puts x → x.message.head.acknowledge ≡ true → is.header.sent ≡ Some (told_time now (offset_of own))
 
 -- nothing is logged of a connection
 abbrev pub HasNothingNew : Site → Site → ℕ → Type 0

@@ -43,8 +43,8 @@ use enet_host::HostCore;
 /// slot, in order, with memory refused at the same places. Once the connection is over nobody has its name again.
 ///
 /// `beginnings`: from a host's opening on each peer has lived so since it began by one of the calls, as `connecting` or `answering` of
-/// `enet_peer` with the sessions of its slot, or, in a host that is joined from the start, as `joined`. A slot's sessions are those
-/// with which the peer before ended, 0xFF where there was none.
+/// `enet_peer` with the sessions of its slot and what the host's secret draws for it, or, in a host that is joined from the start, as
+/// `joined`. A slot's sessions are those with which the peer before ended, 0xFF where there was none.
 ///
 /// `events`: each deed that takes effect is the event of that name at one end of a connection, as the law of one connection has it,
 /// where a command that comes is one of the other end's log and in time; the others leave the peer as it was. So a connection of two

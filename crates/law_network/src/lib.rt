@@ -45,7 +45,8 @@ pub use settings::{set_bandwidth, set_ping_interval, set_timeout, throttle_confi
 /// other hosts and strangers send it; slots that are given out again included, since a datagram of another connection
 /// than that of the slot which it addresses is refused.
 ///
-/// `asked`: where a Connect is accepted, an end begins that is the first of the law's asking pair, with this connect id.
+/// `asked`: where a Connect is accepted, an end begins that is the first of the law's asking pair, with this connect id. It adds to its sent
+/// times what the host's secret draws for it, and nothing if there is no secret.
 ///
 /// `answered`: where the network brings a datagram of a connection of which the host has no end, and an end begins, that is
 /// the law's answer to a CONNECT which the other end put out.

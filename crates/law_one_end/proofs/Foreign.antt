@@ -19,7 +19,7 @@ use Rattle.enet_peer.specs.Calls.{next_event}
 use Rattle.enet_peer.specs.Heading.{IsRead}
 use Rattle.enet_peer.specs.Peering.{Peering, answering}
 use Rattle.enet_receiver.specs.Members.{Has}
-use Rattle.enet_slot.specs.Giving.{limits_of, server_from}
+use Rattle.enet_slot.specs.Giving.{limits_of, drawn_for, server_from}
 use Rattle.enet_slot.specs.Receiving.{is_same_address}
 use Rattle.enet_slot.specs.Slot.{SlotState}
 use Rattle.law_connection.specs.Connection.{packets_of, in_sequence}
@@ -49,7 +49,7 @@ begins-at a bytes answer h i s t (answers from text commands header o is read st
 begins-quiet : (a : Addr) (bytes : List ℕ) (answer : Received) (h : Common) (i : ℕ) (s t : SlotState) → Begins (call.Receive a bytes answer) h i s t → (p : Peering) → t.peer ≡ Some p → next_event p ≡ None
 begins-quiet a bytes answer h i s t (asks address channels info word is some at) p has = absurd (cc)
 begins-quiet a bytes answer h i s t (answers from text commands header o is read stranger offer taken new at) p has =
-    let q : Peering = answering h.clock o (server_from h.config i s) (limits_of h.config) in
+    let q : Peering = answering h.clock (drawn_for h.config i s).offsets o (server_from h.config i s o) (limits_of h.config) in
     let z : Some q ≡ Some p = has in
     let same : q ≡ p = cc in
     subst (λ (x : Peering). next_event x ≡ None) same refl

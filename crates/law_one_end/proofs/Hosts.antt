@@ -9,7 +9,7 @@ use Rattle.enet_host.specs.Host.{Host, Keeps, slot_named, peer_in, named}
 use Rattle.enet_host.specs.Calls.{address_in, address_of, address_named}
 use Rattle.enet_peer.specs.declared.parts.PeerState.TheVariants as state
 use Rattle.enet_peer.specs.Peering.{Peering, connecting, answering}
-use Rattle.enet_slot.specs.Giving.{limits_of, offer_from, server_from}
+use Rattle.enet_slot.specs.Giving.{limits_of, offer_from, drawn_for, server_from}
 use Rattle.enet_slot.specs.Slot.{SlotState, with_peer, greatest}
 use Rattle.law_network.specs.Beginnings.{BeginsAs}
 use Rattle.law_network.specs.Calls.{Call, Acts, Steps, Series}
@@ -23,10 +23,12 @@ use Rattle.law_network.proofs.IsolationKeeping.{each-keeps}
 use Rattle.law_network.proofs.Names.{free-or, IsThere, named-there, there-slot, there-named, slot-named, IsSpent, same-generations, begun-generation, past-freed, spent-step, spent-nobody}
 use Rattle.law_network.proofs.OneCall.{one-call}
 use Rattle.law_network.proofs.Slots.{held, freed-in}
-use Rattle.law_one_end.specs.OneEnd.{OneEnd, Event, beginning}
+use Rattle.law_one_end.specs.OneEnd.{OneEnd, Event, Runs, beginning}
 use Rattle.law_one_end.specs.Law.{IsHeard, OfEachRun, OfEachAnswering, OfEachAsking}
 use Rattle.law_one_end.specs.Sent.{IsSent}
 use Rattle.law_one_end.specs.Hosts.{told_by, accepted_by, brought_by, given_by, message_in, event_in, CameBy, AreOf, StaysAt, IsEnd, IsNobody, EachIsOneEnd}
+use Rattle.law_one_end.specs.Confirmed.{IsToldConfirmed}
+use Rattle.law_one_end.proofs.Confirming.{answering-confirmed}
 use Rattle.law_one_end.proofs.Calls.{AddsNothing, adds-nothing, Adds, adds, came-none, came-append}
 use Rattle.law_one_end.proofs.Deeds.{told_in, accepted_in, given_in, Led, led-nothing, led-both, led-deeds}
 use Rattle.law_one_end.proofs.Laws.{answering-heard, asking-heard}
@@ -207,11 +209,23 @@ begun c old name s t p there same has none (begins free left b) =
 
 by-beginning : (P : OneEnd → Type 0) → OfEachAsking P → OfEachAnswering P → (c : Call) (h : Common) (i : ℕ) (s t : SlotState) → Begins c h i s t → (p : Peering) → t.peer ≡ Some p → OfEachRun p P
 by-beginning P one two c h i s t (asks address channels info word is some at) p has =
-    let q : Peering = connecting h.clock (offer_from h.config i s (record { address = address; channels = channels; info = info; word = word })) (limits_of h.config) in
-    subst (λ (x : Peering). OfEachRun x P) (one-peer (Some q) q p refl has) (one h.clock (offer_from h.config i s (record { address = address; channels = channels; info = info; word = word })) (limits_of h.config))
+    let q : Peering = connecting h.clock (drawn_for h.config i s).offsets.time (offer_from h.config i s (record { address = address; channels = channels; info = info; word = word })) (limits_of h.config) in
+    subst (λ (x : Peering). OfEachRun x P) (one-peer (Some q) q p refl has) (one h.clock (drawn_for h.config i s).offsets.time (offer_from h.config i s (record { address = address; channels = channels; info = info; word = word })) (limits_of h.config))
 by-beginning P one two c h i s t (answers from bytes commands header o is read stranger offer taken new at) p has =
-    let q : Peering = answering h.clock o (server_from h.config i s) (limits_of h.config) in
-    subst (λ (x : Peering). OfEachRun x P) (one-peer (Some q) q p refl has) (two h.clock o (server_from h.config i s) (limits_of h.config))
+    let q : Peering = answering h.clock (drawn_for h.config i s).offsets o (server_from h.config i s o) (limits_of h.config) in
+    subst (λ (x : Peering). OfEachRun x P) (one-peer (Some q) q p refl has) (two h.clock (drawn_for h.config i s).offsets o (server_from h.config i s o) (limits_of h.config))
+
+-- and its user is told only once its answer was confirmed
+by-answer : (c : Call) (h : Common) (i : ℕ) (s t : SlotState) → Begins c h i s t → (p : Peering) → t.peer ≡ Some p → p.state ≡ state.Answering → (events : List Event) (e : OneEnd) → Runs events (beginning p) e → IsToldConfirmed p events e
+by-answer c h i s t (asks address channels info word is some at) p has on events e runs =
+    let q : Peering = connecting h.clock (drawn_for h.config i s).offsets.time (offer_from h.config i s (record { address = address; channels = channels; info = info; word = word })) (limits_of h.config) in
+    let same : q ≡ p = one-peer (Some q) q p refl has in
+    absurd (let z : state.Connecting ≡ state.Answering = ap (λ (x : Peering). x.state) same ∙ on in cc)
+by-answer c h i s t (answers from bytes commands header o is read stranger offer taken new at) p has on events e runs =
+    let q : Peering = answering h.clock (drawn_for h.config i s).offsets o (server_from h.config i s o) (limits_of h.config) in
+    let same : q ≡ p = one-peer (Some q) q p refl has in
+    subst (λ (x : Peering). IsToldConfirmed x events e) same
+    (answering-confirmed h.clock (drawn_for h.config i s).offsets o (server_from h.config i s o) (limits_of h.config) events e (subst (λ (x : Peering). Runs events (beginning x) e) (sym same) runs))
 
 -- the first call, and more
 
@@ -237,6 +251,7 @@ end-begins name c cs old new steps p none nobody first l stays =
       stays = ((λ b e. nowhere old.slots name b nobody e), stays);
       heard = by-beginning IsHeard asking-heard answering-heard c (common_of old) name.slot first.slot first.given first.begins p first.peer (flat_map event_in l.deeds) k.end k.runs;
       sent = by-beginning IsSent asking-sent answering-sent c (common_of old) name.slot first.slot first.given first.begins p first.peer (flat_map event_in l.deeds) k.end k.runs;
+      confirmed = λ on. by-answer c (common_of old) name.slot first.slot first.given first.begins p first.peer on (flat_map event_in l.deeds) k.end k.runs;
     }
 
 end-more : (name : PeerRef) (c : Call) (cs : List Call) (old new : Host) (steps : Steps (c ∷ cs) old new) → AddsNothing name c → named old.slots name ≡ None → IsEnd name cs (record { before = steps.0; after = new; steps = steps.2 })
@@ -254,6 +269,7 @@ end-more name c cs old new steps none nobody k = record {
   stays = ((λ b e. nowhere old.slots name b nobody e), k.stays);
   heard = k.heard;
   sent = k.sent;
+  confirmed = k.confirmed;
 }
 
 -- whoever a name is

@@ -193,10 +193,10 @@ heard-runs : (p : Peering) (channels max_packet max_waiting : ℕ) → p.inbox �
 heard-runs p channels max_packet max_waiting is events e r = heard e (kept-runs events (beginning p) e r (kept-beginning p channels max_packet max_waiting is))
 
 pub answering-heard : OfEachAnswering IsHeard
-answering-heard now offer server limits = heard-runs (answering now offer server limits) (granted offer server).channels limits.max_packet limits.max_waiting refl
+answering-heard now offsets offer server limits = heard-runs (answering now offsets offer server limits) (granted offer server).channels limits.max_packet limits.max_waiting refl
 
 pub asking-heard : OfEachAsking IsHeard
-asking-heard now offer limits = heard-runs (connecting now offer limits) (asked offer).channels limits.max_packet limits.max_waiting refl
+asking-heard now offset offer limits = heard-runs (connecting now offset offer limits) (asked offer).channels limits.max_packet limits.max_waiting refl
 
 pub joined-heard : OfEachJoined IsHeard
 joined-heard now terms limits = heard-runs (joined now terms limits) terms.channels limits.max_packet limits.max_waiting refl

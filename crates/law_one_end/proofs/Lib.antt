@@ -10,6 +10,7 @@ pub mod Laws
 pub mod Sending
 pub mod PuttingOut
 pub mod SentRuns
+pub mod Confirming
 pub mod Datagrams
 pub mod Refuting
 pub mod ExampleRuns

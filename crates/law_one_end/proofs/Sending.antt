@@ -37,7 +37,7 @@ fewer-then a b c f g = record { number = g.number ∙ f.number; unreliable = g.u
 
 -- members of a list
 
-Has-set : {X : Type 0} (xs : List X) (i : ℕ) (y x : X) → Has (slice_set xs i y) x → (y ≡ x) ⊎ Has xs x
+pub Has-set : {X : Type 0} (xs : List X) (i : ℕ) (y x : X) → Has (slice_set xs i y) x → (y ≡ x) ⊎ Has xs x
 Has-set [] i y x h = absurd h
 Has-set (z ∷ xs) zero y x (inl e) = inl e
 Has-set (z ∷ xs) zero y x (inr h) = inr (inr h)
@@ -55,7 +55,7 @@ Has-drop zero xs x h = h
 Has-drop (suc n) [] x h = h
 Has-drop (suc n) (z ∷ xs) x h = inr (Has-drop n xs x h)
 
-Has-remove : {X : Type 0} (xs : List X) (i : ℕ) (x : X) → Has (remove xs i) x → Has xs x
+pub Has-remove : {X : Type 0} (xs : List X) (i : ℕ) (x : X) → Has (remove xs i) x → Has xs x
 Has-remove xs i x h = elim (Has-append_cases (take i xs) (drop (suc i) xs) x h) [ inl a ↦ Has-take i xs x a | inr b ↦ Has-drop (suc i) xs x b ]
 
 -- what is due next

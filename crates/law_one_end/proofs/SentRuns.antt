@@ -44,10 +44,10 @@ sent-runs p channels is events e r =
     k.logged
 
 pub answering-sent : OfEachAnswering IsSent
-answering-sent now offer server limits = sent-runs (answering now offer server limits) (granted offer server).channels refl
+answering-sent now offsets offer server limits = sent-runs (answering now offsets offer server limits) (granted offer server).channels refl
 
 pub asking-sent : OfEachAsking IsSent
-asking-sent now offer limits = sent-runs (connecting now offer limits) (asked offer).channels refl
+asking-sent now offset offer limits = sent-runs (connecting now offset offer limits) (asked offer).channels refl
 
 pub joined-sent : OfEachJoined IsSent
 joined-sent now terms limits = sent-runs (joined now terms limits) terms.channels refl

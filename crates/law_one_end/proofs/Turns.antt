@@ -1,7 +1,8 @@
 -- What a peer keeps for its user, whatever comes, when time passes, and by the user's calls: it stays, or a data command comes to its inbox.
-use Rattle.std.proofs.Common.{◌≡◌, ℕ, Bool, true, false, cond, ltb, ◌&&◌, List, [], length, refl, sym, ap, subst, ◌∙◌, inl, inr, ◌⊎◌, Option, Some, None, Result, Ok, Err}
+use Rattle.std.proofs.Common.{◌≡◌, ℕ, ◌%◌, ◌^◌, Bool, true, false, cond, ltb, ◌&&◌, List, [], length, refl, sym, ap, subst, ◌∙◌, inl, inr, ◌⊎◌, Option, Some, None, Result, Ok, Err}
 use Rattle.std.specs.Prelude.{is_some}
 use Rattle.std.specs.List.{slice_get}
+use Rattle.enet_rtt.specs.Clock.{meant_time}
 use Rattle.enet_codec.specs.declared.command.Head.{Head}
 use Rattle.enet_codec.specs.declared.command.Verify.{Verify}
 use Rattle.enet_codec.specs.declared.packet.Packet.{Packet}
@@ -199,9 +200,12 @@ with_answer-stays p state.Answering (control.VerifyConnect verify) e = record { 
 with_answer-stays p state.Disconnecting (control.Disconnect info) e = ended-stays p 0
 with_answer-stays p s what e = stays (core p)
 
-on_acknowledge-stays : (p : Peering) (now channel number time : ℕ) → StaysAt p (on_acknowledge p now channel number time)
-on_acknowledge-stays p now channel number time = if-peer (StaysAt p) (is_connecting p.state) p (accepted p now channel number time) (stays (core p)) (by (matched_by p.outbox channel number time))
+on_acknowledge-stays : (p : Peering) (now channel number told : ℕ) → StaysAt p (on_acknowledge p now channel number told)
+on_acknowledge-stays p now channel number told = if-peer (StaysAt p) (is_connecting p.state) p (accepted p now channel number time) (stays (core p)) (by (matched_by p.outbox channel number time))
   where
+    time : ℕ
+    time = meant_time told (p.offset % 2 ^ 16)
+
     q : Peering
     q = sampled (record p { outbox = after_acknowledgement p.outbox channel number }) now time
 

@@ -14,6 +14,7 @@ use Rattle.enet_outbox.specs.declared.parts.Destination.{Destination}
 use Rattle.enet_outbox.specs.Emission.{datagram}
 use Rattle.enet_peer.specs.declared.parts.PeerEvent.{PeerEvent}
 use Rattle.enet_peer.specs.declared.parts.PeerEvent.TheVariants as told
+use Rattle.enet_peer.specs.declared.parts.PeerState.TheVariants as state
 use Rattle.enet_peer.specs.Heading.{IsRead}
 use Rattle.enet_peer.specs.Peering.{Peering}
 use Rattle.enet_slot.specs.Receiving.{is_same_address}
@@ -28,6 +29,7 @@ use Rattle.law_one_end.specs.OneEnd.{OneEnd, Event, Submit, Emit, Come, Tick, Ta
 use Rattle.law_one_end.specs.Datagrams.{Begins}
 use Rattle.law_one_end.specs.Law.{IsHeard}
 use Rattle.law_one_end.specs.Sent.{IsSent}
+use Rattle.law_one_end.specs.Confirmed.{IsToldConfirmed}
 
 -- what a call told the user of the peer of this name
 abbrev pub told_by : PeerRef → Call → List PeerEvent
@@ -100,7 +102,8 @@ event_in (deed.Set setting (Ok done)) = Set setting ∷ []
 event_in d = []
 
 -- the peer of this name began by one of these calls, at an address where it stayed, and is one end since: what happens there is what fell to
--- it. All that the user was told of it, and all that it accepted, is that end's, and all that it put out went to that address
+-- it. All that the user was told of it, and all that it accepted, is that end's, and all that it put out went to that address. If it answered,
+-- its user was told of the connection only once the answer was confirmed
 pub record IsEnd (name : PeerRef) (cs : List Call) (series : Series cs) : Type 0 where
   pub address : Addr
   pub first : Peering
@@ -114,6 +117,7 @@ pub record IsEnd (name : PeerRef) (cs : List Call) (series : Series cs) : Type 0
   pub stays : StaysAt name address cs series
   pub heard : IsHeard end
   pub sent : IsSent end
+  pub confirmed : first.state ≡ state.Answering → IsToldConfirmed first (flat_map event_in deeds) end
 
 -- or nobody was called so: nothing was told of it, submitted to it or put out by it
 pub record IsNobody (name : PeerRef) (cs : List Call) : Type 0 where

@@ -7,6 +7,7 @@ use Rattle.enet_codec.specs.declared.packet.Packet.{Packet}
 use Rattle.enet_packets.specs.declared.incoming_packet.Dispatched.{Dispatched}
 use Rattle.enet_receiver.specs.Members.{Has}
 use Rattle.enet_peer.specs.declared.parts.Limits.{Limits}
+use Rattle.enet_peer.specs.declared.parts.Offsets.{Offsets}
 use Rattle.enet_peer.specs.Peering.{Peering, joined, connecting, answering}
 use Rattle.enet_sender.specs.CommandChoice.{ChosenPacket}
 use Rattle.law_connection.specs.Connection.{packets_of, in_sequence}
@@ -34,10 +35,10 @@ OfEachRun p P = (events : List Event) (e : OneEnd) → Runs events (beginning p)
 
 -- of a server's peer that answers, of a client's that asks, and of one that is connected from the start
 abbrev pub OfEachAnswering : (OneEnd → Type 0) → Type 0
-OfEachAnswering P = (now : ℕ) (offer : Offer) (server : Server) (limits : Limits) → OfEachRun (answering now offer server limits) P
+OfEachAnswering P = (now : ℕ) (offsets : Offsets) (offer : Offer) (server : Server) (limits : Limits) → OfEachRun (answering now offsets offer server limits) P
 
 abbrev pub OfEachAsking : (OneEnd → Type 0) → Type 0
-OfEachAsking P = (now : ℕ) (offer : Offer) (limits : Limits) → OfEachRun (connecting now offer limits) P
+OfEachAsking P = (now offset : ℕ) (offer : Offer) (limits : Limits) → OfEachRun (connecting now offset offer limits) P
 
 abbrev pub OfEachJoined : (OneEnd → Type 0) → Type 0
 OfEachJoined P = (now : ℕ) (terms : Terms) (limits : Limits) → OfEachRun (joined now terms limits) P

@@ -2,6 +2,7 @@ pub mod OneEnd
 pub mod Carried
 pub mod Rules
 pub mod Sent
+pub mod Confirmed
 pub mod Law
 pub mod Datagrams
 pub mod Hosts

@@ -1,18 +1,23 @@
 -- What the law rules out of what a user takes.
-use Rattle.std.specs.Prelude.{◌≡◌, ◌≢◌, ℕ, true, false, Some, None, List, [], ◌∷◌}
+use Rattle.std.specs.Prelude.{◌≡◌, ◌≢◌, ℕ, true, false, Option, Some, None, List, [], ◌∷◌}
 use Rattle.enet_codec.specs.declared.address.Addr.{Addr}
 use Rattle.enet_codec.specs.declared.event.Event.TheVariants as event
 use Rattle.enet_codec.specs.declared.event.PeerRef.{PeerRef}
 use Rattle.enet_codec.specs.declared.event.Received.{Received}
 use Rattle.enet_codec.specs.declared.header.Header.{Header}
+use Rattle.enet_codec.specs.Message.{Message, acknowledge}
+use Rattle.enet_rtt.specs.Clock.{told_time}
+use Rattle.enet_senders.specs.declared.control.Numbered.{Numbered}
 use Rattle.enet_host.specs.Receiving.{handled_one}
 use Rattle.enet_peer.specs.Heading.{IsRead}
+use Rattle.enet_peer.specs.Peering.{Peering}
 use Rattle.enet_packets.specs.declared.incoming_packet.Dispatched.{Dispatched}
 use Rattle.enet_receiver.specs.Members.{Has}
 use Rattle.enet_slot.specs.Receiving.{is_same_address}
 use Rattle.law_network.specs.Calls.{Call, Series}
 use Rattle.law_network.specs.Calls as call
-use Rattle.law_one_end.specs.OneEnd.{Heard}
+use Rattle.law_one_end.specs.OneEnd.{Heard, Emit, Come, Take, beginning}
+use Rattle.law_one_end.specs.Confirmed.{IsConfirmed}
 use Rattle.law_one_end.specs.Carried.{AreCarried}
 use Rattle.law_one_end.specs.Hosts.{IsEnd, IsNobody}
 
@@ -54,3 +59,9 @@ MisdirectedIsRefused = (name : PeerRef) (a : Addr) (connect other : List ℕ) (a
 
 abbrev pub HastyIsRefused : Type 0
 HastyIsRefused = (name : PeerRef) (a : Addr) (connect : List ℕ) (info : ℕ) → IsNoHosts name (hasty name a connect info)
+
+-- a datagram went once, and one command came before the user was told of a client: it is an acknowledgement that repeats the answer's number and
+-- what the datagram told, and no guess
+abbrev pub GuessIsRefused : Type 0
+GuessIsRefused = (p : Peering) (answer : Numbered) (now then' : ℕ) (sent : Option ℕ) (m : Message) → m.body ≢ acknowledge answer.number (told_time now p.offset)
+    → IsConfirmed (beginning p) (Emit now ∷ Come m then' sent ∷ Take ∷ []) answer → ⊥

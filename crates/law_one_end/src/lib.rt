@@ -8,10 +8,10 @@
 //!
 //! Proved: what the user takes was carried by what came, in order, each packet whole and each reliable number once; where the other end keeps
 //! the rules of the wire it follows what that end sent (`what_is_taken`). That rules something out (`false_takes_are_refuted`). Each data
-//! command that goes is of what the user submitted, under its number (`what_is_put_out`). A run in which a packet is taken does happen
-//! (`runs_happen`). A datagram that comes is such events (`a_datagram_comes_as_commands`). Each peer of a host is such an end, by the calls of
-//! the host and what came from where the peer is (`each_peer_of_a_host`). Not promised: that an unsequenced packet is taken once, or that
-//! anything arrives.
+//! command that goes is of what the user submitted, under its number (`what_is_put_out`). A server's user is told of a client only once that
+//! confirmed the server's answer (`who_is_told`). A run in which a packet is taken does happen (`runs_happen`). A datagram that comes is such
+//! events (`a_datagram_comes_as_commands`). Each peer of a host is such an end, by the calls of the host and what came from where the peer is
+//! (`each_peer_of_a_host`). Not promised: that an unsequenced packet is taken once, or that anything arrives.
 #![tactic(auto)]
 
 ghost use Rattle.std.specs.Prelude.{ℕ, List, [], ◌∷◌};
@@ -23,7 +23,8 @@ ghost use Rattle.law_one_end.specs.OneEnd.{Heard, OneEnd};
 ghost use Rattle.law_one_end.specs.Datagrams.{HasCome};
 ghost use Rattle.law_one_end.specs.Law.{IsHeard, OfEachAnswering, OfEachAsking, OfEachJoined};
 ghost use Rattle.law_one_end.specs.Sent.{IsSent};
-ghost use Rattle.law_one_end.specs.Refuted.{CameElsewhere, ForeignIsRefused, HastyIsRefused, IsRefused, MisdirectedIsRefused, command_of, packet_of};
+ghost use Rattle.law_one_end.specs.Confirmed.{AnsweringIsConfirmed};
+ghost use Rattle.law_one_end.specs.Refuted.{CameElsewhere, ForeignIsRefused, GuessIsRefused, HastyIsRefused, IsRefused, MisdirectedIsRefused, command_of, packet_of};
 ghost use Rattle.law_one_end.specs.Examples.{OfSomeRun, HasTaken};
 ghost use Rattle.law_one_end.specs.Hosts.{EachIsOneEnd};
 
@@ -58,6 +59,14 @@ pub fn what_is_put_out()
     ensures joined { OfEachJoined IsSent }
 {}
 
+/// Whom a server's user is told of, over the same lists of events: if it was told that a client connected, an acknowledgement of the server's
+/// answer (VERIFY_CONNECT) had come, which repeats the answer's number and the very time that a datagram told in which the answer went before.
+/// A host with a secret draws the number, and what is added to the time (`drawn` of `enet_slot`), so that who doesn't see the datagram has to
+/// guess both.
+pub fn who_is_told()
+    ensures { AnsweringIsConfirmed }
+{}
+
 /// A datagram is some of these events: where a peer is handed the commands of one (`Handles`, the contract of `enet_peer::receive`), it fares as
 /// by some of those at the front of its bytes, one after another; how many isn't said.
 pub fn a_datagram_comes_as_commands()
@@ -69,7 +78,7 @@ pub fn a_datagram_comes_as_commands()
 /// address, submissions, disconnects, settings, ticks, turns and takes, each with what was answered (`Steps`). Of each name that nobody has at
 /// first, nothing is told, submitted or put out (`IsNobody`); or its peer began by one of these calls, a `connect` of the user's or a CONNECT
 /// that came, at an address where it stayed, and is one end since (`IsEnd`). What the user was told of it, and what it accepted, is that end's,
-/// so the two laws above hold of it. What happens at that end is, call by call, what fell to the peer (`FellAll` of `law_network`), and no
+/// so the laws above hold of it. What happens at that end is, call by call, what fell to the peer (`FellAll` of `law_network`), and no
 /// more. The commands that came to it are, in order, those at the fronts of the datagrams that came since, from that address and with the
 /// number of its slot in their headers. Each datagram that it put out went there, and has the commands that the end put out, in order.
 pub fn each_peer_of_a_host(host: &HostCore)
@@ -84,7 +93,8 @@ pub fn each_peer_of_a_host(host: &HostCore)
 ///
 /// And what `IsEnd` rules out of a host: that its user takes a packet of a peer where since the CONNECT a datagram came from another address
 /// alone, whatever it holds (`foreign`), or one that names another slot (`misdirected`); and that its user is told of the connection where
-/// nothing came since (`hasty`).
+/// nothing came since (`hasty`). And of `IsConfirmed`, that where one datagram went and one command came, the user is told of a client by another
+/// command than the acknowledgement that repeats the answer's number and the time that the datagram told (`guessed`).
 pub fn false_takes_are_refuted()
     ensures elsewhere { (came : List Heard) (d : Dispatched) (ds : List Dispatched) → CameElsewhere 0 came → IsRefused came (d ∷ ds) }
     ensures twice { IsRefused (command_of 1 7 ∷ []) (packet_of 7 ∷ packet_of 7 ∷ []) }
@@ -94,6 +104,7 @@ pub fn false_takes_are_refuted()
     ensures foreign { ForeignIsRefused }
     ensures misdirected { MisdirectedIsRefused }
     ensures hasty { HastyIsRefused }
+    ensures guessed { GuessIsRefused }
 {}
 
 /// A run that does happen, so that the laws above speak of something: a reliable packet of a client that keeps the rules comes, and is taken.

@@ -6,10 +6,9 @@ use Rattle.enet_codec.specs.declared.command.Verify.{Verify}
 use Rattle.enet_codec.specs.declared.command.Offer.{Offer}
 use Rattle.enet_codec.specs.declared.stop.Stop.TheVariants as stop
 use Rattle.enet_codec.specs.Message.{Message, Body, acknowledge, connect, verify_connect, disconnect, ping, send_reliable, send_unreliable, send_fragment, send_unsequenced, send_unreliable_fragment, bandwidth_limit, throttle_configure}
-use Rattle.enet_rtt.specs.Clock.{elapsed_time}
+use Rattle.enet_rtt.specs.Clock.{elapsed_time, meant_time}
 use Rattle.enet_rtt.specs.Timing.{Estimate, timeout}
 use Rattle.enet_rtt.specs.Transmission as transmission
-use Rattle.enet_rtt.specs.Transmission.{went_at}
 use Rattle.enet_rtt.specs.Expiry.{gives_up}
 use Rattle.enet_rtt.specs.declared.transmission.Transmission.{Transmission}
 use Rattle.enet_rtt.specs.declared.expiry.Patience.{Patience}
@@ -35,6 +34,7 @@ use Rattle.enet_outbox.proofs.Filled.{by-filling}
 use Rattle.enet_peer.specs.declared.parts.PeerState.{PeerState}
 use Rattle.enet_peer.specs.declared.parts.PeerState.TheVariants as state
 use Rattle.enet_peer.specs.declared.parts.Limits.{Limits}
+use Rattle.enet_peer.specs.declared.parts.Offsets.{Offsets}
 use Rattle.enet_peer.specs.Peering.{Peering, connecting, answering}
 use Rattle.enet_peer.specs.Endings.{settled, disconnecting, cut_off_in, is_later}
 use Rattle.enet_peer.proofs.Obeying.{unless-holds, unwelcomed-holds}
@@ -268,13 +268,13 @@ matches G a now o channel number time empty shape = by (channel == 0xFF)
         is : outbox.as_control (controlling.acknowledged_control o.control number time) ≡ outbox.as_control (controlling.control_at time (t ∷ []) (controlling.position_of number (t ∷ [])))
         is = ap (λ (l : List SentControl). outbox.as_control (controlling.control_at time l (controlling.position_of number l))) sent
 
-        timely : (b : Bool) → went_at time t.transmission ≡ b → outbox.as_control (controlling.acknowledged_control o.control number time) ≡ outbox.as_control (controlling.control_of time (Some t))
+        timely : (b : Bool) → controlling.went_at time t ≡ b → outbox.as_control (controlling.acknowledged_control o.control number time) ≡ outbox.as_control (controlling.control_of time (Some t))
             → (outbox.as_control (controlling.acknowledged_control o.control number time) ≡ matched.Nothing) ⊎ (outbox.as_control (controlling.acknowledged_control o.control number time) ≡ matched.Control a.command.control)
         timely true u e = inr (e ∙ ap (λ b. outbox.as_control (cond b (Some t.command.control) None)) u ∙ ap (λ (x : Numbered). matched.Control x.control) w.0)
         timely false u e = inl (e ∙ ap (λ b. outbox.as_control (cond b (Some t.command.control) None)) u)
 
         found : (b : Bool) → eqb t.command.number number ≡ b → (outbox.as_control (controlling.acknowledged_control o.control number time) ≡ matched.Nothing) ⊎ (outbox.as_control (controlling.acknowledged_control o.control number time) ≡ matched.Control a.command.control)
-        found true e = timely (went_at time t.transmission) refl (is ∙ (λ i. outbox.as_control (controlling.control_at time (t ∷ []) (let k : ℕ = cond (not (e i)) (1 + 0) 0 in cond (ltb k 1) (Some k) None))))
+        found true e = timely (controlling.went_at time t) refl (is ∙ (λ i. outbox.as_control (controlling.control_at time (t ∷ []) (let k : ℕ = cond (not (e i)) (1 + 0) 0 in cond (ltb k 1) (Some k) None))))
         found false e = inl (is ∙ (λ i. outbox.as_control (controlling.control_at time (t ∷ []) (let k : ℕ = cond (not (e i)) (1 + 0) 0 in cond (ltb k 1) (Some k) None))))
 
     by : (b : Bool) → (cond b (outbox.as_control (controlling.acknowledged_control o.control number time)) (matched_on (slice_get o.senders channel) number time) ≡ matched.Nothing)
@@ -312,17 +312,19 @@ same-in : (k : Kind) (p : Peering) → Same p (in_state k p)
 same-in k p = record { control = refl; senders = refl; patience = refl; estimate = refl; heard = refl }
 
 -- an acknowledgement
-acknowledgement-stands : (G : ℕ → Transmission → Type 0) (a : Attempt) (now moment channel number time : ℕ) (p : Peering) → AreEmpty p.outbox.senders → Shape G a now p.outbox.control → (k : Kind) → is_about k a.command.control ≡ true
-    → Stands k p (on_acknowledge (in_state k p) moment channel number time)
-acknowledgement-stands G a now moment channel number time p empty shape Asks about = λ h. same-in Asks p
-acknowledgement-stands G a now moment channel number time p empty shape Answers about =
+acknowledgement-stands : (G : ℕ → Transmission → Type 0) (a : Attempt) (now moment channel number told : ℕ) (p : Peering) → AreEmpty p.outbox.senders → Shape G a now p.outbox.control → (k : Kind) → is_about k a.command.control ≡ true
+    → Stands k p (on_acknowledge (in_state k p) moment channel number told)
+acknowledgement-stands G a now moment channel number told p empty shape Asks about = λ h. same-in Asks p
+acknowledgement-stands G a now moment channel number told p empty shape Answers about =
+    let time : ℕ = meant_time told (p.offset % 2 ^ 16) in
     let old : Peering = in_state Answers p in
     let gone : Peering = acknowledged old moment channel number time in
     elim (matches G a now p.outbox channel number time empty shape) [
       | inl none ↦ subst (λ m. Stands Answers p (on_match m old gone)) (sym none) (λ h. same-in Answers p)
       | inr own ↦ subst (λ m. Stands Answers p (on_match m old gone)) (sym own) (λ h. absurd (ends-answering a.command.control gone about h))
     ]
-acknowledgement-stands G a now moment channel number time p empty shape Leaves about =
+acknowledgement-stands G a now moment channel number told p empty shape Leaves about =
+    let time : ℕ = meant_time told (p.offset % 2 ^ 16) in
     let old : Peering = in_state Leaves p in
     let gone : Peering = acknowledged old moment channel number time in
     elim (matches G a now p.outbox channel number time empty shape) [
@@ -614,17 +616,17 @@ begun-lasts k p b gap now moments q near turns =
     let x = w.in_time in
     omega arith
 
-pub asking : (start : ℕ) (offer : Offer) (limits : Limits) → Begins Asks (connecting start offer limits)
-asking start offer limits = record { state = refl; empty = empty-new 0 _; command = _; queued = refl; none = refl; about = refl }
+pub asking : (start offset : ℕ) (offer : Offer) (limits : Limits) → Begins Asks (connecting start offset offer limits)
+asking start offset offer limits = record { state = refl; empty = empty-new 0 _; command = _; queued = refl; none = refl; about = refl }
 
-pub replying : (start : ℕ) (offer : Offer) (server : Server) (limits : Limits) → Begins Answers (answering start offer server limits)
-replying start offer server limits = record { state = refl; empty = empty-new 0 _; command = _; queued = refl; none = refl; about = refl }
+pub replying : (start : ℕ) (offsets : Offsets) (offer : Offer) (server : Server) (limits : Limits) → Begins Answers (answering start offsets offer server limits)
+replying start offsets offer server limits = record { state = refl; empty = empty-new 0 _; command = _; queued = refl; none = refl; about = refl }
 
-pub asking-ends : (start : ℕ) (offer : Offer) (limits : Limits) → LastsAtMost state.Connecting (connecting start offer limits) 60500
-asking-ends start offer limits = begun-lasts Asks (connecting start offer limits) (asking start offer limits)
+pub asking-ends : (start offset : ℕ) (offer : Offer) (limits : Limits) → LastsAtMost state.Connecting (connecting start offset offer limits) 60500
+asking-ends start offset offer limits = begun-lasts Asks (connecting start offset offer limits) (asking start offset offer limits)
 
-pub answering-ends : (start : ℕ) (offer : Offer) (server : Server) (limits : Limits) → LastsAtMost state.Answering (answering start offer server limits) 60500
-answering-ends start offer server limits = begun-lasts Answers (answering start offer server limits) (replying start offer server limits)
+pub answering-ends : (start : ℕ) (offsets : Offsets) (offer : Offer) (server : Server) (limits : Limits) → LastsAtMost state.Answering (answering start offsets offer server limits) 60500
+answering-ends start offsets offer server limits = begun-lasts Answers (answering start offsets offer server limits) (replying start offsets offer server limits)
 
 pub leaving-ends : (p : Peering) (info : ℕ) → LastsAtMost state.Disconnecting (disconnecting p info) (timeout p.estimate + 2 * p.patience.maximum)
 leaving-ends p info = begun-lasts Leaves (disconnecting p info) (record { state = refl; empty = empty-cleared p.outbox.senders; command = _; queued = refl; none = refl; about = refl })

@@ -1,5 +1,5 @@
 -- What a round brings to two ends, over all their channels.
-use Rattle.std.proofs.Common.{◌≡◌, ℕ, zero, suc, ◌+◌, ◌%◌, ◌<◌, ◌≤◌, ◌||◌, ltb, max, min, Bool, true, false, cond, List, [], ◌∷◌, length, map, refl, sym, ap, subst, ◌∙◌, inl, inr, ◌⊎◌, arith, Option, Some, None, is_some}
+use Rattle.std.proofs.Common.{◌≡◌, ℕ, zero, suc, ◌+◌, ◌%◌, ◌^◌, ◌<◌, ◌≤◌, ◌||◌, ltb, max, min, Bool, true, false, cond, List, [], ◌∷◌, length, map, refl, sym, ap, subst, ◌∙◌, inl, inr, ◌⊎◌, arith, Option, Some, None, is_some}
 use Rattle.std.proofs.lemmas.Bool.{eq-eqb}
 use Rattle.std.proofs.lemmas.Bool.Decides.{nat_tests}
 use Rattle.std.proofs.lemmas.List.{length-map}
@@ -8,6 +8,7 @@ use Rattle.enet_codec.specs.Message.{Message}
 use Rattle.enet_fragment.specs.declared.data.DataCommand.{DataCommand}
 use Rattle.enet_fragment.specs.DataCommand.{message_of}
 use Rattle.enet_receiver.specs.Members.{Has}
+use Rattle.enet_rtt.specs.Clock.{told_time, meant_time}
 use Rattle.enet_rtt.specs.Transmission as transmission
 use Rattle.enet_rtt.specs.Transmission.{went_at}
 use Rattle.enet_rtt.specs.declared.transmission.Transmission.{Transmission}
@@ -27,6 +28,7 @@ use Rattle.enet_peer.specs.Calls.{pace_of, ticked, pinged, is_pinged, after_time
 use Rattle.law_connection.specs.Connection.{End, Connection, is_acknowledgement}
 use Rattle.law_connection.specs.Steps.{Emit, Tick, Happens}
 use Rattle.law_connection.specs.Invariant.{Invariant}
+use Rattle.law_connection.specs.Law.{offset_in, offset_of}
 use Rattle.law_connection.specs.Linked.{sends_in, dispatches_in, sender_in}
 use Rattle.law_progress.specs.Exchanges.{PutsOne, PutsMany, PutsAll, IsOpen, RoundOfBoth, outstanding_over, OnlyWaits, ProgressesBoth, HasSent, AllAcknowledged, AllOver, RoundsOfBoth, BothThrough}
 use Rattle.law_progress.specs.Outboxes.{AllFit, AreQuiet, NothingMayGo}
@@ -34,7 +36,7 @@ use Rattle.law_progress.proofs.Delivered.{delivered-forth, delivered-back}
 use Rattle.law_progress.proofs.Blocked.{some-sent, idle-senders}
 use Rattle.law_progress.proofs.Emitted.{AreSound, Went, Emitted, PutIn, emitted, Waits, emitted-waits, emitted-from}
 use Rattle.law_progress.proofs.Carried.{nums, Has-nums}
-use Rattle.law_progress.proofs.Exchanges.{Joint, joint-swap, joint-event, same-peer, sound-of, low-channel, as_read, reads-itself, same-message, no-acknowledgement, put_out, Gone, gone, Came, all-came, all-joint, came-answers, came-less, came-none, waits-of, one-sent, then-came, took-all, takes-joint}
+use Rattle.law_progress.proofs.Exchanges.{Joint, joint-swap, joint-event, same-peer, sound-of, low-channel, as_read, reads-itself, same-message, no-acknowledgement, put_out, Gone, gone, Came, all-came, all-joint, came-answers, came-less, came-none, IsToldTime, told-still, waits-of, one-sent, then-came, took-all, takes-joint}
 use Rattle.law_progress.proofs.Found.{sender-rests}
 use Rattle.law_progress.proofs.Kept.{go-or-stay}
 use Rattle.law_progress.proofs.Obeyed.{Kept, kept-self, kept-least, kept-then}
@@ -50,21 +52,23 @@ pub record Coming (other : End) (p : Peering) : Type 0 where
   pub sent : Sent
   pub has : HasSent p.outbox.senders answer.channel sent
   pub number : sent.command.number ≡ answer.number
-  pub went : went_at answer.time sent.transmission ≡ true
+  pub went : IsToldTime p.offset answer.time sent.transmission
   pub peer : Peering
   pub is : other.peer ≡ Some peer
   pub there : Has peer.outbox.acknowledgements answer
 
--- the acknowledgement of this command waits to go at an end, or at a peer, and repeats the time of a send of it
-abbrev pub OnItsWay : End → ℕ → Sent → Type 0
-OnItsWay other channel t = (time : ℕ) × (q : Peering) × (other.peer ≡ Some q) × Has q.outbox.acknowledgements (record { channel = channel; number = t.command.number; time = time }) × (went_at time t.transmission ≡ true)
+-- the acknowledgement of this command waits to go at an end, or at a peer, and repeats the told time of a send of it, to which so much was added
+abbrev pub OnItsWay : ℕ → End → ℕ → Sent → Type 0
+OnItsWay offset other channel t =
+    (time : ℕ) × (q : Peering) × (other.peer ≡ Some q) × Has q.outbox.acknowledgements (record { channel = channel; number = t.command.number; time = time }) × IsToldTime offset time t.transmission
 
-abbrev pub AnswersAt : Peering → ℕ → ℕ → Transmission → Type 0
-AnswersAt q channel number t = (time : ℕ) × Has q.outbox.acknowledgements (record { channel = channel; number = number; time = time }) × (went_at time t ≡ true)
+abbrev pub AnswersAt : ℕ → Peering → ℕ → ℕ → Transmission → Type 0
+AnswersAt offset q channel number t = (time : ℕ) × Has q.outbox.acknowledgements (record { channel = channel; number = number; time = time }) × IsToldTime offset time t
 
 -- so too of a command that has the same number, and the same sends
-pub on-its-way : (other : End) (channel : ℕ) (x t : Sent) → x.command.number ≡ t.command.number → ((time : ℕ) → went_at time x.transmission ≡ went_at time t.transmission) → OnItsWay other channel x → OnItsWay other channel t
-on-its-way other channel x t number went w = (w.0, w.1, w.2, subst (λ n. Has w.1.outbox.acknowledgements (record { channel = channel; number = n; time = w.0 })) number w.3, sym (went w.0) ∙ w.4)
+pub on-its-way : (offset : ℕ) (other : End) (channel : ℕ) (x t : Sent) → x.command.number ≡ t.command.number → ((time : ℕ) → went_at time x.transmission ≡ went_at time t.transmission) → OnItsWay offset other channel x → OnItsWay offset other channel t
+on-its-way offset other channel x t number went w =
+    (w.0, w.1, w.2, subst (λ n. Has w.1.outbox.acknowledgements (record { channel = channel; number = n; time = w.0 })) number w.3, sym (went (meant_time w.0 (offset % 2 ^ 16))) ∙ w.4)
 
 -- the time that a datagram tells is that of the last send of each command that it carries
 pub went-last : (t : Transmission) (now : ℕ) → t.last ≡ now → went_at (now % 65536) t ≡ true
@@ -74,6 +78,13 @@ went-last t now last = by _ _ _ (eq-eqb (now % 65536) (t.last % 65536) (ap (λ n
     by true b c e = refl
     by false true c e = refl
     by false false c e = absurd (cc)
+
+-- a told time stands for the moment at which it was told
+meant-told : (now offset : ℕ) → meant_time (told_time now offset) (offset % 2 ^ 16) ≡ now % 2 ^ 16
+meant-told now offset = omega arith
+
+pub told-last : (offset : ℕ) (t : Transmission) (now : ℕ) → t.last ≡ now → IsToldTime offset (told_time now offset) t
+told-last offset t now last = ap (λ time. went_at time t) (meant-told now offset) ∙ went-last t now last
 
 -- an end puts out all that it may, and all of it comes. Of what waits each command has this property, or its acknowledgement is on its way
 pub record Sending (joined : Bool) (D : ℕ → Sent → Type 0) (p0 q0 : Peering) (from to : End) : Type 0 where
@@ -88,16 +99,16 @@ pub record Sending (joined : Bool) (D : ℕ → Sent → Type 0) (p0 q0 : Peerin
   pub other_kept : Kept q0 other
   pub least : outstanding_over peer.outbox.senders ≤ outstanding_over p0.outbox.senders
   pub how : (peer.outbox.senders ≡ p0.outbox.senders) ⊎ ((outstanding_over peer.outbox.senders < outstanding_over p0.outbox.senders) ⊎ Coming to peer)
-  pub all : (channel : ℕ) (t : Sent) → HasSent peer.outbox.senders channel t → D channel t ⊎ OnItsWay to channel t
+  pub all : (channel : ℕ) (t : Sent) → HasSent peer.outbox.senders channel t → D channel t ⊎ OnItsWay peer.offset to channel t
 
 sending-start : (joined : Bool) (D : ℕ → Sent → Type 0) (p0 q0 : Peering) (from to : End) → Joint joined from to → from.peer ≡ Some p0 → p0.state ≡ state.Connected → to.peer ≡ Some q0 → q0.state ≡ state.Connected
-    → ((channel : ℕ) (t : Sent) → HasSent p0.outbox.senders channel t → D channel t ⊎ OnItsWay to channel t) → Sending joined D p0 q0 from to
+    → ((channel : ℕ) (t : Sent) → HasSent p0.outbox.senders channel t → D channel t ⊎ OnItsWay p0.offset to channel t) → Sending joined D p0 q0 from to
 sending-start joined D p0 q0 from to j is on other_is other_on all =
     record { joint = j; peer = p0; is = is; connected = on; mtu = refl; other = q0; other_is = other_is; other_connected = other_on; other_kept = kept-self q0; least = omega arith; how = inl refl; all = all }
 
 sending-one : (joined : Bool) (D : ℕ → Sent → Type 0) (now there : ℕ) (p0 q0 : Peering) (from to from' to' : End) → PutsOne now there from to from' to' → Sending joined D p0 q0 from to → Sending joined D p0 q0 from' to'
 sending-one joined D now there p0 q0 from to from' to' o k = record {
-  joint = joint-swap joined to' from' (takes-joint joined o.events o.arrived from' to' o.takes (joint-swap joined from' o.arrived (all-joint joined there (now % 65536) from' o.new to o.arrived o.come out)));
+  joint = joint-swap joined to' from' (takes-joint joined o.events o.arrived from' to' o.takes (joint-swap joined from' o.arrived (all-joint joined there told from' o.new to o.arrived o.come out)));
   peer = p;
   is = g.peer;
   connected = k.connected;
@@ -111,6 +122,9 @@ sending-one joined D now there p0 q0 from to from' to' o k = record {
   all = all;
 }
   where
+    told : ℕ
+    told = told_time now (offset_of from)
+
     p : Peering
     p = put_out k.peer now
 
@@ -121,7 +135,7 @@ sending-one joined D now there p0 q0 from to from' to' o k = record {
     out = joint-event joined from to from' (Emit now) o.goes k.joint
 
     arrives : Came to o.arrived k.other
-    arrives = all-came there (now % 65536) from' o.new to o.arrived k.other o.come k.other_is k.other_connected
+    arrives = all-came there told from' o.new to o.arrived k.other o.come k.other_is k.other_connected
 
     takes : Came o.arrived to' arrives.peer
     takes = took-all o.events o.arrived from' to' arrives.peer o.takes arrives.is arrives.connected
@@ -135,17 +149,21 @@ sending-one joined D now there p0 q0 from to from' to' o k = record {
     e : Emitted now k.peer.outbox.senders (filled (pace_of k.peer now) k.peer.outbox).messages p.outbox.senders
     e = emitted (pace_of k.peer now) k.peer.outbox sound
 
+    -- its acknowledgement repeats the told time of its last send
+    told-so : (t : Transmission) → t.last ≡ now → IsToldTime p.offset told t
+    told-so t last = subst (λ n. IsToldTime p.offset (told_time now n) t) (sym (ap offset_in k.is)) (told-last p.offset t now last)
+
     -- what was put in and waits is acknowledged
     goes : (channel : ℕ) (c : DataCommand) → c.reliable ≡ true → Has (filled (pace_of k.peer now) k.peer.outbox).messages (message_of channel c) → Waits p.outbox.senders channel c.number
-        → (x : Peering) × (to'.peer ≡ Some x) × Has x.outbox.acknowledgements (record { channel = channel; number = c.number; time = now % 65536 })
+        → (x : Peering) × (to'.peer ≡ Some x) × Has x.outbox.acknowledgements (record { channel = channel; number = c.number; time = told })
     goes channel c reliable has waits =
         let m : Message = message_of channel c in
         let read : m ≡ message_of channel (as_read c) = same-message channel c reliable in
         let put = g.put m has in
         let low = low-channel joined from' to p channel c.number out g.peer waits in
         let marked = put.4 (ap (λ (x : Message). is_acknowledgement x.body) read ∙ no-acknowledgement channel c) in
-        let r = came-answers joined there (now % 65536) from' o.new to o.arrived p put.0 channel (as_read c) o.come put.1 out g.peer k.connected low waits refl (put.3 ∙ read) (reads-itself channel c) put.2 marked in
-        let ack : Acknowledgement = record { channel = channel; number = c.number; time = now % 65536 } in
+        let r = came-answers joined there told from' o.new to o.arrived p put.0 channel (as_read c) o.come put.1 out g.peer k.connected low waits refl (put.3 ∙ read) (reads-itself channel c) put.2 marked in
+        let ack : Acknowledgement = record { channel = channel; number = c.number; time = told } in
         (takes.peer, takes.is, takes.kept.acknowledgements ack (subst (λ (x : Peering). Has x.outbox.acknowledgements ack) (same-peer o.arrived r.0 arrives.peer r.1 arrives.is) r.2))
 
     answer : Went now (filled (pace_of k.peer now) k.peer.outbox).messages p.outbox.senders → Coming to' p
@@ -154,24 +172,24 @@ sending-one joined D now there p0 q0 from to from' to' o k = record {
         let waits = waits-of p.outbox.senders w.channel w.command.number w.sent has w.number in
         let way = goes w.channel w.command w.reliable w.put waits in
         record {
-          answer = record { channel = w.channel; number = w.command.number; time = now % 65536 };
+          answer = record { channel = w.channel; number = w.command.number; time = told };
           low = low-channel joined from' to p w.channel w.command.number out g.peer waits;
           waits = waits;
           sent = w.sent;
           has = has;
           number = w.number;
-          went = went-last w.sent.transmission now w.last;
+          went = told-so w.sent.transmission w.last;
           peer = way.0;
           is = way.1;
           there = way.2;
         }
 
-    put-in : (channel : ℕ) (t : Sent) → HasSent p.outbox.senders channel t → PutIn now (filled (pace_of k.peer now) k.peer.outbox).messages channel t → OnItsWay to' channel t
+    put-in : (channel : ℕ) (t : Sent) → HasSent p.outbox.senders channel t → PutIn now (filled (pace_of k.peer now) k.peer.outbox).messages channel t → OnItsWay p.offset to' channel t
     put-in channel t h put =
         let way = goes channel put.0 put.1 put.3 (waits-of p.outbox.senders channel put.0.number t h (sym put.2)) in
-        (now % 65536, way.0, way.1, subst (λ n. Has way.0.outbox.acknowledgements (record { channel = channel; number = n; time = now % 65536 })) put.2 way.2, went-last t.transmission now put.4)
+        (told, way.0, way.1, subst (λ n. Has way.0.outbox.acknowledgements (record { channel = channel; number = n; time = told })) put.2 way.2, told-so t.transmission put.4)
 
-    all : (channel : ℕ) (t : Sent) → HasSent p.outbox.senders channel t → D channel t ⊎ OnItsWay to' channel t
+    all : (channel : ℕ) (t : Sent) → HasSent p.outbox.senders channel t → D channel t ⊎ OnItsWay p.offset to' channel t
     all channel t h = elim (emitted-from (pace_of k.peer now) k.peer.outbox sound channel t h) [
       | inl old ↦ elim (k.all channel t old) [
         | inl d ↦ inl d
@@ -197,7 +215,7 @@ sending-one joined D now there p0 q0 from to from' to' o k = record {
         sent = x.0;
         has = has;
         number = x.2;
-        went = ap (λ (t : Sent). went_at c.answer.time t.transmission) (one-sent joined from to k.peer c.answer.channel c.sent x.0 k.joint k.is k.connected c.low c.has old (x.2 ∙ sym c.number)) ∙ c.went;
+        went = ap (λ (t : Sent). went_at (meant_time c.answer.time (p.offset % 2 ^ 16)) t.transmission) (one-sent joined from to k.peer c.answer.channel c.sent x.0 k.joint k.is k.connected c.low c.has old (x.2 ∙ sym c.number)) ∙ c.went;
         peer = came.peer;
         is = came.is;
         there = came.kept.acknowledgements c.answer (subst (λ (x : Peering). Has x.outbox.acknowledgements c.answer) (same-peer to c.peer k.other c.is k.other_is) c.there);
@@ -244,20 +262,20 @@ sending-many joined D now there (suc n) p0 q0 from to from' to' m k = sending-ma
 
 -- an acknowledgement that waits goes and comes, or waits still
 answers-many : (joined : Bool) (now there n : ℕ) (from to from' to' : End) (q p : Peering) (a : Acknowledgement) (t : Sent) → PutsMany now there n from to from' to' → Joint joined from to → from.peer ≡ Some q → q.state ≡ state.Connected
-    → to.peer ≡ Some p → p.state ≡ state.Connected → a.channel < 255 → HasSent p.outbox.senders a.channel t → t.command.number ≡ a.number → went_at a.time t.transmission ≡ true → Has q.outbox.acknowledgements a
+    → to.peer ≡ Some p → p.state ≡ state.Connected → a.channel < 255 → HasSent p.outbox.senders a.channel t → t.command.number ≡ a.number → IsToldTime p.offset a.time t.transmission → Has q.outbox.acknowledgements a
     → (r : Peering) × (to'.peer ≡ Some r) × ((outstanding_over r.outbox.senders < outstanding_over p.outbox.senders) ⊎ ((s : Peering) × (from'.peer ≡ Some s) × Has s.outbox.acknowledgements a))
 answers-many joined now there zero from to from' to' q p a t m j is on other_is other_on low w number went_so has =
     (p, ap (λ (x : End). x.peer) m.1 ∙ other_is, inr (q, ap (λ (x : End). x.peer) m.0 ∙ is, has))
 answers-many joined now there (suc n) from to from' to' q p a t m j is on other_is other_on low w number went_so has = elim ((go-or-stay (pace_of q now) q.outbox).acknowledgements a has) [
   | inl stays ↦ elim came.kept.senders [
     | inl same ↦
-        let r = answers-many joined now there n m.0 m.1 from' to' (put_out q now) came.peer a t m.3 next g.peer on came.is came.connected low (subst (λ (l : List SendingEnd). HasSent l a.channel t) (sym same) w) number went_so stays in
+        let r = answers-many joined now there n m.0 m.1 from' to' (put_out q now) came.peer a t m.3 next g.peer on came.is came.connected low (subst (λ (l : List SendingEnd). HasSent l a.channel t) (sym same) w) number (told-still p came.peer a.time t.transmission came.kept.offset went_so) stays in
         (r.0, r.1, elim r.2 [ inl less ↦ inl (subst (λ (l : List SendingEnd). outstanding_over r.0.outbox.senders < outstanding_over l) same less) | inr s ↦ inr s ])
     | inr less ↦ (rest.other, rest.other_is, inl (let l = kept-least came.peer rest.other rest.other_kept in omega arith))
   ]
   | inr went ↦
       let put = g.put (acknowledgement_of a) went in
-      let less = came-less joined there (now % 65536) m.0 o.new to o.arrived p put.0 a t o.come put.1 out other_is other_on low w number went_so put.3 put.2 (put.5 refl) in
+      let less = came-less joined there told m.0 o.new to o.arrived p put.0 a t o.come put.1 out other_is other_on low w number went_so put.3 put.2 (put.5 refl) in
       let it : less.0 ≡ arrives.peer = same-peer o.arrived less.0 arrives.peer less.1 arrives.is in
       let sooner : outstanding_over arrives.peer.outbox.senders < outstanding_over p.outbox.senders = subst (λ (x : Peering). outstanding_over x.outbox.senders < outstanding_over p.outbox.senders) it less.2 in
       let taken = kept-least arrives.peer takes.peer takes.kept in
@@ -265,6 +283,9 @@ answers-many joined now there (suc n) from to from' to' q p a t m j is on other_
       (rest.other, rest.other_is, inl (let l = kept-least came.peer rest.other rest.other_kept in omega arith))
 ]
   where
+    told : ℕ
+    told = told_time now (offset_of from)
+
     o : PutsOne now there from to m.0 m.1
     o = m.2
 
@@ -275,10 +296,10 @@ answers-many joined now there (suc n) from to from' to' q p a t m j is on other_
     out = joint-event joined from to m.0 (Emit now) o.goes j
 
     next : Joint joined m.0 m.1
-    next = joint-swap joined m.1 m.0 (takes-joint joined o.events o.arrived m.0 m.1 o.takes (joint-swap joined m.0 o.arrived (all-joint joined there (now % 65536) m.0 o.new to o.arrived o.come out)))
+    next = joint-swap joined m.1 m.0 (takes-joint joined o.events o.arrived m.0 m.1 o.takes (joint-swap joined m.0 o.arrived (all-joint joined there told m.0 o.new to o.arrived o.come out)))
 
     arrives : Came to o.arrived p
-    arrives = all-came there (now % 65536) m.0 o.new to o.arrived p o.come other_is other_on
+    arrives = all-came there told m.0 o.new to o.arrived p o.come other_is other_on
 
     takes : Came o.arrived m.1 arrives.peer
     takes = took-all o.events o.arrived m.0 m.1 arrives.peer o.takes arrives.is arrives.connected
@@ -292,13 +313,17 @@ answers-many joined now there (suc n) from to from' to' q p a t m j is on other_
 
 -- all acknowledgements that wait go and come, or wait still; what comes takes its command away
 pub answers-all : (joined : Bool) (D : ℕ → Sent → Type 0) (now there n : ℕ) (from to from' to' : End) (q p : Peering) → PutsMany now there n from to from' to' → Joint joined from to → from.peer ≡ Some q → q.state ≡ state.Connected
-    → to.peer ≡ Some p → p.state ≡ state.Connected → ((channel : ℕ) (t : Sent) → HasSent p.outbox.senders channel t → D channel t ⊎ AnswersAt q channel t.command.number t.transmission)
-    → (r : Peering) × (to'.peer ≡ Some r) × (s : Peering) × (from'.peer ≡ Some s) × ((channel : ℕ) (t : Sent) → HasSent r.outbox.senders channel t → D channel t ⊎ AnswersAt s channel t.command.number t.transmission)
+    → to.peer ≡ Some p → p.state ≡ state.Connected → ((channel : ℕ) (t : Sent) → HasSent p.outbox.senders channel t → D channel t ⊎ AnswersAt p.offset q channel t.command.number t.transmission)
+    → (r : Peering) × (to'.peer ≡ Some r) × (s : Peering) × (from'.peer ≡ Some s) × ((channel : ℕ) (t : Sent) → HasSent r.outbox.senders channel t → D channel t ⊎ AnswersAt p.offset s channel t.command.number t.transmission)
 answers-all joined D now there zero from to from' to' q p m j is on other_is other_on all =
     (p, ap (λ (x : End). x.peer) m.1 ∙ other_is, q, ap (λ (x : End). x.peer) m.0 ∙ is, all)
 answers-all joined D now there (suc n) from to from' to' q p m j is on other_is other_on all =
-    answers-all joined D now there n m.0 m.1 from' to' (put_out q now) came.peer m.3 next g.peer on came.is came.connected left
+    let r = answers-all joined D now there n m.0 m.1 from' to' (put_out q now) came.peer m.3 next g.peer on came.is came.connected left in
+    (r.0, r.1, r.2, r.3, λ channel t h. elim (r.4 channel t h) [ inl d ↦ inl d | inr w ↦ inr (w.0, w.1, subst (λ offset. IsToldTime offset w.0 t.transmission) came.kept.offset w.2) ])
   where
+    told : ℕ
+    told = told_time now (offset_of from)
+
     o : PutsOne now there from to m.0 m.1
     o = m.2
 
@@ -309,10 +334,10 @@ answers-all joined D now there (suc n) from to from' to' q p m j is on other_is 
     out = joint-event joined from to m.0 (Emit now) o.goes j
 
     next : Joint joined m.0 m.1
-    next = joint-swap joined m.1 m.0 (takes-joint joined o.events o.arrived m.0 m.1 o.takes (joint-swap joined m.0 o.arrived (all-joint joined there (now % 65536) m.0 o.new to o.arrived o.come out)))
+    next = joint-swap joined m.1 m.0 (takes-joint joined o.events o.arrived m.0 m.1 o.takes (joint-swap joined m.0 o.arrived (all-joint joined there told m.0 o.new to o.arrived o.come out)))
 
     arrives : Came to o.arrived p
-    arrives = all-came there (now % 65536) m.0 o.new to o.arrived p o.come other_is other_on
+    arrives = all-came there told m.0 o.new to o.arrived p o.come other_is other_on
 
     takes : Came o.arrived m.1 arrives.peer
     takes = took-all o.events o.arrived m.0 m.1 arrives.peer o.takes arrives.is arrives.connected
@@ -320,20 +345,20 @@ answers-all joined D now there (suc n) from to from' to' q p m j is on other_is 
     came : Came to m.1 p
     came = then-came to o.arrived m.1 p arrives takes
 
-    left : (channel : ℕ) (t : Sent) → HasSent came.peer.outbox.senders channel t → D channel t ⊎ AnswersAt (put_out q now) channel t.command.number t.transmission
+    left : (channel : ℕ) (t : Sent) → HasSent came.peer.outbox.senders channel t → D channel t ⊎ AnswersAt came.peer.offset (put_out q now) channel t.command.number t.transmission
     left channel t h = by (all channel t old)
       where
         old : HasSent p.outbox.senders channel t
         old = came.kept.sent channel t h
 
-        by : D channel t ⊎ AnswersAt q channel t.command.number t.transmission → D channel t ⊎ AnswersAt (put_out q now) channel t.command.number t.transmission
+        by : D channel t ⊎ AnswersAt p.offset q channel t.command.number t.transmission → D channel t ⊎ AnswersAt came.peer.offset (put_out q now) channel t.command.number t.transmission
         by (inl d) = inl d
         by (inr w) = elim ((go-or-stay (pace_of q now) q.outbox).acknowledgements a w.1) [
-          | inl stays ↦ inr (w.0, stays, w.2)
+          | inl stays ↦ inr (w.0, stays, told-still p came.peer w.0 t.transmission came.kept.offset w.2)
           | inr went ↦
               let put = g.put (acknowledgement_of a) went in
               let low = low-channel joined to from p channel t.command.number (joint-swap joined from to j) other_is (old.0, old.1, Has-nums old.0.sender.sent t old.2) in
-              let none = came-none joined there (now % 65536) m.0 o.new to o.arrived p put.0 a t o.come put.1 out other_is other_on low refl w.2 put.3 put.2 (put.5 refl) in
+              let none = came-none joined there told m.0 o.new to o.arrived p put.0 a t o.come put.1 out other_is other_on low refl w.2 put.3 put.2 (put.5 refl) in
               let it : none.0 ≡ arrives.peer = same-peer o.arrived none.0 arrives.peer none.1 arrives.is in
               absurd (none.2 (subst (λ (y : Peering). HasSent y.outbox.senders channel t) (sym it) (takes.kept.sent channel t h)))
         ]
@@ -353,7 +378,7 @@ pub record Exchanged (joined : Bool) (D : ℕ → Sent → Type 0) (now : ℕ) (
       ⊎ ((then'.other.outbox.senders ≡ p0.outbox.senders) × (first.peer.outbox.senders ≡ p0.outbox.senders) × NothingMayGo (pace_of first.peer now) first.peer.outbox)
 
 pub exchanged : (joined : Bool) (D : ℕ → Sent → Type 0) (now there : ℕ) (p0 q0 : Peering) (from to from1 to1 to2 from2 : End) → Joint joined from to → from.peer ≡ Some p0 → p0.state ≡ state.Connected → to.peer ≡ Some q0 → q0.state ≡ state.Connected
-    → PutsAll now there from to from1 to1 → PutsAll there now to1 from1 to2 from2 → ((channel : ℕ) (t : Sent) → HasSent p0.outbox.senders channel t → D channel t ⊎ OnItsWay to channel t)
+    → PutsAll now there from to from1 to1 → PutsAll there now to1 from1 to2 from2 → ((channel : ℕ) (t : Sent) → HasSent p0.outbox.senders channel t → D channel t ⊎ OnItsWay p0.offset to channel t)
     → Exchanged joined D now p0 q0 from1 to1 to2 from2
 exchanged joined D now there p0 q0 from to from1 to1 to2 from2 j is on other_is other_on forth back all = record {
   first = s;
@@ -376,7 +401,7 @@ exchanged joined D now there p0 q0 from to from1 to1 to2 from2 j is on other_is 
     u : Peering
     u = t.other
 
-    at : (channel : ℕ) (x : Sent) → HasSent s.peer.outbox.senders channel x → D channel x ⊎ AnswersAt s.other channel x.command.number x.transmission
+    at : (channel : ℕ) (x : Sent) → HasSent s.peer.outbox.senders channel x → D channel x ⊎ AnswersAt s.peer.offset s.other channel x.command.number x.transmission
     at channel x h = elim (s.all channel x h) [
       | inl d ↦ inl d
       | inr w ↦ inr (w.0, subst (λ (y : Peering). Has y.outbox.acknowledgements (record { channel = channel; number = x.command.number; time = w.0 })) (same-peer to1 w.1 s.other w.2 s.other_is) w.3, w.4)
@@ -424,6 +449,7 @@ NoneLate now xs = (s : SendingEnd) → Has xs s → (t : Sent) → Has s.sender.
 pub record Ticked (now : ℕ) (p q : Peering) : Type 0 where
   pub over : outstanding_over q.outbox.senders ≡ outstanding_over p.outbox.senders
   pub mtu : q.terms.mtu ≡ p.terms.mtu
+  pub offset : q.offset ≡ p.offset
   pub idle : NoneDue q.outbox.senders → (q.outbox.senders ≡ p.outbox.senders) × NoneLate now p.outbox.senders
   pub from : (channel : ℕ) (t : Sent) → HasSent q.outbox.senders channel t → t.transmission.due ≡ false → HasSent p.outbox.senders channel t × (has_waited_out now t ≡ false)
   pub was : (channel : ℕ) (t : Sent) → HasSent q.outbox.senders channel t → (x : Sent) × HasSent p.outbox.senders channel x × (x.command.number ≡ t.command.number) × ((time : ℕ) → went_at time x.transmission ≡ went_at time t.transmission)
@@ -499,7 +525,7 @@ state-pinged q now = elim (is_pinged q now) as (λ b. (cond b (record q { outbox
 
 ticked-pinged : (p q : Peering) (now : ℕ) → Ticked now p q → Ticked now p (pinged q now)
 ticked-pinged p q now k = elim (is_pinged q now) as (λ b. Ticked now p (cond b (record q { outbox = with_control q.outbox control.Ping }) q)) [
-  | true ↦ record { over = k.over; mtu = k.mtu; idle = k.idle; from = k.from; was = k.was; still = k.still; acknowledgements = k.acknowledgements }
+  | true ↦ record { over = k.over; mtu = k.mtu; offset = k.offset; idle = k.idle; from = k.from; was = k.was; still = k.still; acknowledgements = k.acknowledgements }
   | false ↦ k
 ]
 
@@ -522,6 +548,7 @@ ticked-so p now stays = by (has_ended p.outbox now p.patience p.heard) (has_late
         subst (λ (x : Peering). Ticked now p x) (sym is) (ticked-pinged p (after false true) now (record {
           over = over-marked (growth_bound p) now p.outbox.senders;
           mtu = refl;
+          offset = refl;
           idle = λ h. all-marks-none (growth_bound p) now p.outbox.senders h;
           from = λ channel t h due. (let m = sent-marked (growth_bound p) now p.outbox.senders channel t h in let k = from-marked (growth_bound p) now m.0.sender.sent t m.2 due in ((m.0, m.1, k.0), k.1));
           was = λ channel t h. (let m = sent-marked (growth_bound p) now p.outbox.senders channel t h in let k = Has-mapped (marked (growth_bound p) now) m.0.sender.sent t m.2 in (k.0, (m.0, m.1, k.1), ap (λ (y : Sent). y.command.number) k.2, λ time. sym (went-marked (growth_bound p) now k.0.transmission time) ∙ ap (λ (y : Sent). went_at time y.transmission) k.2));
@@ -533,6 +560,7 @@ ticked-so p now stays = by (has_ended p.outbox now p.patience p.heard) (has_late
         subst (λ (x : Peering). Ticked now p x) (sym is) (ticked-pinged p (after false false) now (record {
           over = refl;
           mtu = refl;
+          offset = refl;
           idle = λ h. (refl, λ s k t m. none-of (has_waited_out now) s.sender.sent t (none-of (λ (y : SendingEnd). list_any (has_waited_out now) y.sender.sent) p.outbox.senders s (or-both _ _ f).1 k) m);
           from = λ channel t h due. (h, none-of (has_waited_out now) h.0.sender.sent t (none-of (λ (y : SendingEnd). list_any (has_waited_out now) y.sender.sent) p.outbox.senders h.0 (or-both _ _ f).1 (Has-at p.outbox.senders channel h.0 h.1)) h.2);
           was = λ channel t h. (t, h, refl, λ time. refl);
@@ -618,10 +646,10 @@ pub record Rounded (joined : Bool) (D E : ℕ → Sent → Type 0) (now there : 
   pub due_one : (channel : ℕ) (t : Sent) → HasSent between.outbox.senders channel t → t.transmission.due ≡ false
   pub none_two : (channel : ℕ) (t : Sent) → HasSent progresses.two.outbox.senders channel t → E channel t
   pub due_two : (channel : ℕ) (t : Sent) → HasSent progresses.two.outbox.senders channel t → t.transmission.due ≡ false
-  pub way : (channel : ℕ) (t : Sent) → HasSent progresses.one.outbox.senders channel t → HasSent between.outbox.senders channel t ⊎ OnItsWay d.two channel t
+  pub way : (channel : ℕ) (t : Sent) → HasSent progresses.one.outbox.senders channel t → HasSent between.outbox.senders channel t ⊎ OnItsWay progresses.one.offset d.two channel t
 
 rounded : (joined : Bool) (D E : ℕ → Sent → Type 0) (now there : ℕ) (c d : Connection) (p q : Peering) → Invariant joined c → IsOpen c.one p → IsOpen c.two q → (r : RoundOfBoth now there c d)
-    → ((channel : ℕ) (t : Sent) → HasSent (ticked p now).outbox.senders channel t → D channel t ⊎ OnItsWay c.two channel t)
+    → ((channel : ℕ) (t : Sent) → HasSent (ticked p now).outbox.senders channel t → D channel t ⊎ OnItsWay p.offset c.two channel t)
     → ((channel : ℕ) (t : Sent) → HasSent (ticked q there).outbox.senders channel t → E channel t) → Rounded joined D E now there p q r
 rounded joined D E now there c d p q i open_one open_two r waits_one waits_two = record {
   progresses = record {
@@ -667,7 +695,7 @@ rounded joined D E now there c d p q i open_one open_two r waits_one waits_two =
     tick_two : Ticked there q q0
     tick_two = two-ticks now there c d q open_two r
 
-    waits : (channel : ℕ) (t : Sent) → HasSent p0.outbox.senders channel t → D channel t ⊎ OnItsWay r.two channel t
+    waits : (channel : ℕ) (t : Sent) → HasSent p0.outbox.senders channel t → D channel t ⊎ OnItsWay p0.offset r.two channel t
     waits channel t h = elim (waits_one channel t h) [
       | inl x ↦ inl x
       | inr w ↦ inr (
@@ -676,7 +704,7 @@ rounded joined D E now there c d p q i open_one open_two r waits_one waits_two =
         two_is,
         subst (λ (l : List Acknowledgement). Has l (record { channel = channel; number = t.command.number; time = w.0 })) (sym tick_two.acknowledgements)
             (subst (λ (x : Peering). Has x.outbox.acknowledgements (record { channel = channel; number = t.command.number; time = w.0 })) (same-peer c.two w.1 q w.2 open_two.is) w.3),
-        w.4,
+        told-still p p0 w.0 t.transmission tick_one.offset w.4,
       )
     ]
 
@@ -771,7 +799,7 @@ less-or-none joined D E now there p q c d r k none_one none_two = elim k.progres
 
 -- all that waits at the one end was acknowledged, by what waits to go at the other, where nothing waits
 record Fresh (c : Connection) (p q : Peering) : Type 0 where
-  one : (channel : ℕ) (t : Sent) → HasSent p.outbox.senders channel t → OnItsWay c.two channel t
+  one : (channel : ℕ) (t : Sent) → HasSent p.outbox.senders channel t → OnItsWay p.offset c.two channel t
   two : NothingSent q
 
 fresh-after : (joined : Bool) (D E : ℕ → Sent → Type 0) (now there : ℕ) (p q : Peering) (c d : Connection) (r : RoundOfBoth now there c d) (k : Rounded joined D E now there p q r) → NothingSent k.between → NothingSent k.progresses.two
@@ -831,7 +859,8 @@ fresh-rounds joined (m ∷ moments) c d p q i is_one is_two on_one on_two f r fe
     k : Rounded joined None' None' m.0 m.1 r.0 r.1 r.5
     k = rounded joined None' None' m.0 m.1 c r.4 r.0 r.1 i r.2 r.3 r.5
         (λ channel t h. (let w = (one-ticks m.0 m.1 c r.4 r.0 r.2 r.5).was channel t h in
-        inr (on-its-way c.two channel w.0 t w.2 w.3 (f.one channel w.0 (subst (λ (x : Peering). HasSent x.outbox.senders channel w.0) same_one w.1)))))
+        inr (on-its-way r.0.offset c.two channel w.0 t w.2 w.3
+        (subst (λ (x : Peering). OnItsWay x.offset c.two channel w.0) (sym same_one) (f.one channel w.0 (subst (λ (x : Peering). HasSent x.outbox.senders channel w.0) same_one w.1))))))
         (λ channel t h. (let w = (two-ticks m.0 m.1 c r.4 r.1 r.3 r.5).was channel t h in f.two channel w.0 (subst (λ (x : Peering). HasSent x.outbox.senders channel w.0) same_two w.1)))
 
 pub all-get-through : (joined : Bool) (now there : ℕ) (moments : List (ℕ × ℕ)) (c b d : Connection) (p q : Peering) → Invariant joined c → IsOpen c.one p → IsOpen c.two q → AllOver now p → AllOver there q

@@ -16,7 +16,7 @@ use Rattle.enet_receiver.specs.Members.{Has}
 use Rattle.law_connection.proofs.Lists.{Has-push, Has-push_left}
 use Rattle.law_progress.specs.Links.{outstanding_at}
 use Rattle.law_progress.specs.Exchanges.{outstanding_over, HasSent}
-use Rattle.law_progress.proofs.Carried.{nums, set-nums, set-length, Has-nums, Has-more}
+use Rattle.law_progress.proofs.Carried.{nums, set-nums, set-length, Has-more}
 use Rattle.law_progress.proofs.SomethingGoes.{get-set, set-other, set-same, same-number, skipped-length}
 use Rattle.law_progress.proofs.Spent.{Goes, First, Again, goes-of}
 use Rattle.law_progress.proofs.Waiting.{Has-at, Has-set, Has-pushed}

@@ -1,13 +1,15 @@
 -- What two connected ends make of each other's commands where nothing is lost: what goes is acknowledged, over all channels.
-use Rattle.std.proofs.Common.{◌≡◌, ℕ, zero, suc, ◌<◌, Bool, true, false, cond, List, [], ◌∷◌, ◌++◌, length, map, refl, sym, ap, subst, ◌∙◌, inl, inr, ◌⊎◌, ◌==◌, arith, Option, Some, None, ◌&&◌}
+use Rattle.std.proofs.Common.{◌≡◌, ℕ, zero, suc, ◌%◌, ◌^◌, ◌<◌, Bool, true, false, cond, List, [], ◌∷◌, ◌++◌, length, map, refl, sym, ap, subst, ◌∙◌, inl, inr, ◌==◌, arith, Option, Some, None, ◌&&◌}
 use Rattle.std.specs.List.{slice_get}
 use Rattle.enet_codec.specs.declared.command.Fragment.{Fragment}
 use Rattle.enet_codec.specs.declared.packet.Packet.{Packet}
 use Rattle.enet_codec.specs.Message.{Message, acknowledge}
+use Rattle.enet_rtt.specs.Clock.{meant_time}
 use Rattle.enet_fragment.specs.declared.data.DataCommand.{DataCommand}
 use Rattle.enet_fragment.specs.DataCommand.{data_of, message_of, read_of, wire_body}
 use Rattle.enet_receiver.specs.Members.{Has}
 use Rattle.enet_rtt.specs.Transmission.{went_at}
+use Rattle.enet_rtt.specs.declared.transmission.Transmission.{Transmission}
 use Rattle.enet_sender.specs.Sender.{Sender, position_of}
 use Rattle.enet_sender.specs.declared.sent.Sent.{Sent}
 use Rattle.enet_sender.specs.Due.{SendingEnd}
@@ -30,6 +32,7 @@ use Rattle.law_connection.proofs.Firsts.{drop_first, without-first}
 use Rattle.law_connection.proofs.FitEnds.{fit-peer}
 use Rattle.law_connection.proofs.Laws.{kept-at}
 use Rattle.law_connection.proofs.LinkRuns.{Sound-runs, Sound-fresh}
+use Rattle.law_connection.proofs.Offsets.{offset-taken}
 use Rattle.law_connection.proofs.Shown.{Sound}
 use Rattle.law_progress.specs.Exchanges.{HasRoomFor, Comes, AllCome, outstanding_over, HasSent, Takes}
 use Rattle.law_progress.specs.Peers.{Awaits, IsAnswered, IsRemoved}
@@ -41,7 +44,7 @@ use Rattle.law_progress.proofs.NotStopped.{Reaches, not-stopped}
 use Rattle.law_progress.proofs.Obeyed.{Kept, kept-self, kept-least, kept-then, hears-kept}
 use Rattle.law_progress.proofs.PeerAnswers.{answers-forth}
 use Rattle.law_progress.proofs.Removed.{removed-at}
-use Rattle.law_progress.proofs.SomethingGoes.{below-length, same-number}
+use Rattle.law_progress.proofs.SomethingGoes.{below-length}
 use Rattle.law_progress.proofs.Trips.{Has-map, Images-has}
 use Rattle.law_progress.proofs.Waiting.{Has-mapped}
 
@@ -264,7 +267,7 @@ took-one own other new p h is on = record {
   peer = h.1;
   is = ap (λ (e : End). e.peer) h.5;
   connected = left.1 ∙ on;
-  kept = record { senders = inl (ap (λ (o : Outbox). o.senders) left.0); mtu = left.2; acknowledgements = λ a k. subst (λ (o : Outbox). Has o.acknowledgements a) (sym left.0) k; sent = λ channel t k. subst (λ (o : Outbox). HasSent o.senders channel t) left.0 k };
+  kept = record { senders = inl (ap (λ (o : Outbox). o.senders) left.0); mtu = left.2; offset = offset-taken p (record { event = h.2; after = h.1 }) gives; acknowledgements = λ a k. subst (λ (o : Outbox). Has o.acknowledgements a) (sym left.0) k; sent = λ channel t k. subst (λ (o : Outbox). HasSent o.senders channel t) left.0 k };
   log = ap (λ (e : End). e.log) h.5;
 }
   where
@@ -423,16 +426,23 @@ acknowledged-in-time joined from to p put a j is connected low w message logged 
 abbrev pub waits-of : (senders : List SendingEnd) (channel number : ℕ) (t : Sent) → HasSent senders channel t → t.command.number ≡ number → Waits senders channel number
 waits-of senders channel number t h same = (h.0, h.1, subst (λ n. Has (nums h.0.sender.sent) n) same (Has-nums h.0.sender.sent t h.2))
 
+-- a told time is that of a send, where so much is added to the times that are told
+abbrev pub IsToldTime : (offset told : ℕ) → Transmission → Type 0
+IsToldTime offset told t = went_at (meant_time told (offset % 2 ^ 16)) t ≡ true
+
+pub told-still : (p q : Peering) (told : ℕ) (t : Transmission) → q.offset ≡ p.offset → IsToldTime p.offset told t → IsToldTime q.offset told t
+told-still p q told t e h = subst (λ n. IsToldTime n told t) (sym e) h
+
 -- an acknowledgement that comes takes its command away
 took-away : (joined : Bool) (now time : ℕ) (from to : End) (p : Peering) (m : Message) (a : Acknowledgement) (t : Sent) → Joint joined from to → to.peer ≡ Some p → p.state ≡ state.Connected → a.channel < 255
-    → (h : HasSent p.outbox.senders a.channel t) → t.command.number ≡ a.number → went_at a.time t.transmission ≡ true → m ≡ acknowledgement_of a → IsRemoved p a.channel a.number h.0 (obeyed p now (Some time) m)
+    → (h : HasSent p.outbox.senders a.channel t) → t.command.number ≡ a.number → IsToldTime p.offset a.time t.transmission → m ≡ acknowledgement_of a → IsRemoved p a.channel a.number h.0 (obeyed p now (Some time) m)
 took-away joined now time from to p m a t j is connected low h same went message =
     let placed = alone joined to from p a.channel t (joint-swap joined from to j) is connected low h in
     subst (λ (m : Message). IsRemoved p a.channel a.number h.0 (obeyed p now (Some time) m)) (sym message)
     (removed-at p now (Some time) (acknowledgement_of a) a.number a.time h.0 connected refl refl low h.1 placed.0 t (ap (λ n. position_of n h.0.sender.sent) (sym same) ∙ placed.1) placed.2 went)
 
 pub came-less : (joined : Bool) (now time : ℕ) (from : End) (puts : List Put) (to new : End) (p : Peering) (put : Put) (a : Acknowledgement) (t : Sent) → AllCome now time from puts to new → Has puts put → Joint joined from to
-    → to.peer ≡ Some p → p.state ≡ state.Connected → a.channel < 255 → HasSent p.outbox.senders a.channel t → t.command.number ≡ a.number → went_at a.time t.transmission ≡ true
+    → to.peer ≡ Some p → p.state ≡ state.Connected → a.channel < 255 → HasSent p.outbox.senders a.channel t → t.command.number ≡ a.number → IsToldTime p.offset a.time t.transmission
     → put.message ≡ acknowledgement_of a → Has from.log put → put.sent_then ≡ sent_on a.channel to
     → (q : Peering) × (new.peer ≡ Some q) × (outstanding_over q.outbox.senders < outstanding_over p.outbox.senders)
 came-less joined now time from [] to new p put a t come has j is connected low w number went message logged marked = absurd has
@@ -441,7 +451,7 @@ came-less joined now time from (x ∷ puts) to new p put a t come (inr has) j is
     elim k.kept.senders [
       | inl same ↦
           let still : HasSent k.peer.outbox.senders a.channel t = subst (λ (l : List SendingEnd). HasSent l a.channel t) (sym same) w in
-          let rest = came-less joined now time from puts come.0 new k.peer put a t come.2 has (one-joint joined now time from x to come.0 come.1 j) k.is k.connected low still number went message logged (marked ∙ ap (λ (l : List Put). reached a.channel 0 (messages_of l)) (sym k.log)) in
+          let rest = came-less joined now time from puts come.0 new k.peer put a t come.2 has (one-joint joined now time from x to come.0 come.1 j) k.is k.connected low still number (told-still p k.peer a.time t.transmission k.kept.offset went) message logged (marked ∙ ap (λ (l : List Put). reached a.channel 0 (messages_of l)) (sym k.log)) in
           (rest.0, rest.1, subst (λ (l : List SendingEnd). outstanding_over rest.0.outbox.senders < outstanding_over l) same rest.2)
       | inr less ↦
           let rest = all-came now time from puts come.0 new k.peer come.2 k.is k.connected in
@@ -486,12 +496,12 @@ away-none joined from to p a w o j is connected low away t h e =
     none-left k.mtu k.sound.link.sent a.number k.sound.link.carried k.sound.link.unacked k.link.outgoing.sent k.sound.shows.rising (λ m i. (let n = near m i in (n.1, n.2))) (k.sound.shows.images k.sending) t there e
 
 pub came-none : (joined : Bool) (now time : ℕ) (from : End) (puts : List Put) (to new : End) (p : Peering) (put : Put) (a : Acknowledgement) (t : Sent) → AllCome now time from puts to new → Has puts put → Joint joined from to
-    → to.peer ≡ Some p → p.state ≡ state.Connected → a.channel < 255 → t.command.number ≡ a.number → went_at a.time t.transmission ≡ true → put.message ≡ acknowledgement_of a → Has from.log put → put.sent_then ≡ sent_on a.channel to
+    → to.peer ≡ Some p → p.state ≡ state.Connected → a.channel < 255 → t.command.number ≡ a.number → IsToldTime p.offset a.time t.transmission → put.message ≡ acknowledgement_of a → Has from.log put → put.sent_then ≡ sent_on a.channel to
     → (q : Peering) × (new.peer ≡ Some q) × (HasSent q.outbox.senders a.channel t → ⊥)
 came-none joined now time from [] to new p put a t come has j is connected low number went message logged marked = absurd has
 came-none joined now time from (x ∷ puts) to new p put a t come (inr has) j is connected low number went message logged marked =
     let k = one-came now time from x to come.0 p come.1 is in
-    came-none joined now time from puts come.0 new k.peer put a t come.2 has (one-joint joined now time from x to come.0 come.1 j) k.is k.connected low number went message logged (marked ∙ ap (λ (l : List Put). reached a.channel 0 (messages_of l)) (sym k.log))
+    came-none joined now time from puts come.0 new k.peer put a t come.2 has (one-joint joined now time from x to come.0 come.1 j) k.is k.connected low number (told-still p k.peer a.time t.transmission k.kept.offset went) message logged (marked ∙ ap (λ (l : List Put). reached a.channel 0 (messages_of l)) (sym k.log))
 came-none joined now time from (x ∷ puts) to new p put a t come (inl same) j is connected low number went message logged marked =
     (rest.peer, rest.is, λ h. let there = rest.kept.sent a.channel t h in gone there (k.kept.sent a.channel t there))
   where

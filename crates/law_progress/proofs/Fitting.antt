@@ -1,5 +1,5 @@
 -- Whatever happens at a peer, each command that it has to send fits its datagrams: packets are cut by the mtu of its terms.
-use Rattle.std.proofs.Common.{◌≡◌, ℕ, zero, suc, ◌+◌, ◌-◌, ◌*◌, ◌≤◌, ◌%◌, ◌^◌, ◌&&◌, ◌==◌, ltb, max, min, not, Bool, true, false, cond, List, [], ◌∷◌, ◌++◌, length, map, take, drop, refl, sym, ap, subst, inl, inr, ◌⊎◌, arith, Option, Some, None, Result, Ok, Err, is_some, nat_lt}
+use Rattle.std.proofs.Common.{◌≡◌, ℕ, zero, suc, ◌+◌, ◌*◌, ◌≤◌, ◌%◌, ◌^◌, ◌&&◌, ◌==◌, ltb, max, min, not, Bool, true, false, cond, List, [], ◌∷◌, ◌++◌, length, map, take, drop, refl, sym, ap, subst, inl, inr, ◌⊎◌, arith, Option, Some, None, Result, Ok, Err, is_some, nat_lt}
 use Rattle.std.proofs.lemmas.Bool.Decides.{nat_tests}
 use Rattle.std.proofs.lemmas.List.{length-take}
 use Rattle.std.specs.List.{slice_get, slice_set, range_with_len}
@@ -10,6 +10,7 @@ use Rattle.enet_codec.specs.declared.stop.Stop.{Stop}
 use Rattle.enet_codec.specs.declared.stop.Stop.TheVariants as stop
 use Rattle.enet_codec.specs.Message.{Message, Body, acknowledge, connect, verify_connect, disconnect, ping, send_reliable, send_unreliable, send_fragment, send_unsequenced, send_unreliable_fragment, bandwidth_limit, throttle_configure}
 use Rattle.enet_seq.specs.Numbering.{wire}
+use Rattle.enet_rtt.specs.Clock.{meant_time}
 use Rattle.enet_rtt.specs.declared.expiry.Expiry.{Expiry}
 use Rattle.enet_rtt.specs.declared.expiry.Expiry.TheVariants.{No, Resend, End}
 use Rattle.enet_connect.specs.Sizes.{mtu_of}
@@ -39,6 +40,7 @@ use Rattle.enet_outbox.proofs.Filled.{by-filling}
 use Rattle.enet_peer.specs.declared.parts.PeerState.{PeerState}
 use Rattle.enet_peer.specs.declared.parts.PeerState.TheVariants as state
 use Rattle.enet_peer.specs.declared.parts.Limits.{Limits}
+use Rattle.enet_peer.specs.declared.parts.Offsets.{Offsets}
 use Rattle.enet_peer.specs.Peering.{Peering, joined, connecting, answering}
 use Rattle.enet_peer.specs.Endings.{ended, freed, parting, settled, disconnecting, is_later, cut_off_in}
 use Rattle.enet_peer.proofs.Obeying.{unless-holds, unwelcomed-holds}
@@ -237,9 +239,12 @@ fits-answer p state.Answering (control.VerifyConnect verify) f = record { mtu = 
 fits-answer p state.Disconnecting (control.Disconnect info) f = fits-dropped p (ended p 0) f refl refl refl
 fits-answer p s what f = f
 
-fits-acknowledge : (p : Peering) (now channel number time : ℕ) → Fits p → Fits (on_acknowledge p now channel number time)
-fits-acknowledge p now channel number time f = by-state (is_connecting p.state)
+fits-acknowledge : (p : Peering) (now channel number told : ℕ) → Fits p → Fits (on_acknowledge p now channel number told)
+fits-acknowledge p now channel number told f = by-state (is_connecting p.state)
   where
+    time : ℕ
+    time = meant_time told (p.offset % 2 ^ 16)
+
     q : Peering
     q = sampled (record p { outbox = after_acknowledgement p.outbox channel number }) now time
 
@@ -424,8 +429,8 @@ stays-fit p f gap now moments q when run = all-fits q when (fits-moments gap now
 pub joined-fits : (start : ℕ) (terms : Terms) (limits : Limits) → terms.mtu ≤ 4096 → Fits (joined start terms limits)
 joined-fits start terms limits low = record { mtu = low; small = small-cleared (room_of terms.mtu) _ refl (new-empty 0 terms.channels) }
 
-pub asking-fits : (start : ℕ) (offer : Offer) (limits : Limits) → offer.mtu ≤ 4096 → Fits (connecting start offer limits)
-asking-fits start offer limits low = record { mtu = low; small = small-cleared (room_of offer.mtu) _ refl (new-empty 0 _) }
+pub asking-fits : (start offset : ℕ) (offer : Offer) (limits : Limits) → offer.mtu ≤ 4096 → Fits (connecting start offset offer limits)
+asking-fits start offset offer limits low = record { mtu = low; small = small-cleared (room_of offer.mtu) _ refl (new-empty 0 _) }
 
-pub answering-fits : (start : ℕ) (offer : Offer) (server : Server) (limits : Limits) → Fits (answering start offer server limits)
-answering-fits start offer server limits = record { mtu = lesser-mtu offer.mtu server.mtu; small = small-cleared (room_of (mtu_of offer.mtu server.mtu)) _ refl (new-empty 0 _) }
+pub answering-fits : (start : ℕ) (offsets : Offsets) (offer : Offer) (server : Server) (limits : Limits) → Fits (answering start offsets offer server limits)
+answering-fits start offsets offer server limits = record { mtu = lesser-mtu offer.mtu server.mtu; small = small-cleared (room_of (mtu_of offer.mtu server.mtu)) _ refl (new-empty 0 _) }

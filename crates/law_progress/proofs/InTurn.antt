@@ -1,5 +1,5 @@
 -- What rounds bring to two ends of which each has one turn in a round.
-use Rattle.std.proofs.Common.{◌≡◌, ℕ, zero, suc, ◌+◌, ◌<◌, ◌≤◌, ◌*◌, true, false, List, [], ◌∷◌, ◌++◌, length, Bool, refl, sym, ap, subst, ◌∙◌, inl, inr, ◌⊎◌, arith, Option, Some}
+use Rattle.std.proofs.Common.{◌≡◌, ℕ, suc, ◌+◌, ◌<◌, ◌≤◌, ◌*◌, true, false, List, [], ◌∷◌, ◌++◌, length, Bool, refl, sym, ap, subst, ◌∙◌, inl, inr, ◌⊎◌, arith, Some}
 use Rattle.enet_receiver.specs.Members.{Has}
 use Rattle.enet_sender.specs.declared.sent.Sent.{Sent}
 use Rattle.enet_sender.specs.Sender.{is_late as has_waited_out}
@@ -11,12 +11,12 @@ use Rattle.enet_peer.specs.Peering.{Peering}
 use Rattle.enet_peer.specs.Calls.{pace_of, ticked, with_throttle_limit}
 use Rattle.law_connection.specs.Connection.{End, Connection}
 use Rattle.law_connection.specs.Invariant.{Invariant}
-use Rattle.law_connection.specs.Steps.{Tick, Set, ThrottleLimit, Happens}
+use Rattle.law_connection.specs.Steps.{Tick, Set, ThrottleLimit}
 use Rattle.law_progress.specs.Exchanges.{IsOpen, RoundOfBoth, outstanding_over, HasSent, AllOver, BothThrough}
 use Rattle.law_progress.specs.InTurn.{Ticks, RoundInTurn, RoundsInTurn}
 use Rattle.law_progress.proofs.BothRounds.{Coming, Sending, Exchanged, Ticked, OnItsWay, AnswersAt, NothingSent, total, exchanged, answers-all, ticked-so, tick-peer, only-waits, none-waits, both-through, on-its-way}
 use Rattle.law_progress.proofs.Emitted.{Waits}
-use Rattle.law_progress.proofs.Exchanges.{Joint, joint-swap, joint-event, same-peer, Came, took-all, takes-joint}
+use Rattle.law_progress.proofs.Exchanges.{Joint, joint-swap, joint-event, same-peer, told-still, Came, took-all, takes-joint}
 use Rattle.law_progress.proofs.Found.{sender-rests}
 use Rattle.law_progress.proofs.Obeyed.{kept-least}
 use Rattle.law_progress.proofs.Waiting.{Has-at, Has-mapped}
@@ -37,7 +37,7 @@ ticks-to now own other new p (inr h) is patient = record {
   peer = q;
   is = here;
   connected = on;
-  tick = record { over = k.over; mtu = k.mtu; idle = k.idle; from = k.from; was = k.was; still = k.still; acknowledgements = k.acknowledgements };
+  tick = record { over = k.over; mtu = k.mtu; offset = k.offset; idle = k.idle; from = k.from; was = k.was; still = k.still; acknowledgements = k.acknowledgements };
 }
   where
     q : Peering
@@ -77,7 +77,7 @@ record Played (joined : Bool) (D E : ℕ → Sent → Type 0) (now there : ℕ) 
   on_two : two.state ≡ state.Connected
   joint : Joint joined d.one d.two
   none_one : (channel : ℕ) (t : Sent) → HasSent one.outbox.senders channel t → D channel t × (t.transmission.due ≡ false)
-  way_two : (channel : ℕ) (t : Sent) → HasSent two.outbox.senders channel t → (E channel t × (t.transmission.due ≡ false)) ⊎ OnItsWay d.one channel t
+  way_two : (channel : ℕ) (t : Sent) → HasSent two.outbox.senders channel t → (E channel t × (t.transmission.due ≡ false)) ⊎ OnItsWay two.offset d.one channel t
   least_one : outstanding_over one.outbox.senders ≤ outstanding_over p.outbox.senders
   least_two : outstanding_over two.outbox.senders ≤ outstanding_over q.outbox.senders
   -- where nothing has D, fewer are outstanding at the one end, or none; so at the other where nothing has E, or something waits there
@@ -88,7 +88,7 @@ record Played (joined : Bool) (D E : ℕ → Sent → Type 0) (now there : ℕ) 
 
 played : (joined : Bool) (D E : ℕ → Sent → Type 0) (now there : ℕ) (c d : Connection) (p q : Peering) → Invariant joined c → IsOpen c.one p → IsOpen c.two q → (r : RoundInTurn now there c d)
     → ((x : Peering) → r.one.peer ≡ Some x → (channel : ℕ) (t : Sent) → HasSent x.outbox.senders channel t → D channel t)
-    → ((x : Peering) → r.two.peer ≡ Some x → (channel : ℕ) (t : Sent) → HasSent x.outbox.senders channel t → E channel t ⊎ OnItsWay c.one channel t) → Played joined D E now there p q d
+    → ((x : Peering) → r.two.peer ≡ Some x → (channel : ℕ) (t : Sent) → HasSent x.outbox.senders channel t → E channel t ⊎ OnItsWay q.offset c.one channel t) → Played joined D E now there p q d
 played joined D E now there c d p q i open_one open_two r waits_one waits_two = record {
   one = t1.peer;
   is_one = t1.is;
@@ -98,7 +98,7 @@ played joined D E now there c d p q i open_one open_two r waits_one waits_two = 
   on_two = t2.connected;
   joint = joint-swap joined d.two d.one (takes-joint joined r.events_two r.two_out d.one d.two r.takes_two (joint-swap joined d.one r.two_out (takes-joint joined r.events_one r.one_in r.two_out d.one r.takes_one (joint-swap joined r.two_out r.one_in b.joint))));
   none_one = λ channel t h. (let k = t1.kept.sent channel t h in (a.none channel t k, a.due channel t k));
-  way_two = λ channel t h. way channel t (t2.kept.sent channel t h);
+  way_two = λ channel t h. elim (way channel t (t2.kept.sent channel t h)) [ inl e ↦ inl e | inr w ↦ inr (w.0, w.1, w.2, w.3, told-still b.peer t2.peer w.0 t.transmission t2.kept.offset w.4) ];
   least_one = (let x = a.least in let y = kept-least b.other t1.peer t1.kept in let z = tick_one.over in omega arith);
   least_two = (let x = b.least in let y = kept-least b.peer t2.peer t2.kept in let w = kept-least q0 a.first.other a.first.other_kept in let z = tick_two.over in omega arith);
   less_one = λ none. elim a.how [
@@ -149,14 +149,14 @@ played joined D E now there c d p q i open_one open_two r waits_one waits_two = 
     t2 = took-all r.events_two r.two_out d.one d.two b.peer r.takes_two b.is b.connected
 
     -- what waited at the other end, once the one end has put out all
-    at_two : (channel : ℕ) (t : Sent) → HasSent q0.outbox.senders channel t → E channel t ⊎ AnswersAt p0 channel t.command.number t.transmission
+    at_two : (channel : ℕ) (t : Sent) → HasSent q0.outbox.senders channel t → E channel t ⊎ AnswersAt q0.offset p0 channel t.command.number t.transmission
     at_two channel t h = elim (waits_two q0 s2.is channel t h) [
       | inl e ↦ inl e
       | inr w ↦ inr (
         w.0,
         subst (λ (l : List Acknowledgement). Has l (record { channel = channel; number = t.command.number; time = w.0 })) (sym tick_one.acknowledgements)
             (subst (λ (x : Peering). Has x.outbox.acknowledgements (record { channel = channel; number = t.command.number; time = w.0 })) (same-peer c.one w.1 p w.2 open_one.is) w.3),
-        w.4,
+        told-still q q0 w.0 t.transmission tick_two.offset w.4,
       )
     ]
 
@@ -178,7 +178,7 @@ played joined D E now there c d p q i open_one open_two r waits_one waits_two = 
         let rests = r.back.spent b.peer b.is in
         sender-rests (occasion (pace_of b.peer there) b.peer.outbox) h.0.sender (rests.channels channel h.0 h.1) t h.2
 
-    way : (channel : ℕ) (t : Sent) → HasSent b.peer.outbox.senders channel t → (E channel t × (t.transmission.due ≡ false)) ⊎ OnItsWay d.one channel t
+    way : (channel : ℕ) (t : Sent) → HasSent b.peer.outbox.senders channel t → (E channel t × (t.transmission.due ≡ false)) ⊎ OnItsWay b.peer.offset d.one channel t
     way channel t h = elim (b.all channel t h) [
       | inl old ↦ inl (mid channel t old, due_two channel t h)
       | inr w ↦ inr (
@@ -209,7 +209,7 @@ played joined D E now there c d p q i open_one open_two r waits_one waits_two = 
 -- nothing waits at the one end, and all that waits at the other was acknowledged, by what waits to go at the one
 record Fresh (c : Connection) (p q : Peering) : Type 0 where
   one : NothingSent p
-  two : (channel : ℕ) (t : Sent) → HasSent q.outbox.senders channel t → OnItsWay c.one channel t
+  two : (channel : ℕ) (t : Sent) → HasSent q.outbox.senders channel t → OnItsWay q.offset c.one channel t
 
 -- so many rounds are enough
 abbrev Enough : ℕ → Peering → Peering → Type 0
@@ -245,7 +245,8 @@ fresh-rounds joined (m ∷ moments) c d p q i is_one is_two on_one on_two f r en
         (λ x is channel t h. (let w = s1.tick.was channel t (subst (λ (y : Peering). HasSent y.outbox.senders channel t) (same-peer r.5.one x s1.peer is s1.is) h) in
         f.one channel w.0 (subst (λ (y : Peering). HasSent y.outbox.senders channel w.0) same_one w.1)))
         (λ x is channel t h. (let w = s2.tick.was channel t (subst (λ (y : Peering). HasSent y.outbox.senders channel t) (same-peer r.5.two x s2.peer is s2.is) h) in
-        inr (on-its-way c.one channel w.0 t w.2 w.3 (f.two channel w.0 (subst (λ (y : Peering). HasSent y.outbox.senders channel w.0) same_two w.1)))))
+        inr (on-its-way r.1.offset c.one channel w.0 t w.2 w.3
+        (subst (λ (y : Peering). OnItsWay y.offset c.one channel w.0) (sym same_two) (f.two channel w.0 (subst (λ (y : Peering). HasSent y.outbox.senders channel w.0) same_two w.1))))))
 
     less_one : (outstanding_over k.one.outbox.senders < outstanding_over r.0.outbox.senders) ⊎ (outstanding_over k.one.outbox.senders ≡ 0)
     less_one = k.less_one (λ channel t h due. h)
@@ -266,7 +267,7 @@ fresh-rounds joined (m ∷ moments) c d p q i is_one is_two on_one on_two f r en
 -- what waits since the rounds began: at the one end it is as it was, so at the other, or its acknowledgement is on its way
 record Since (c : Connection) (p q p' q' : Peering) : Type 0 where
   one : (channel : ℕ) (t : Sent) → HasSent p'.outbox.senders channel t → HasSent p.outbox.senders channel t
-  two : (channel : ℕ) (t : Sent) → HasSent q'.outbox.senders channel t → HasSent q.outbox.senders channel t ⊎ OnItsWay c.one channel t
+  two : (channel : ℕ) (t : Sent) → HasSent q'.outbox.senders channel t → HasSent q.outbox.senders channel t ⊎ OnItsWay q'.offset c.one channel t
   least : total p' q' ≤ total p q
 
 -- a command that isn't due to go again waited at a peer, and its timeout isn't over
@@ -284,7 +285,7 @@ played-since joined now there c d p q p' q' i open_one open_two r since = played
     s2 : TicksTo there c.two r.two q'
     s2 = ticks-to there c.two r.one r.two q' r.ticks_two open_two.is r.patient_two
 
-    at : (channel : ℕ) (t : Sent) → HasSent s2.peer.outbox.senders channel t → (b : Bool) → t.transmission.due ≡ b → IsOf there q channel t ⊎ OnItsWay c.one channel t
+    at : (channel : ℕ) (t : Sent) → HasSent s2.peer.outbox.senders channel t → (b : Bool) → t.transmission.due ≡ b → IsOf there q channel t ⊎ OnItsWay q'.offset c.one channel t
     at channel t h true e = inl (λ due. absurd (let z : true ≡ false = sym e ∙ due in cc))
     at channel t h false e =
         let f = s2.tick.from channel t h e in

@@ -6,6 +6,7 @@ use Rattle.enet_codec.specs.declared.command.Offer.{Offer}
 use Rattle.enet_codec.specs.declared.stop.Stop.{Stop}
 use Rattle.enet_codec.specs.declared.stop.Stop.TheVariants as stop
 use Rattle.enet_codec.specs.Message.{Message, Body, acknowledge, connect, verify_connect, disconnect, ping, send_reliable, send_unreliable, send_fragment, send_unsequenced, send_unreliable_fragment, bandwidth_limit, throttle_configure}
+use Rattle.enet_rtt.specs.Clock.{meant_time}
 use Rattle.enet_rtt.specs.Timing.{IsWithin}
 use Rattle.enet_rtt.specs.Transmission as transmission
 use Rattle.enet_rtt.specs.declared.transmission.Transmission.{Transmission}
@@ -36,6 +37,7 @@ use Rattle.enet_outbox.proofs.Filled.{by-filling}
 use Rattle.enet_peer.specs.declared.parts.PeerState.{PeerState}
 use Rattle.enet_peer.specs.declared.parts.PeerState.TheVariants as state
 use Rattle.enet_peer.specs.declared.parts.Limits.{Limits}
+use Rattle.enet_peer.specs.declared.parts.Offsets.{Offsets}
 use Rattle.enet_peer.specs.Peering.{Peering, joined, connecting, answering}
 use Rattle.enet_peer.specs.Endings.{settled, disconnecting, cut_off_in}
 use Rattle.enet_peer.proofs.Obeying.{unless-holds}
@@ -298,9 +300,12 @@ settled-fewer p q h = by (Rattle.enet_peer.specs.Endings.is_later q.state && is_
 abbrev at_later : Peering → Peering
 at_later p = record p { state = state.DisconnectLater }
 
-acknowledge-fewer : (p : Peering) (now channel number time : ℕ) → Goes_on p (on_acknowledge (at_later p) now channel number time)
-acknowledge-fewer p now channel number time = by (matched_by p.outbox channel number time)
+acknowledge-fewer : (p : Peering) (now channel number told : ℕ) → Goes_on p (on_acknowledge (at_later p) now channel number told)
+acknowledge-fewer p now channel number told = by (matched_by p.outbox channel number time)
   where
+    time : ℕ
+    time = meant_time told (p.offset % 2 ^ 16)
+
     old : Peering
     old = at_later p
 
@@ -650,8 +655,8 @@ fresh-later p none within fits gap now moments q next later r near run low high 
 pub joined-later : (start : ℕ) (terms : Terms) (limits : Limits) → terms.mtu ≤ 4096 → DisconnectsLater (joined start terms limits)
 joined-later start terms limits low = fresh-later (joined start terms limits) (λ R. ((λ t k. absurd k), none-new R 0 terms.channels)) (record { round_trip = omega arith; variance = omega arith }) (joined-fits start terms limits low)
 
-pub asking-later : (start : ℕ) (offer : Offer) (limits : Limits) → offer.mtu ≤ 4096 → DisconnectsLater (connecting start offer limits)
-asking-later start offer limits low = fresh-later (connecting start offer limits) (λ R. ((λ t k. absurd k), none-new R 0 _)) (record { round_trip = omega arith; variance = omega arith }) (asking-fits start offer limits low)
+pub asking-later : (start offset : ℕ) (offer : Offer) (limits : Limits) → offer.mtu ≤ 4096 → DisconnectsLater (connecting start offset offer limits)
+asking-later start offset offer limits low = fresh-later (connecting start offset offer limits) (λ R. ((λ t k. absurd k), none-new R 0 _)) (record { round_trip = omega arith; variance = omega arith }) (asking-fits start offset offer limits low)
 
-pub answering-later : (start : ℕ) (offer : Offer) (server : Server) (limits : Limits) → DisconnectsLater (answering start offer server limits)
-answering-later start offer server limits = fresh-later (answering start offer server limits) (λ R. ((λ t k. absurd k), none-new R 0 _)) (record { round_trip = omega arith; variance = omega arith }) (answering-fits start offer server limits)
+pub answering-later : (start : ℕ) (offsets : Offsets) (offer : Offer) (server : Server) (limits : Limits) → DisconnectsLater (answering start offsets offer server limits)
+answering-later start offsets offer server limits = fresh-later (answering start offsets offer server limits) (λ R. ((λ t k. absurd k), none-new R 0 _)) (record { round_trip = omega arith; variance = omega arith }) (answering-fits start offsets offer server limits)

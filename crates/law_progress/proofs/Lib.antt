@@ -49,3 +49,4 @@ pub mod Exchanges
 pub mod BothRounds
 pub mod RoundOfAPair
 pub mod InTurn
+pub mod Counting

@@ -5,7 +5,7 @@ use Rattle.std.specs.Prelude.{is_ok}
 use Rattle.enet_codec.specs.declared.command.Fragment.{Fragment}
 use Rattle.enet_codec.specs.declared.stop.Stop.{Stop}
 use Rattle.enet_codec.specs.declared.stop.Stop.TheVariants as stop
-use Rattle.enet_codec.specs.Message.{Message, send_reliable, send_fragment}
+use Rattle.enet_codec.specs.Message.{Message}
 use Rattle.enet_seq.specs.Windows.{acknowledges}
 use Rattle.enet_seq.specs.Numbering.{wire}
 use Rattle.enet_fragment.specs.declared.data.DataCommand.{DataCommand}

@@ -1,10 +1,11 @@
 -- What a command that comes leaves of a peer that stays connected: fewer commands are outstanding, or its channels are as they were; and
 -- no acknowledgement that waits to go is lost.
-use Rattle.std.proofs.Common.{◌≡◌, ℕ, zero, suc, ◌+◌, ◌<◌, ◌≤◌, ◌&&◌, ◌==◌, eqb, Bool, true, false, cond, List, [], ◌∷◌, length, refl, sym, ap, subst, ◌∙◌, inl, inr, ◌⊎◌, arith, Option, Some, None, Result, Ok, Err, is_some}
+use Rattle.std.proofs.Common.{◌≡◌, ℕ, zero, suc, ◌%◌, ◌^◌, ◌+◌, ◌<◌, ◌≤◌, ◌&&◌, ◌==◌, eqb, Bool, true, false, cond, List, [], ◌∷◌, length, refl, sym, ap, subst, ◌∙◌, inl, inr, ◌⊎◌, arith, Option, Some, None, Result, Ok, Err, is_some}
 use Rattle.std.specs.List.{slice_get, slice_set}
 use Rattle.enet_codec.specs.declared.stop.Stop.{Stop}
 use Rattle.enet_codec.specs.declared.stop.Stop.TheVariants as stop
 use Rattle.enet_codec.specs.Message.{Message, Body, acknowledge, connect, verify_connect, disconnect, ping, send_reliable, send_unreliable, send_fragment, send_unsequenced, send_unreliable_fragment, bandwidth_limit, throttle_configure}
+use Rattle.enet_rtt.specs.Clock.{meant_time}
 use Rattle.enet_senders.specs.Controlling as controlling
 use Rattle.enet_sender.specs.Sender as sender
 use Rattle.enet_sender.specs.Sender.{Sender}
@@ -31,17 +32,18 @@ use Rattle.law_progress.proofs.SomethingGoes.{get-set}
 pub record Kept (p q : Peering) : Type 0 where
   pub senders : (q.outbox.senders ≡ p.outbox.senders) ⊎ (outstanding_over q.outbox.senders < outstanding_over p.outbox.senders)
   pub mtu : q.terms.mtu ≡ p.terms.mtu
+  pub offset : q.offset ≡ p.offset
   pub acknowledgements : (a : Acknowledgement) → Has p.outbox.acknowledgements a → Has q.outbox.acknowledgements a
   pub sent : (channel : ℕ) (t : Sent) → HasSent q.outbox.senders channel t → HasSent p.outbox.senders channel t
 
 pub kept-self : (p : Peering) → Kept p p
-kept-self p = record { senders = inl refl; mtu = refl; acknowledgements = λ a h. h; sent = λ channel t h. h }
+kept-self p = record { senders = inl refl; mtu = refl; offset = refl; acknowledgements = λ a h. h; sent = λ channel t h. h }
 
 pub kept-least : (p q : Peering) → Kept p q → outstanding_over q.outbox.senders ≤ outstanding_over p.outbox.senders
 kept-least p q k = elim k.senders [ inl same ↦ (let e : outstanding_over q.outbox.senders ≡ outstanding_over p.outbox.senders = ap outstanding_over same in omega arith) | inr less ↦ omega arith ]
 
 pub kept-then : (p q r : Peering) → Kept p q → Kept q r → Kept p r
-kept-then p q r a b = record { senders = by a.senders b.senders; mtu = b.mtu ∙ a.mtu; acknowledgements = λ x h. b.acknowledgements x (a.acknowledgements x h); sent = λ channel t h. a.sent channel t (b.sent channel t h) }
+kept-then p q r a b = record { senders = by a.senders b.senders; mtu = b.mtu ∙ a.mtu; offset = b.offset ∙ a.offset; acknowledgements = λ x h. b.acknowledgements x (a.acknowledgements x h); sent = λ channel t h. a.sent channel t (b.sent channel t h) }
   where
     by : (q.outbox.senders ≡ p.outbox.senders) ⊎ (outstanding_over q.outbox.senders < outstanding_over p.outbox.senders)
         → (r.outbox.senders ≡ q.outbox.senders) ⊎ (outstanding_over r.outbox.senders < outstanding_over q.outbox.senders)
@@ -59,7 +61,7 @@ answered-stays p e m sent may h = go (m.head.acknowledge && may && is_answered_i
     go : (b : Bool) (o : Option ℕ) → Stays p (cond b (answered_at e m.head o) (record { stop = None; after = e })).after
     go false o = h
     go true None = h
-    go true (Some time) = λ k. (let r = h k in record { senders = r.senders; mtu = r.mtu; acknowledgements = λ a j. Has-push_left e.outbox.acknowledgements _ a (r.acknowledgements a j); sent = r.sent })
+    go true (Some time) = λ k. (let r = h k in record { senders = r.senders; mtu = r.mtu; offset = r.offset; acknowledgements = λ a j. Has-push_left e.outbox.acknowledgements _ a (r.acknowledgements a j); sent = r.sent })
 
 -- an acknowledgement takes one away, if any
 drop-either : (n : ℕ) (xs : List Sent) → (drop_first (λ (q : Sent). q.command.number == n) xs ≡ xs) ⊎ (length (drop_first (λ (q : Sent). q.command.number == n) xs) + 1 ≡ length xs)
@@ -81,8 +83,8 @@ gone-kept p now channel number time = by (channel == 0xFF)
     after o = effect.sampled (record p { outbox = o }) now time
 
     on : (x : Option SendingEnd) → slice_get p.outbox.senders channel ≡ x → Kept p (after (outbox.acknowledged_on p.outbox channel number x))
-    on None e = record { senders = inl refl; mtu = refl; acknowledgements = λ a h. h; sent = λ k t h. h }
-    on (Some s) e = record { senders = elim (drop-either number s.sender.sent) [ inl a ↦ inl (as-before a) | inr a ↦ inr (fewer a) ]; mtu = refl; acknowledgements = λ a h. h; sent = from }
+    on None e = record { senders = inl refl; mtu = refl; offset = refl; acknowledgements = λ a h. h; sent = λ k t h. h }
+    on (Some s) e = record { senders = elim (drop-either number s.sender.sent) [ inl a ↦ inl (as-before a) | inr a ↦ inr (fewer a) ]; mtu = refl; offset = refl; acknowledgements = λ a h. h; sent = from }
       where
         new : SendingEnd
         new = record s { sender = sender.after_acknowledgement s.sender number }
@@ -116,23 +118,27 @@ gone-kept p now channel number time = by (channel == 0xFF)
             omega arith
 
     by : (b : Bool) → Kept p (after (cond b (record p.outbox { control = controlling.after_acknowledgement p.outbox.control number }) (outbox.acknowledged_on p.outbox channel number (slice_get p.outbox.senders channel))))
-    by true = record { senders = inl refl; mtu = refl; acknowledgements = λ a h. h; sent = λ k t h. h }
+    by true = record { senders = inl refl; mtu = refl; offset = refl; acknowledgements = λ a h. h; sent = λ k t h. h }
     by false = on (slice_get p.outbox.senders channel) refl
 
 abbrev connected : Peering → Peering
 connected p = record p { state = state.Connected }
 
-same-stays : (p q : Peering) → q.outbox.senders ≡ p.outbox.senders → q.terms.mtu ≡ p.terms.mtu → q.outbox.acknowledgements ≡ p.outbox.acknowledgements → Stays p q
-same-stays p q senders mtu acks k = record {
+same-stays : (p q : Peering) → q.outbox.senders ≡ p.outbox.senders → q.terms.mtu ≡ p.terms.mtu → q.offset ≡ p.offset → q.outbox.acknowledgements ≡ p.outbox.acknowledgements → Stays p q
+same-stays p q senders mtu offset acks k = record {
   senders = inl senders;
   mtu = mtu;
+  offset = offset;
   acknowledgements = λ a h. subst (λ (l : List Acknowledgement). Has l a) (sym acks) h;
   sent = λ channel t h. subst (λ (l : List SendingEnd). HasSent l channel t) senders h;
 }
 
-acknowledge-stays : (p : Peering) (now channel number time : ℕ) → Stays p (on_acknowledge (connected p) now channel number time)
-acknowledge-stays p now channel number time = by (matched_by p.outbox channel number time)
+acknowledge-stays : (p : Peering) (now channel number told : ℕ) → Stays p (on_acknowledge (connected p) now channel number told)
+acknowledge-stays p now channel number told = by (matched_by p.outbox channel number time)
   where
+    time : ℕ
+    time = meant_time told (p.offset % 2 ^ 16)
+
     old : Peering
     old = connected p
 
@@ -140,10 +146,10 @@ acknowledge-stays p now channel number time = by (matched_by p.outbox channel nu
     gone = acknowledged old now channel number time
 
     less : Kept p gone
-    less = (let k = gone-kept old now channel number time in record { senders = k.senders; mtu = k.mtu; acknowledgements = k.acknowledgements; sent = k.sent })
+    less = (let k = gone-kept old now channel number time in record { senders = k.senders; mtu = k.mtu; offset = k.offset; acknowledgements = k.acknowledgements; sent = k.sent })
 
     by : (x : Matched) → Stays p (on_match x old gone)
-    by matched.Nothing = same-stays p old refl refl refl
+    by matched.Nothing = same-stays p old refl refl refl refl
     by matched.Data = λ k. less
     by (matched.Control what) = λ k. less
 
@@ -158,7 +164,7 @@ hears-stays p now sent m = by m.body
     old = connected p
 
     same : Stays p old
-    same = same-stays p old refl refl refl
+    same = same-stays p old refl refl refl refl
 
     comes : (a : DataEffect) → Stays p (by_arrival old m sent a).after
     comes a = go a.answer
@@ -167,8 +173,8 @@ hears-stays p now sent m = by m.body
         there = record old { inbox = a.after }
 
         go : (r : Result Bool Stop) → Stays p (by_answer there m sent r).after
-        go (Err why) = same-stays p there refl refl refl
-        go (Ok may) = answered-stays p there m sent may (same-stays p there refl refl refl)
+        go (Err why) = same-stays p there refl refl refl refl
+        go (Ok may) = answered-stays p there m sent may (same-stays p there refl refl refl refl)
 
     effect-of : (b : Body) → Stays p (by_body old now sent m b).after → Stays p (unless_refused old m (by_body old now sent m b)).after
     effect-of b h = unless-holds (Stays p) old m (by_body old now sent m b) same h
@@ -184,9 +190,9 @@ hears-stays p now sent m = by m.body
     by (send_fragment fragment payload) = effect-of (send_fragment fragment payload) (comes (arrival p.inbox m))
     by (send_unsequenced group payload) = effect-of (send_unsequenced group payload) (comes (arrival p.inbox m))
     by (send_unreliable_fragment fragment payload) = effect-of (send_unreliable_fragment fragment payload) (comes (arrival p.inbox m))
-    by (bandwidth_limit incoming outgoing) = effect-of (bandwidth_limit incoming outgoing) (answered-stays p (on_bandwidth old incoming) m sent true (same-stays p (on_bandwidth old incoming) refl refl refl))
+    by (bandwidth_limit incoming outgoing) = effect-of (bandwidth_limit incoming outgoing) (answered-stays p (on_bandwidth old incoming) m sent true (same-stays p (on_bandwidth old incoming) refl refl refl refl))
     by (throttle_configure interval acceleration deceleration) =
-        effect-of (throttle_configure interval acceleration deceleration) (answered-stays p (on_throttle old interval acceleration deceleration) m sent true (same-stays p (on_throttle old interval acceleration deceleration) refl refl refl))
+        effect-of (throttle_configure interval acceleration deceleration) (answered-stays p (on_throttle old interval acceleration deceleration) m sent true (same-stays p (on_throttle old interval acceleration deceleration) refl refl refl refl))
 
 -- a command comes to a connected peer, which stays connected
 pub hears-kept : (p : Peering) (now : ℕ) (sent : Option ℕ) (m : Message) → p.state ≡ state.Connected → (obeyed p now sent m).after.state ≡ state.Connected → Kept p (obeyed p now sent m).after

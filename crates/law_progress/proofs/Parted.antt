@@ -1,9 +1,10 @@
 -- A peer that is to disconnect later ceases to be so only where it disconnects, or its user is told.
-use Rattle.std.proofs.Common.{◌≡◌, ℕ, ◌&&◌, Bool, true, false, cond, List, [], ◌∷◌, refl, sym, ap, subst, inl, inr, ◌⊎◌, Option, Some, None, Result, Ok, Err, is_some}
+use Rattle.std.proofs.Common.{◌≡◌, ℕ, ◌%◌, ◌^◌, ◌&&◌, Bool, true, false, cond, List, [], ◌∷◌, refl, sym, ap, subst, inl, inr, ◌⊎◌, Option, Some, None, Result, Ok, Err, is_some}
 use Rattle.enet_codec.specs.declared.packet.Packet.{Packet}
 use Rattle.enet_codec.specs.declared.stop.Stop.{Stop}
 use Rattle.enet_codec.specs.declared.stop.Stop.TheVariants as stop
 use Rattle.enet_codec.specs.Message.{Message, Body, acknowledge, connect, verify_connect, disconnect, ping, send_reliable, send_unreliable, send_fragment, send_unsequenced, send_unreliable_fragment, bandwidth_limit, throttle_configure}
+use Rattle.enet_rtt.specs.Clock.{meant_time}
 use Rattle.enet_rtt.specs.declared.expiry.Expiry.{Expiry}
 use Rattle.enet_rtt.specs.declared.expiry.Expiry.TheVariants.{No, Resend, End}
 use Rattle.enet_inbox.specs.DataEffect.{passed_over}
@@ -43,9 +44,12 @@ settled-goes q h = by (is_later q.state && is_done q.outbox)
     by true = inr (inl (inl refl))
     by false = h
 
-acknowledge-goes : (p : Peering) (now channel number time : ℕ) → Goes (on_acknowledge (at_later p) now channel number time)
-acknowledge-goes p now channel number time = by (matched_by p.outbox channel number time)
+acknowledge-goes : (p : Peering) (now channel number told : ℕ) → Goes (on_acknowledge (at_later p) now channel number told)
+acknowledge-goes p now channel number told = by (matched_by p.outbox channel number time)
   where
+    time : ℕ
+    time = meant_time told (p.offset % 2 ^ 16)
+
     old : Peering
     old = at_later p
 

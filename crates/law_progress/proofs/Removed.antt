@@ -1,9 +1,10 @@
 -- An acknowledgement that comes takes its command away.
-use Rattle.std.proofs.Common.{◌≡◌, ℕ, zero, suc, ◌+◌, ◌<◌, ◌&&◌, ◌==◌, eqb, ltb, not, Bool, true, false, cond, List, [], ◌∷◌, length, map, refl, sym, ap, subst, ◌∙◌, inl, inr, arith, Option, Some, None}
+use Rattle.std.proofs.Common.{◌≡◌, ℕ, zero, suc, ◌%◌, ◌^◌, ◌+◌, ◌<◌, ◌&&◌, ◌==◌, not, true, false, cond, List, [], ◌∷◌, length, map, refl, sym, ap, subst, ◌∙◌, arith, Option, Some, None}
 use Rattle.std.proofs.lemmas.Bool.{eq-eqb}
 use Rattle.std.proofs.lemmas.Bool.Decides.{nat_tests}
 use Rattle.std.specs.List.{slice_get, slice_set, remove}
 use Rattle.enet_codec.specs.Message.{Message, acknowledge}
+use Rattle.enet_rtt.specs.Clock.{meant_time}
 use Rattle.enet_rtt.specs.Transmission.{went_at}
 use Rattle.enet_sender.specs.Sender.{position_of, without_place, after_acknowledgement, size_at, size_of}
 use Rattle.enet_sender.specs.declared.sent.Sent.{Sent}
@@ -27,11 +28,14 @@ one-less [] i x e = absurd (cc)
 one-less (y ∷ ys) zero x e = omega arith
 one-less (y ∷ ys) (suc i) x e = let rest = one-less ys i x e in omega arith
 
-pub removed-at : (p : Peering) (now : ℕ) (sent : Option ℕ) (m : Message) (number time : ℕ) (s : SendingEnd) → p.state ≡ state.Connected → m.head.acknowledge ≡ false → m.body ≡ acknowledge number time → m.head.channel < 255
-    → slice_get p.outbox.senders m.head.channel ≡ Some s → (i : ℕ) (t : Sent) → position_of number s.sender.sent ≡ Some i → slice_get s.sender.sent i ≡ Some t → went_at time t.transmission ≡ true
+pub removed-at : (p : Peering) (now : ℕ) (sent : Option ℕ) (m : Message) (number told : ℕ) (s : SendingEnd) → p.state ≡ state.Connected → m.head.acknowledge ≡ false → m.body ≡ acknowledge number told → m.head.channel < 255
+    → slice_get p.outbox.senders m.head.channel ≡ Some s → (i : ℕ) (t : Sent) → position_of number s.sender.sent ≡ Some i → slice_get s.sender.sent i ≡ Some t → went_at (meant_time told (p.offset % 2 ^ 16)) t.transmission ≡ true
     → IsRemoved p m.head.channel number s (obeyed p now sent m)
-removed-at p now sent m number time s connected quiet body low there i t place at went = by-message
+removed-at p now sent m number told s connected quiet body low there i t place at went = by-message
   where
+    time : ℕ
+    time = meant_time told (p.offset % 2 ^ 16)
+
     channel : ℕ
     channel = m.head.channel
 
@@ -76,7 +80,7 @@ removed-at p now sent m number time s connected quiet body low there i t place a
     good-accepted = subst (λ x. Good (on_match x p (effect.acknowledged p now channel number time))) (sym matches)
         (subst (λ (o : Outbox). Good (settled (sampled (record p { outbox = o }) now time))) (sym outbox-after) good-settled)
 
-    good : Good (on_acknowledge p now channel number time)
+    good : Good (on_acknowledge p now channel number told)
     good = subst (λ t. Good (cond (effect.is_connecting t) p (effect.accepted p now channel number time))) (sym connected) good-accepted
 
     -- it is no server's answer, and asks for no acknowledgement, so it isn't refused
@@ -93,15 +97,15 @@ removed-at p now sent m number time s connected quiet body low there i t place a
 
     by-message : IsRemoved p channel number s (obeyed p now sent m)
     by-message = subst (λ b. IsRemoved p channel number s (cond (effect.is_connect b) (stopped p Rattle.enet_codec.specs.declared.stop.Stop.TheVariants.BadCommand) (cond (is_allowed p.state b) (effect.unless_refused p m (effect.by_body p now sent m b)) (stopped p Rattle.enet_codec.specs.declared.stop.Stop.TheVariants.NotConnected)))) (sym body)
-        (subst (λ t. IsRemoved p channel number s (cond (is_allowed t (acknowledge number time)) (effect.unless_refused p m (effect.by_body p now sent m (acknowledge number time))) (stopped p Rattle.enet_codec.specs.declared.stop.Stop.TheVariants.NotConnected))) (sym connected)
-        (plain p.state (acknowledge number time) good))
+        (subst (λ t. IsRemoved p channel number s (cond (is_allowed t (acknowledge number told)) (effect.unless_refused p m (effect.by_body p now sent m (acknowledge number told))) (stopped p Rattle.enet_codec.specs.declared.stop.Stop.TheVariants.NotConnected))) (sym connected)
+        (plain p.state (acknowledge number told) good))
 
-pub removed : (p : Peering) (now : ℕ) (sent : Option ℕ) (m : Message) (number time : ℕ) (s : SendingEnd) → p.state ≡ state.Connected → m.head.acknowledge ≡ false → m.body ≡ acknowledge number time → m.head.channel < 255
-    → slice_get p.outbox.senders m.head.channel ≡ Some s → Has (map (λ (x : Sent). x.command.number) s.sender.sent) number → WentThen s.sender.sent number time → IsRemoved p m.head.channel number s (obeyed p now sent m)
-removed p now sent m number time s connected quiet body low there h went =
+pub removed : (p : Peering) (now : ℕ) (sent : Option ℕ) (m : Message) (number told : ℕ) (s : SendingEnd) → p.state ≡ state.Connected → m.head.acknowledge ≡ false → m.body ≡ acknowledge number told → m.head.channel < 255
+    → slice_get p.outbox.senders m.head.channel ≡ Some s → Has (map (λ (x : Sent). x.command.number) s.sender.sent) number → WentThen s.sender.sent number (meant_time told (p.offset % 2 ^ 16)) → IsRemoved p m.head.channel number s (obeyed p now sent m)
+removed p now sent m number told s connected quiet body low there h went =
     let x = Has-mapped (λ (x : Sent). x.command.number) s.sender.sent number h in
     let f = found (λ (x : Sent). x.command.number == number) s.sender.sent x.0 x.1 (eq-eqb x.0.command.number number x.2) in
-    removed-at p now sent m number time s connected quiet body low there f.0 f.2 f.1 f.3 (went f.2 (Has-at s.sender.sent f.0 f.2 f.3) (is-equal f.2.command.number number f.4))
+    removed-at p now sent m number told s connected quiet body low there f.0 f.2 f.1 f.3 (went f.2 (Has-at s.sender.sent f.0 f.2 f.3) (is-equal f.2.command.number number f.4))
   where
     is-equal : (m n : ℕ) → (m == n) ≡ true → m ≡ n
     is-equal m n t = grind (arith, nat_tests)

@@ -1,8 +1,8 @@
 -- An acknowledgement that comes for a command of channel 0xFF takes it away.
-use Rattle.std.proofs.Common.{◌≡◌, ℕ, zero, suc, ◌+◌, ◌==◌, eqb, cond, true, List, [], ◌∷◌, length, map, refl, sym, ap, subst, ◌∙◌, arith, Option, Some, None}
+use Rattle.std.proofs.Common.{◌≡◌, ℕ, zero, suc, ◌%◌, ◌^◌, ◌+◌, ◌==◌, eqb, cond, true, List, [], ◌∷◌, length, map, refl, sym, ap, subst, ◌∙◌, arith, Option, Some, None}
 use Rattle.std.proofs.lemmas.Bool.Decides.{nat_tests}
 use Rattle.std.specs.List.{position, slice_get, remove}
-use Rattle.enet_rtt.specs.Transmission.{went_at}
+use Rattle.enet_rtt.specs.Clock.{meant_time}
 use Rattle.enet_senders.specs.Controlling as controlling
 use Rattle.enet_senders.specs.declared.control.SentControl.{SentControl}
 use Rattle.enet_receiver.specs.Members.{Has}
@@ -23,10 +23,13 @@ one-less [] i x e = absurd (cc)
 one-less (y ∷ ys) zero x e = omega arith
 one-less (y ∷ ys) (suc i) x e = let rest = one-less ys i x e in omega arith
 
-pub taken-away : (p : Peering) (now : ℕ) (sent : Option ℕ) (number time : ℕ) → p.state ≡ state.Connected → Has (map (λ (t : SentControl). t.command.number) p.outbox.control.sent) number → ControlWentThen p.outbox.control.sent number time
-    → IsTakenAway p number (obeyed p now sent (acknowledgement_of (record { channel = 0xFF; number = number; time = time })))
-taken-away p now sent number time connected h went_all = subst (λ (x : Peering). IsTakenAway x number (obeyed x now sent (acknowledgement_of a))) at (goes (as_control (controlling.acknowledged_control p.outbox.control number time)) is)
+pub taken-away : (p : Peering) (now : ℕ) (sent : Option ℕ) (number told : ℕ) → p.state ≡ state.Connected → Has (map (λ (t : SentControl). t.command.number) p.outbox.control.sent) number → ControlWentThen p.outbox.control.sent number (meant_time told (p.offset % 2 ^ 16))
+    → IsTakenAway p number (obeyed p now sent (acknowledgement_of (record { channel = 0xFF; number = number; time = told })))
+taken-away p now sent number told connected h went_all = subst (λ (x : Peering). IsTakenAway x number (obeyed x now sent (acknowledgement_of a))) at (goes (as_control (controlling.acknowledged_control p.outbox.control number time)) is)
   where
+    time : ℕ
+    time = meant_time told (p.offset % 2 ^ 16)
+
     open' : Peering
     open' = record p { state = state.Connected }
 
@@ -34,7 +37,7 @@ taken-away p now sent number time connected h went_all = subst (λ (x : Peering)
     at = ap (λ s. record p { state = s }) (sym connected)
 
     a : Acknowledgement
-    a = record { channel = 0xFF; number = number; time = time }
+    a = record { channel = 0xFF; number = number; time = told }
 
     same : (m n : ℕ) → m ≡ n → eqb m n ≡ true
     same m n e = grind (arith, nat_tests)
@@ -45,7 +48,7 @@ taken-away p now sent number time connected h went_all = subst (λ (x : Peering)
     is-equal : (m n : ℕ) → (m == n) ≡ true → m ≡ n
     is-equal m n t = grind (arith, nat_tests)
 
-    went : went_at time place.2.transmission ≡ true
+    went : controlling.went_at time place.2 ≡ true
     went = went_all place.2 (Has-at p.outbox.control.sent place.0 place.2 place.3) (is-equal place.2.command.number number place.4)
 
     is : as_control (controlling.acknowledged_control p.outbox.control number time) ≡ matched.Control place.2.command.control

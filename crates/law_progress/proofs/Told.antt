@@ -1,9 +1,10 @@
 -- An attempt to connect or to disconnect is over only so that the user is told.
-use Rattle.std.proofs.Common.{◌≡◌, ℕ, ◌&&◌, Bool, true, false, cond, List, [], ◌∷◌, refl, sym, ap, subst, ◌∙◌, inl, inr, ◌⊎◌, Option, Some, None, is_some}
+use Rattle.std.proofs.Common.{◌≡◌, ℕ, ◌%◌, ◌^◌, ◌&&◌, Bool, true, false, cond, List, [], ◌∷◌, refl, sym, ap, subst, ◌∙◌, inl, inr, ◌⊎◌, Option, Some, None, is_some}
 use Rattle.enet_codec.specs.declared.packet.Packet.{Packet}
 use Rattle.enet_codec.specs.declared.command.Verify.{Verify}
 use Rattle.enet_codec.specs.declared.stop.Stop.TheVariants as stop
 use Rattle.enet_codec.specs.Message.{Message, Body, acknowledge, connect, verify_connect, disconnect, ping, send_reliable, send_unreliable, send_fragment, send_unsequenced, send_unreliable_fragment, bandwidth_limit, throttle_configure}
+use Rattle.enet_rtt.specs.Clock.{meant_time}
 use Rattle.enet_rtt.specs.declared.expiry.Expiry.{Expiry}
 use Rattle.enet_rtt.specs.declared.expiry.Expiry.TheVariants.{No, Resend, End}
 use Rattle.enet_connect.specs.declared.terms.Terms.{Terms}
@@ -74,16 +75,22 @@ answer-goes Leaves control.Ping gone = inl refl
 answer-goes Leaves (control.BandwidthLimit incoming outgoing) gone = inl refl
 answer-goes Leaves (control.ThrottleConfigure interval acceleration deceleration) gone = inl refl
 
-acknowledgement-goes : (k : Kind) (p : Peering) (moment channel number time : ℕ) → Goes k (on_acknowledge (in_state k p) moment channel number time)
-acknowledgement-goes Asks p moment channel number time = inl refl
-acknowledgement-goes Answers p moment channel number time = by (matched_by p.outbox channel number time)
+acknowledgement-goes : (k : Kind) (p : Peering) (moment channel number told : ℕ) → Goes k (on_acknowledge (in_state k p) moment channel number told)
+acknowledgement-goes Asks p moment channel number told = inl refl
+acknowledgement-goes Answers p moment channel number told = by (matched_by p.outbox channel number time)
   where
+    time : ℕ
+    time = meant_time told (p.offset % 2 ^ 16)
+
     by : (m : Matched) → Goes Answers (on_match m (in_state Answers p) (acknowledged (in_state Answers p) moment channel number time))
     by matched.Nothing = inl refl
     by matched.Data = inl refl
     by (matched.Control what) = answer-goes Answers what (acknowledged (in_state Answers p) moment channel number time)
-acknowledgement-goes Leaves p moment channel number time = by (matched_by p.outbox channel number time)
+acknowledgement-goes Leaves p moment channel number told = by (matched_by p.outbox channel number time)
   where
+    time : ℕ
+    time = meant_time told (p.offset % 2 ^ 16)
+
     by : (m : Matched) → Goes Leaves (on_match m (in_state Leaves p) (acknowledged (in_state Leaves p) moment channel number time))
     by matched.Nothing = inl refl
     by matched.Data = inl refl

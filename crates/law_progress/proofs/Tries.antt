@@ -10,6 +10,7 @@ use Rattle.enet_rtt.specs.declared.transmission.Transmission.{Transmission}
 use Rattle.enet_connect.specs.declared.server.Server.{Server}
 use Rattle.enet_peer.specs.declared.parts.PeerState.TheVariants as state
 use Rattle.enet_peer.specs.declared.parts.Limits.{Limits}
+use Rattle.enet_peer.specs.declared.parts.Offsets.{Offsets}
 use Rattle.enet_peer.specs.Peering.{connecting, answering}
 use Rattle.law_progress.specs.Attempts.{last_of, LastsFor}
 use Rattle.law_progress.proofs.Attempts.{Asks, Answers, Attempt, wait_of, bound_of, Course, attempt_of, begun-goes, asking, replying}
@@ -223,8 +224,8 @@ seconds-some : (j : ℕ) → 0 < seconds j
 seconds-some zero = omega arith
 seconds-some (suc j) = omega arith
 
-asking-plan : (start : ℕ) (offer : Offer) (limits : Limits) (now extra : ℕ) → 31500 + 7 * (extra + 1) < 2 ^ 32 → Plan (attempt_of Asks (connecting start offer limits) (asking start offer limits) now) extra 5 31500
-asking-plan start offer limits now extra close = record {
+asking-plan : (start offset : ℕ) (offer : Offer) (limits : Limits) (now extra : ℕ) → 31500 + 7 * (extra + 1) < 2 ^ 32 → Plan (attempt_of Asks (connecting start offset offer limits) (asking start offset offer limits) now) extra 5 31500
+asking-plan start offset offer limits now extra close = record {
   wait = doubled;
   few = omega arith;
   begins = refl;
@@ -241,9 +242,9 @@ asking-plan start offer limits now extra close = record {
     twice : (m : ℕ) → 2 * m ≤ 4294967295 → max m (min (2 * m) 4294967295) ≡ 2 * m
     twice m h = grind arith
 
-replying-plan : (start : ℕ) (offer : Offer) (server : Server) (limits : Limits) (now extra : ℕ) → start ≤ now → now ≤ start + (extra + 1) → 31500 + 9 * (extra + 1) < 2 ^ 32
-    → Plan (attempt_of Answers (answering (start % 2 ^ 32) offer server limits) (replying (start % 2 ^ 32) offer server limits) now) extra 7 7500
-replying-plan start offer server limits now extra up down close = record {
+replying-plan : (start : ℕ) (offsets : Offsets) (offer : Offer) (server : Server) (limits : Limits) (now extra : ℕ) → start ≤ now → now ≤ start + (extra + 1) → 31500 + 9 * (extra + 1) < 2 ^ 32
+    → Plan (attempt_of Answers (answering (start % 2 ^ 32) offsets offer server limits) (replying (start % 2 ^ 32) offsets offer server limits) now) extra 7 7500
+replying-plan start offsets offer server limits now extra up down close = record {
   wait = seconds;
   few = omega arith;
   begins = refl;
@@ -267,18 +268,18 @@ replying-plan start offer server limits now extra up down close = record {
     lesser : (x y m : ℕ) → m ≤ x → m ≤ y → m ≤ min x y
     lesser x y m h k = grind arith
 
-pub asking-lasts : (offer : Offer) (limits : Limits) → LastsFor state.Connecting (λ start. connecting start offer limits) 31500 5
-asking-lasts offer limits extra start now moments q close up down turns =
-    let p = asking-plan (start % 2 ^ 32) offer limits now extra (omega arith) in
-    let b = asking (start % 2 ^ 32) offer limits in
-    let a : Attempt = attempt_of Asks (connecting (start % 2 ^ 32) offer limits) b now in
-    let last = begun-goes (Tried a extra 5 31500 p) Asks (connecting (start % 2 ^ 32) offer limits) b (extra + 1) now moments q (tried-course a extra 5 31500 p) turns in
+pub asking-lasts : (offset : ℕ) (offer : Offer) (limits : Limits) → LastsFor state.Connecting (λ start. connecting start offset offer limits) 31500 5
+asking-lasts offset offer limits extra start now moments q close up down turns =
+    let p = asking-plan (start % 2 ^ 32) offset offer limits now extra (omega arith) in
+    let b = asking (start % 2 ^ 32) offset offer limits in
+    let a : Attempt = attempt_of Asks (connecting (start % 2 ^ 32) offset offer limits) b now in
+    let last = begun-goes (Tried a extra 5 31500 p) Asks (connecting (start % 2 ^ 32) offset offer limits) b (extra + 1) now moments q (tried-course a extra 5 31500 p) turns in
     tried-ends a extra 5 31500 p (last_of now moments) last.0 last.1 last.2
 
-pub answering-lasts : (offer : Offer) (server : Server) (limits : Limits) → LastsFor state.Answering (λ start. answering start offer server limits) 7500 7
-answering-lasts offer server limits extra start now moments q close up down turns =
-    let p = replying-plan start offer server limits now extra up down (omega arith) in
-    let b = replying (start % 2 ^ 32) offer server limits in
-    let a : Attempt = attempt_of Answers (answering (start % 2 ^ 32) offer server limits) b now in
-    let last = begun-goes (Tried a extra 7 7500 p) Answers (answering (start % 2 ^ 32) offer server limits) b (extra + 1) now moments q (tried-course a extra 7 7500 p) turns in
+pub answering-lasts : (offsets : Offsets) (offer : Offer) (server : Server) (limits : Limits) → LastsFor state.Answering (λ start. answering start offsets offer server limits) 7500 7
+answering-lasts offsets offer server limits extra start now moments q close up down turns =
+    let p = replying-plan start offsets offer server limits now extra up down (omega arith) in
+    let b = replying (start % 2 ^ 32) offsets offer server limits in
+    let a : Attempt = attempt_of Answers (answering (start % 2 ^ 32) offsets offer server limits) b now in
+    let last = begun-goes (Tried a extra 7 7500 p) Answers (answering (start % 2 ^ 32) offsets offer server limits) b (extra + 1) now moments q (tried-course a extra 7 7500 p) turns in
     tried-ends a extra 7 7500 p (last_of now moments) last.0 last.1 last.2

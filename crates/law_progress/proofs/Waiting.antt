@@ -9,7 +9,7 @@ use Rattle.enet_codec.specs.declared.stop.Stop.{Stop}
 use Rattle.enet_codec.specs.declared.stop.Stop.TheVariants as stop
 use Rattle.enet_codec.specs.Message.{Message, Body, acknowledge, connect, verify_connect, disconnect, ping, send_reliable, send_unreliable, send_fragment, send_unsequenced, send_unreliable_fragment, bandwidth_limit, throttle_configure}
 use Rattle.enet_seq.specs.Numbering.{wire}
-use Rattle.enet_rtt.specs.Clock.{elapsed_time, sample_of}
+use Rattle.enet_rtt.specs.Clock.{elapsed_time, sample_of, meant_time}
 use Rattle.enet_rtt.specs.Timing.{Estimate, IsWithin, after_sample, timeout, towards, spread}
 use Rattle.enet_rtt.specs.Transmission as transmission
 use Rattle.enet_rtt.specs.Expiry.{gives_up}
@@ -44,6 +44,7 @@ use Rattle.enet_outbox.proofs.Filled.{by-filling}
 use Rattle.enet_peer.specs.declared.parts.PeerState.{PeerState}
 use Rattle.enet_peer.specs.declared.parts.PeerState.TheVariants as state
 use Rattle.enet_peer.specs.declared.parts.Limits.{Limits}
+use Rattle.enet_peer.specs.declared.parts.Offsets.{Offsets}
 use Rattle.enet_peer.specs.Peering.{Peering, joined, connecting, answering}
 use Rattle.enet_peer.specs.Endings.{ended, freed, parting, settled, disconnecting, is_later, cut_off_in}
 use Rattle.enet_peer.proofs.Obeying.{unless-holds, unwelcomed-holds}
@@ -276,9 +277,12 @@ fair-answer R most p state.Answering (control.VerifyConnect verify) h = h
 fair-answer R most p state.Disconnecting (control.Disconnect info) h = fair-ended R most p 0 h
 fair-answer R most p s what h = h
 
-fair-acknowledge : (R : Transmission → Type 0) (most : ℕ) (p : Peering) (now channel number time : ℕ) → Fair R most p → Fair R most (on_acknowledge p now channel number time)
-fair-acknowledge R most p now channel number time h = by-state (is_connecting p.state)
+fair-acknowledge : (R : Transmission → Type 0) (most : ℕ) (p : Peering) (now channel number told : ℕ) → Fair R most p → Fair R most (on_acknowledge p now channel number told)
+fair-acknowledge R most p now channel number told h = by-state (is_connecting p.state)
   where
+    time : ℕ
+    time = meant_time told (p.offset % 2 ^ 16)
+
     q : Peering
     q = sampled (record p { outbox = after_acknowledgement p.outbox channel number }) now time
 
@@ -550,8 +554,8 @@ fresh-waits p none within gap now moments q near run =
 pub joined-waits : (start : ℕ) (terms : Terms) (limits : Limits) → NoneWaitsLonger (joined start terms limits)
 joined-waits start terms limits = fresh-waits (joined start terms limits) (λ R. ((λ t k. absurd k), none-new R 0 terms.channels)) (record { round_trip = omega arith; variance = omega arith })
 
-pub asking-waits : (start : ℕ) (offer : Offer) (limits : Limits) → NoneWaitsLonger (connecting start offer limits)
-asking-waits start offer limits = fresh-waits (connecting start offer limits) (λ R. ((λ t k. absurd k), none-new R 0 _)) (record { round_trip = omega arith; variance = omega arith })
+pub asking-waits : (start offset : ℕ) (offer : Offer) (limits : Limits) → NoneWaitsLonger (connecting start offset offer limits)
+asking-waits start offset offer limits = fresh-waits (connecting start offset offer limits) (λ R. ((λ t k. absurd k), none-new R 0 _)) (record { round_trip = omega arith; variance = omega arith })
 
-pub answering-waits : (start : ℕ) (offer : Offer) (server : Server) (limits : Limits) → NoneWaitsLonger (answering start offer server limits)
-answering-waits start offer server limits = fresh-waits (answering start offer server limits) (λ R. ((λ t k. absurd k), none-new R 0 _)) (record { round_trip = omega arith; variance = omega arith })
+pub answering-waits : (start : ℕ) (offsets : Offsets) (offer : Offer) (server : Server) (limits : Limits) → NoneWaitsLonger (answering start offsets offer server limits)
+answering-waits start offsets offer server limits = fresh-waits (answering start offsets offer server limits) (λ R. ((λ t k. absurd k), none-new R 0 _)) (record { round_trip = omega arith; variance = omega arith })

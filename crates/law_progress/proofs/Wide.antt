@@ -1,10 +1,11 @@
 -- A datagram of a peer has room for 576 bytes, whatever happens.
-use Rattle.std.proofs.Common.{ℕ, ◌≤◌, ◌&&◌, max, min, Bool, true, false, cond, List, [], ◌∷◌, length, arith, Option, Some, None, Result, Ok, Err, is_some, nat_lt}
+use Rattle.std.proofs.Common.{ℕ, ◌%◌, ◌^◌, ◌≤◌, ◌&&◌, max, min, Bool, true, false, cond, List, [], ◌∷◌, length, arith, Option, Some, None, Result, Ok, Err, is_some, nat_lt}
 use Rattle.enet_codec.specs.declared.packet.Packet as codec
 use Rattle.enet_codec.specs.declared.command.Verify.{Verify}
 use Rattle.enet_codec.specs.declared.stop.Stop.{Stop}
 use Rattle.enet_codec.specs.declared.stop.Stop.TheVariants as stop
 use Rattle.enet_codec.specs.Message.{Message, Body, acknowledge, connect, verify_connect, disconnect, ping, send_reliable, send_unreliable, send_fragment, send_unsequenced, send_unreliable_fragment, bandwidth_limit, throttle_configure}
+use Rattle.enet_rtt.specs.Clock.{meant_time}
 use Rattle.enet_rtt.specs.declared.expiry.Expiry.{Expiry}
 use Rattle.enet_rtt.specs.declared.expiry.Expiry.TheVariants.{No, Resend, End}
 use Rattle.enet_connect.specs.Sizes.{mtu_of}
@@ -41,9 +42,12 @@ wide-answer p state.Answering (control.VerifyConnect verify) h = h
 wide-answer p state.Disconnecting (control.Disconnect info) h = h
 wide-answer p s what h = h
 
-wide-acknowledge : (p : Peering) (now channel number time : ℕ) → IsWide p → IsWide (on_acknowledge p now channel number time)
-wide-acknowledge p now channel number time h = by-state (is_connecting p.state)
+wide-acknowledge : (p : Peering) (now channel number told : ℕ) → IsWide p → IsWide (on_acknowledge p now channel number told)
+wide-acknowledge p now channel number told h = by-state (is_connecting p.state)
   where
+    time : ℕ
+    time = meant_time told (p.offset % 2 ^ 16)
+
     q : Peering
     q = sampled (record p { outbox = after_acknowledgement p.outbox channel number }) now time
 

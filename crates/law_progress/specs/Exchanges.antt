@@ -1,6 +1,7 @@
 -- Rounds of two connected ends, over all their channels and both ways, in which nothing is lost. Times are in milliseconds.
-use Rattle.std.specs.Prelude.{◌≡◌, ℕ, zero, suc, true, false, ◌+◌, ◌%◌, ◌<◌, ◌≤◌, List, [], ◌∷◌, ◌++◌, length, Some, None, slice_get, ◌⊎◌}
+use Rattle.std.specs.Prelude.{◌≡◌, ℕ, zero, suc, true, false, ◌+◌, ◌<◌, ◌≤◌, List, [], ◌∷◌, ◌++◌, length, Some, None, slice_get, ◌⊎◌}
 use Rattle.enet_codec.specs.declared.packet.Packet.{Packet}
+use Rattle.enet_rtt.specs.Clock.{told_time}
 use Rattle.enet_fragment.specs.declared.data.DataCommand.{DataCommand}
 use Rattle.enet_fragment.specs.DataCommand.{data_of}
 use Rattle.enet_receiver.specs.Foresight.{ReceivingEnd}
@@ -18,7 +19,7 @@ use Rattle.enet_sender.specs.CommandChoice.{carried}
 use Rattle.law_connection.specs.Connection.{Put, End, Connection, of_channel}
 use Rattle.law_connection.specs.Examples.{example_packet}
 use Rattle.law_connection.specs.Invariant.{Invariant}
-use Rattle.law_connection.specs.Law.{mtu_of}
+use Rattle.law_connection.specs.Law.{mtu_of, offset_of}
 use Rattle.law_connection.specs.Linked.{dispatched_on}
 use Rattle.law_connection.specs.Steps.{Emit, Come, Tick, Take, Happens, InTime}
 use Rattle.law_progress.specs.Links.{AllDispatched, outstanding_at}
@@ -58,7 +59,7 @@ pub record PutsOne (now there : ℕ) (from to from' to' : End) : Type 0 where
   pub new : List Put
   pub logged : from'.log ≡ from.log ++ new
   pub arrived : End
-  pub come : AllCome there (now % 65536) from' new to arrived
+  pub come : AllCome there (told_time now (offset_of from)) from' new to arrived
   pub events : ℕ
   pub takes : Takes events arrived from' to'
 

@@ -2,6 +2,7 @@ pub mod Links
 pub mod Delivered
 pub mod Outboxes
 pub mod Peers
+pub mod Counts
 pub mod Attempts
 pub mod Waits
 pub mod Later

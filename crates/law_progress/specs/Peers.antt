@@ -72,7 +72,7 @@ WentThen sent number time = (t : Sent) → Has sent t → t.command.number ≡ n
 
 -- the same on channel 0xFF
 abbrev pub ControlWentThen : List SentControl → ℕ → ℕ → Type 0
-ControlWentThen sent number time = (t : SentControl) → Has sent t → t.command.number ≡ number → went_at time t.transmission ≡ true
+ControlWentThen sent number time = (t : SentControl) → Has sent t → t.command.number ≡ number → controlling.went_at time t ≡ true
 
 -- the command of this number is gone from its channel's sender, which is else as it was; the peer is connected as before
 pub record IsRemoved (p : Peering) (channel number : ℕ) (s : SendingEnd) (o : Outcome) : Type 0 where

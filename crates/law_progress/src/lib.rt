@@ -5,22 +5,23 @@
 //! connections, and of the definitions that the contracts of `enet_outbox::Outbox` and `enet_peer::Peer` name. Proved: a command that waits
 //! for its acknowledgement is acknowledged wherever it comes while there is room, and from each reached link an exchange without losses
 //! leads to where all reliable packets were dispatched (`everything_can_arrive`), as do any rounds without losses, by so many as commands
-//! were queued, once the timeouts of what waited are over (`rounds_get_through`); rounds of two connected peers make fewer the commands that
-//! are outstanding on all channels of both, or time alone passes, and so come to where nothing is (`both_get_through`), also where neither
-//! has a second turn in a round (`rounds_in_turn_get_through`); nothing holds back for good what an outbox has to send, and once nothing
-//! goes any more, all has gone, or something waits for its acknowledgement (`nothing_is_held_back`); a peer answers what its sender waits
-//! for, the answer takes it away, and no command of another kind is stopped where there is room, for it and for the acknowledgement that it
-//! asks for (`what_waits_is_answered`, `each_trip_takes_one_away`); what was acknowledged was delivered (`acknowledged_was_delivered`); an
-//! attempt ends within a stated time (`every_attempt_ends`), and so does each wait for an acknowledgement (`no_wait_is_endless`); all that a
-//! peer has to send fits its datagrams (`all_that_waits_fits`); a peer that is to disconnect later comes to do so (`no_leave_is_put_off`).
-//! That two hosts make such rounds `enet_world` says (`World::calm`). Not proved: that no datagram is stopped at one command, which brings
-//! none of those behind it, nor that the patience of both outlasts the rounds.
+//! were queued, once the timeouts of what waited are over (`rounds_get_through`); rounds of two connected peers make fewer the commands
+//! that are outstanding on all channels of both, or time alone passes, and so come to where nothing is (`both_get_through`), also where
+//! neither has a second turn in a round (`rounds_in_turn_get_through`); nothing holds back for good what an outbox has to send, and once
+//! nothing goes any more, all has gone, or something waits for its acknowledgement (`nothing_is_held_back`); a peer answers what its sender
+//! waits for, the answer takes it away, and no command of another kind is stopped where there is room, for it and for the acknowledgement
+//! that it asks for (`what_waits_is_answered`, `the_last_send_counts`, `each_trip_takes_one_away`); what was acknowledged was delivered
+//! (`acknowledged_was_delivered`); an attempt ends within a stated time (`every_attempt_ends`), and so does each wait for an
+//! acknowledgement (`no_wait_is_endless`); all that a peer has to send fits its datagrams (`all_that_waits_fits`); a peer that is to
+//! disconnect later comes to do so (`no_leave_is_put_off`). That two hosts make such rounds `enet_world` says (`World::calm`). Not proved:
+//! that no datagram is stopped at one command, which brings none of those behind it, nor that the patience of both outlasts the rounds.
 #![tactic(auto)]
 
-ghost use Rattle.std.specs.Prelude.{◌≡◌, ℕ, ◌+◌, ◌*◌, ◌<◌, ◌≤◌, Bool, Option, Some, None, map, slice_get, true, false, List, [], ◌∷◌, ◌++◌, length, ◌⊎◌};
+ghost use Rattle.std.specs.Prelude.{◌≡◌, ℕ, ◌+◌, ◌*◌, ◌%◌, ◌^◌, ◌<◌, ◌≤◌, Bool, Option, Some, None, map, slice_get, true, false, List, [], ◌∷◌, ◌++◌, length, ◌⊎◌};
 ghost use Rattle.enet_codec.specs.declared.command.Offer.{Offer};
 ghost use Rattle.enet_codec.specs.Message.{Message, acknowledge};
 ghost use Rattle.enet_seq.specs.Numbering.{wire};
+ghost use Rattle.enet_rtt.specs.Clock.{meant_time};
 ghost use Rattle.enet_rtt.specs.Timing.{timeout};
 ghost use Rattle.enet_fragment.specs.declared.data.DataCommand.{DataCommand};
 ghost use Rattle.enet_connect.specs.declared.server.Server.{Server};
@@ -30,7 +31,7 @@ ghost use Rattle.enet_sender.specs.CommandChoice.{carried};
 ghost use Rattle.enet_sender.specs.Sender.{left};
 ghost use Rattle.enet_sender.specs.Due.{SendingEnd};
 ghost use Rattle.enet_sender.specs.declared.sent.Sent.{Sent};
-ghost use Rattle.enet_senders.specs.Controlling.{message_of as control_message};
+ghost use Rattle.enet_senders.specs.Controlling.{again, begun, message_of as control_message};
 ghost use Rattle.enet_senders.specs.declared.control.Numbered.{Numbered};
 ghost use Rattle.enet_senders.specs.declared.control.SentControl.{SentControl};
 ghost use Rattle.enet_outbox.specs.declared.parts.Pace.{Pace};
@@ -39,6 +40,7 @@ ghost use Rattle.enet_outbox.specs.Outbox.{Outbox, is_done};
 ghost use Rattle.enet_outbox.specs.Emission.{filled, acknowledgement_of, unsequenced_of};
 ghost use Rattle.enet_outbox.specs.declared.parts.Unsequenced.{Unsequenced};
 ghost use Rattle.enet_peer.specs.declared.parts.Limits.{Limits};
+ghost use Rattle.enet_peer.specs.declared.parts.Offsets.{Offsets};
 ghost use Rattle.enet_peer.specs.declared.parts.PeerState.TheVariants as state;
 ghost use Rattle.enet_connect.specs.declared.terms.Terms.{Terms};
 ghost use Rattle.enet_peer.specs.Peering.{Peering, joined, connecting, answering};
@@ -52,6 +54,7 @@ ghost use Rattle.law_connection.specs.Invariant.{Invariant};
 ghost use Rattle.law_progress.specs.Links.{Waits, AreShort, AllDispatched, IsUp, AreTimed, GetsThrough};
 ghost use Rattle.law_progress.specs.Outboxes.{AreFit, AllFit, NothingMayGo, WaitsForSome, GoOrStay, IsPutOut, AreQuiet, HasNew, AreSome, IsSpent, ready};
 ghost use Rattle.law_progress.specs.Peers.{Awaits, Comes, IsAnswered, IsRemoved, IsHeard, IsTakenAway, TakesIn, WentThen, ControlWentThen};
+ghost use Rattle.law_progress.specs.Counts.{LastCounts};
 ghost use Rattle.law_progress.specs.Settled.{IsSettled};
 ghost use Rattle.law_progress.specs.Delivered.{IsDelivered};
 ghost use Rattle.law_progress.specs.Attempts.{LastsAtMost, LastsFor, TellsWhenLeft};
@@ -128,37 +131,48 @@ pub fn nothing_is_held_back()
 /// stop, and its acknowledgement waits to go: from the first end to the second and back. There is room where the reliable packets that are
 /// held and the packets that the user hasn't taken are below the limits, for the next packet in order where the latter are, and where fewer
 /// than 8,192 acknowledgements wait to go. `removed`: an acknowledgement that comes takes the sent command of its number away, and no
-/// other, where that went at the time that it repeats. `unreliable_forth`, `unreliable_back`: an unreliable data command that comes in
-/// time is taken in, too, without a stop while there is room, however many acknowledgements wait. `controls`: each reliable command of
-/// channel 0xFF but CONNECT, and but VERIFY_CONNECT at a peer that answered a CONNECT itself, is acknowledged while fewer than 8,192
-/// acknowledgements wait to go, and DISCONNECT, which drops those that wait, always. `unsequenced`: an unsequenced packet is taken in
-/// without a stop where there is room for it, however many wait. `controls_removed`: the acknowledgement that comes takes the sent command
-/// of channel 0xFF of its number away, and no other, where that went at the time that it repeats.
+/// other, where that went at the time that it repeats, less what the peer adds to the times that it tells. `unreliable_forth`,
+/// `unreliable_back`: an unreliable data command that comes in time is taken in, too, without a stop while there is room, however many
+/// acknowledgements wait. `controls`: each reliable command of channel 0xFF but CONNECT, and but VERIFY_CONNECT at a peer that answered a
+/// CONNECT itself, is acknowledged while fewer than 8,192 acknowledgements wait to go, and DISCONNECT, which drops those that wait, always.
+/// `unsequenced`: an unsequenced packet is taken in without a stop where there is room for it, however many wait. `controls_removed`: the
+/// acknowledgement that comes takes the sent command of channel 0xFF of its number away, and no other, where that went at the time that it
+/// repeats, less as much; of VERIFY_CONNECT each send counts by itself.
 pub fn what_waits_is_answered()
     ensures forth { (joined : Bool) (d : Connection) (p q : Peering) (put : Put) (channel : ℕ) (c : DataCommand) (now time : ℕ) → Invariant joined d → channel < 255
         → Awaits d.one d.two p q put channel c → IsAnswered q channel time c (obeyed q now (Some time) put.message) }
     ensures back { (joined : Bool) (d : Connection) (p q : Peering) (put : Put) (channel : ℕ) (c : DataCommand) (now time : ℕ) → Invariant joined d → channel < 255
         → Awaits d.two d.one p q put channel c → IsAnswered q channel time c (obeyed q now (Some time) put.message) }
-    ensures removed { (p : Peering) (now : ℕ) (sent : Option ℕ) (m : Message) (number time : ℕ) (s : SendingEnd) → p.state ≡ state.Connected → m.head.acknowledge ≡ false
-        → m.body ≡ acknowledge number time → m.head.channel < 255 → slice_get p.outbox.senders m.head.channel ≡ Some s → Has (map (λ (x : Sent). x.command.number) s.sender.sent) number
-        → WentThen s.sender.sent number time → IsRemoved p m.head.channel number s (obeyed p now sent m) }
+    ensures removed { (p : Peering) (now : ℕ) (sent : Option ℕ) (m : Message) (number told : ℕ) (s : SendingEnd) → p.state ≡ state.Connected → m.head.acknowledge ≡ false
+        → m.body ≡ acknowledge number told → m.head.channel < 255 → slice_get p.outbox.senders m.head.channel ≡ Some s → Has (map (λ (x : Sent). x.command.number) s.sender.sent) number
+        → WentThen s.sender.sent number (meant_time told (p.offset % 2 ^ 16)) → IsRemoved p m.head.channel number s (obeyed p now sent m) }
     ensures unreliable_forth { (joined : Bool) (d : Connection) (q : Peering) (put : Put) (channel : ℕ) (c : DataCommand) (now : ℕ) (sent : Option ℕ) → Invariant joined d → channel < 255
         → Comes d.one d.two q put channel c → (obeyed q now sent put.message).stop ≡ None }
     ensures unreliable_back { (joined : Bool) (d : Connection) (q : Peering) (put : Put) (channel : ℕ) (c : DataCommand) (now : ℕ) (sent : Option ℕ) → Invariant joined d → channel < 255
         → Comes d.two d.one q put channel c → (obeyed q now sent put.message).stop ≡ None }
     ensures controls { (q : Peering) (n : Numbered) (now time : ℕ) → q.state ≡ state.Connected → IsHeard q n time (obeyed q now (Some time) (control_message n)) }
-    ensures controls_removed { (p : Peering) (now : ℕ) (sent : Option ℕ) (number time : ℕ) → p.state ≡ state.Connected → Has (map (λ (t : SentControl). t.command.number) p.outbox.control.sent) number
-        → ControlWentThen p.outbox.control.sent number time → IsTakenAway p number (obeyed p now sent (acknowledgement_of (record { channel = 0xFF; number = number; time = time }))) }
+    ensures controls_removed { (p : Peering) (now : ℕ) (sent : Option ℕ) (number told : ℕ) → p.state ≡ state.Connected → Has (map (λ (t : SentControl). t.command.number) p.outbox.control.sent) number
+        → ControlWentThen p.outbox.control.sent number (meant_time told (p.offset % 2 ^ 16)) → IsTakenAway p number (obeyed p now sent (acknowledgement_of (record { channel = 0xFF; number = number; time = told }))) }
     ensures unsequenced { (q : Peering) (u : Unsequenced) (now : ℕ) (sent : Option ℕ) → TakesIn q u → (obeyed q now sent (unsequenced_of u)).stop ≡ None }
+{}
+
+/// Each command of channel 0xFF that asks for its acknowledgement, whatever its peer adds to the times that it tells.
+///
+/// `first`: once it was sent, an acknowledgement counts that repeats the time which its datagram told, so that it takes the command away
+/// (`controls_removed` of `what_waits_is_answered`). `again`: so it is where the command is sent once more, however often it was sent before:
+/// by `first` and `again` it always has places for the times of eight sends. So the last send of VERIFY_CONNECT counts, too.
+pub fn the_last_send_counts()
+    ensures first { (now offset timeout : ℕ) (n : Numbered) → LastCounts now offset (begun now timeout n) }
+    ensures again { (now offset : ℕ) (t : SentControl) → length t.times.times ≡ 8 → LastCounts now offset (again now t) }
 {}
 
 /// Two connected peers, in every reached connection, on a channel below 255, where all that the receiving one has to send fits datagrams.
 ///
 /// Where a reliable data command that the one end waits for comes to the other in time, and there is room, and fewer than 8,192
 /// acknowledgements wait to go there, its acknowledgement is in one of the datagrams that this end puts out next, at most one more than it
-/// has commands ready to go; and where that acknowledgement comes back, and the command went at the time that it repeats, as in each datagram that
-/// tells its sent time, it takes the command away, and no other: from the first end to the
-/// second (`forth`) and back (`back`).
+/// has commands ready to go; and where that acknowledgement comes back, and the command went at the time that it repeats, less what the
+/// first end adds to the times that it tells, as in each datagram that tells its sent time, it takes the command away, and no other: from
+/// the first end to the second (`forth`) and back (`back`).
 pub fn each_trip_takes_one_away()
     ensures forth { (joined : Bool) (d : Connection) (p q : Peering) (put : Put) (channel : ℕ) (c : DataCommand) (now time : ℕ) (pace : Pace) → Invariant joined d → channel < 255
         → Awaits d.one d.two p q put channel c → p.state ≡ state.Connected → AllFit pace q.outbox → IsSettled pace p channel time c (obeyed q now (Some time) put.message) }
@@ -174,8 +188,8 @@ pub fn acknowledged_was_delivered()
     ensures back { (joined : Bool) (d : Connection) (channel : ℕ) → Invariant joined d → channel < 255 → IsDelivered d.two d.one channel }
 {}
 
-/// One peer, whatever comes to it: commands of any kind, at any time, from anyone, or none. Its clock goes on by any steps of less than
-/// some 49 days, and at each moment all is put out that may go. Times are in milliseconds.
+/// One peer, whatever comes to it: commands of any kind, at any time, from anyone, or none, and whatever it adds to its times and numbers.
+/// Its clock goes on by any steps of less than some 49 days, and at each moment all is put out that may go. Times are in milliseconds.
 ///
 /// `connecting`, `answering`: a client that asks and a server that has answered stay so for 60,500 at most, from the first moment at which
 /// they put something out, with ENet's default patience. `disconnecting`: so does a peer that has asked for the end, for at most its first
@@ -185,13 +199,13 @@ pub fn acknowledged_was_delivered()
 /// millisecond more at once, by 5 and by 7 longer. `told`: a client that asks, a server that has answered and a peer that has asked for the
 /// end cease to be so only so that the user has an event to take, or the peer is free.
 pub fn every_attempt_ends()
-    ensures connecting { (start : ℕ) (offer : Offer) (limits : Limits) → LastsAtMost state.Connecting (connecting start offer limits) 60500 }
-    ensures answering { (start : ℕ) (offer : Offer) (server : Server) (limits : Limits) → LastsAtMost state.Answering (answering start offer server limits) 60500 }
+    ensures connecting { (start offset : ℕ) (offer : Offer) (limits : Limits) → LastsAtMost state.Connecting (connecting start offset offer limits) 60500 }
+    ensures answering { (start : ℕ) (offsets : Offsets) (offer : Offer) (server : Server) (limits : Limits) → LastsAtMost state.Answering (answering start offsets offer server limits) 60500 }
     ensures disconnecting { (p : Peering) (info : ℕ) → LastsAtMost state.Disconnecting (disconnecting p info) (timeout p.estimate + 2 * p.patience.maximum) }
     ensures acknowledging { (p : Peering) → LastsAtMost state.AckDisconnect p 0 }
     ensures parting { (p : Peering) (info : ℕ) → LastsAtMost state.Parting (parting p info) 0 }
-    ensures asked { (offer : Offer) (limits : Limits) → LastsFor state.Connecting (λ start. connecting start offer limits) 31500 5 }
-    ensures answered { (offer : Offer) (server : Server) (limits : Limits) → LastsFor state.Answering (λ start. answering start offer server limits) 7500 7 }
+    ensures asked { (offset : ℕ) (offer : Offer) (limits : Limits) → LastsFor state.Connecting (λ start. connecting start offset offer limits) 31500 5 }
+    ensures answered { (offsets : Offsets) (offer : Offer) (server : Server) (limits : Limits) → LastsFor state.Answering (λ start. answering start offsets offer server limits) 7500 7 }
     ensures told { TellsWhenLeft state.Connecting × TellsWhenLeft state.Answering × TellsWhenLeft state.Disconnecting }
 {}
 
@@ -203,8 +217,8 @@ pub fn every_attempt_ends()
 /// (`connecting`) and of a server that has answered (`answering`).
 pub fn no_wait_is_endless()
     ensures joined { (start : ℕ) (terms : Terms) (limits : Limits) → NoneWaitsLonger (joined start terms limits) }
-    ensures connecting { (start : ℕ) (offer : Offer) (limits : Limits) → NoneWaitsLonger (connecting start offer limits) }
-    ensures answering { (start : ℕ) (offer : Offer) (server : Server) (limits : Limits) → NoneWaitsLonger (answering start offer server limits) }
+    ensures connecting { (start offset : ℕ) (offer : Offer) (limits : Limits) → NoneWaitsLonger (connecting start offset offer limits) }
+    ensures answering { (start : ℕ) (offsets : Offsets) (offer : Offer) (server : Server) (limits : Limits) → NoneWaitsLonger (answering start offsets offer server limits) }
 {}
 
 /// One peer, whatever comes to it, whatever its user submits and takes, and however it disconnects: each packet that waits fits a datagram,
@@ -213,8 +227,8 @@ pub fn no_wait_is_endless()
 /// (`answering`).
 pub fn all_that_waits_fits()
     ensures joined { (start : ℕ) (terms : Terms) (limits : Limits) → terms.mtu ≤ 4096 → StaysFit (joined start terms limits) }
-    ensures connecting { (start : ℕ) (offer : Offer) (limits : Limits) → offer.mtu ≤ 4096 → StaysFit (connecting start offer limits) }
-    ensures answering { (start : ℕ) (offer : Offer) (server : Server) (limits : Limits) → StaysFit (answering start offer server limits) }
+    ensures connecting { (start offset : ℕ) (offer : Offer) (limits : Limits) → offer.mtu ≤ 4096 → StaysFit (connecting start offset offer limits) }
+    ensures answering { (start : ℕ) (offsets : Offsets) (offer : Offer) (server : Server) (limits : Limits) → StaysFit (answering start offsets offer server limits) }
 {}
 
 /// One peer that is to disconnect later, whatever comes to it: as in `every_attempt_ends`, at each moment all is put out that may go.
@@ -227,8 +241,8 @@ pub fn all_that_waits_fits()
 /// the end, or has to acknowledge that the other end did, or its user has an event to take, or it is free.
 pub fn no_leave_is_put_off()
     ensures joined { (start : ℕ) (terms : Terms) (limits : Limits) → terms.mtu ≤ 4096 → DisconnectsLater (joined start terms limits) }
-    ensures connecting { (start : ℕ) (offer : Offer) (limits : Limits) → offer.mtu ≤ 4096 → DisconnectsLater (connecting start offer limits) }
-    ensures answering { (start : ℕ) (offer : Offer) (server : Server) (limits : Limits) → DisconnectsLater (answering start offer server limits) }
+    ensures connecting { (start offset : ℕ) (offer : Offer) (limits : Limits) → offer.mtu ≤ 4096 → DisconnectsLater (connecting start offset offer limits) }
+    ensures answering { (start : ℕ) (offsets : Offsets) (offer : Offer) (server : Server) (limits : Limits) → DisconnectsLater (answering start offsets offer server limits) }
     ensures told { LeavesOrTells }
 {}
 

@@ -121,9 +121,9 @@ abbrev GoesTo : End → End → Type 0
 GoesTo own x = Goes own x.log x.submitted x.peer
 
 out : (own other new : End) (e : Event) → IsFit own → Happens own other e new → SendsAt own → Goes own new.log new.submitted new.peer
-out own other new (Answer put offer now server limits) f h s =
+out own other new (Answer put offer now offsets server limits) f h s =
     let none : own.submitted ≡ [] = subst (λ (o : Option Peering). PeerFits own.submitted o) h.0 f.peer in
-    subst (GoesTo own) (sym h.4) (goes-answered own now offer server limits h.0 none s)
+    subst (GoesTo own) (sym h.4) (goes-answered own now offsets offer server limits h.0 none s)
 out own other new (Submit q) f h s = subst (GoesTo own) (sym h.3) (goes-submitted own h.0 q h.1 s)
 out own other new (Emit now) f h s = subst (GoesTo own) (sym h.2) (goes-emitted own other h.0 now h.1 s)
 out own other new (Come put now sent) f h s =
@@ -151,8 +151,8 @@ gets-staying : (come : List Unsequenced) (own : End) (p q : Peering) → own.pee
 gets-staying come own p q is h g = gets-more come [] own.events (Some p) q (inl (h.seen, h.untaken)) (with-peer come own (Some p) is g)
 
 into : (own other new : End) (e : Event) (come : List Unsequenced) → IsFit own → Happens own other e new → Gets come own.events own.peer → Gets (come ++ come_by e) new.events new.peer
-into own other new (Answer put offer now server limits) come f h g =
-    subst (GetsTo (come ++ [])) (sym h.4) (gets-more come [] own.events None (answering now offer server limits) (inl (refl, inl refl)) (with-peer come own None h.0 g))
+into own other new (Answer put offer now offsets server limits) come f h g =
+    subst (GetsTo (come ++ [])) (sym h.4) (gets-more come [] own.events None (answering now offsets offer server limits) (inl (refl, inl refl)) (with-peer come own None h.0 g))
 into own other new (Submit q) come f h g =
     let p : Peering = h.0 in
     subst (GetsTo (come ++ [])) (sym h.3)
@@ -174,7 +174,7 @@ into own other new (Set setting) come f h g = subst (GetsTo (come ++ [])) (sym h
 
 -- what comes was put out by the other end
 comes-of : (own other new : End) (e : Event) → Happens own other e new → (u : Unsequenced) → Has (come_by e) u → (x : Put) × Has other.log x × Has (carried x.message) u
-comes-of own other new (Answer put offer now server limits) h u c = absurd c
+comes-of own other new (Answer put offer now offsets server limits) h u c = absurd c
 comes-of own other new (Submit q) h u c = absurd c
 comes-of own other new (Emit now) h u c = absurd c
 comes-of own other new (Come put now sent) h u c = (let t = h.2 in (put, t.logged, c))
@@ -279,11 +279,11 @@ joined-first now1 now2 t1 t2 l1 l2 =
     let e2 : End = with_peer no_end (joined now2 t2 l2) in
     record { forth = first e1 e2 (sends-first (joined now1 t1 l1) refl refl) refl refl refl; back = first e2 e1 (sends-first (joined now2 t2 l2) refl refl) refl refl refl }
 
-asking-first : (now : ℕ) (offer : Offer) (limits : Limits) → Both [] [] (asking_pair now offer limits)
-asking-first now offer limits =
-    let e1 : End = with_peer no_end (connecting now offer limits) in
+asking-first : (now offset : ℕ) (offer : Offer) (limits : Limits) → Both [] [] (asking_pair now offset offer limits)
+asking-first now offset offer limits =
+    let e1 : End = with_peer no_end (connecting now offset offer limits) in
     record {
-      forth = first e1 no_end (sends-first (connecting now offer limits) refl refl) refl refl refl;
+      forth = first e1 no_end (sends-first (connecting now offset offer limits) refl refl) refl refl refl;
       back = first no_end e1 (record { logged = λ x u there c. absurd there; queued = tt }) refl refl refl;
     }
 
@@ -291,8 +291,8 @@ pub joined-kept : (now1 now2 : ℕ) (t1 t2 : Terms) (l1 l2 : Limits) → 28 < t1
 joined-kept now1 now2 t1 t2 l1 l2 big1 big2 few1 few2 =
     record { connection = connection-joined now1 now2 t1 t2 l1 l2 big1 big2 few1 few2; to_one = []; to_two = []; both = joined-first now1 now2 t1 t2 l1 l2 }
 
-pub asking-kept : (now : ℕ) (offer : Offer) (limits : Limits) → Kept false (asking_pair now offer limits)
-asking-kept now offer limits = record { connection = connection-asking now offer limits; to_one = []; to_two = []; both = asking-first now offer limits }
+pub asking-kept : (now offset : ℕ) (offer : Offer) (limits : Limits) → Kept false (asking_pair now offset offer limits)
+asking-kept now offset offer limits = record { connection = connection-asking now offset offer limits; to_one = []; to_two = []; both = asking-first now offset offer limits }
 
 pub joined-law : JoinedLaw
 joined-law one two events c big1 big2 few1 few2 r =
@@ -301,4 +301,4 @@ joined-law one two events c big1 big2 few1 few2 r =
     (joined-first one.now two.now one.terms two.terms one.limits two.limits))
 
 pub asking-law : AskingLaw
-asking-law now offer limits events c r = both-fair events c (both-runs false events (asking_pair now offer limits) c [] [] r (connection-asking now offer limits) (asking-first now offer limits))
+asking-law now offset offer limits events c r = both-fair events c (both-runs false events (asking_pair now offset offer limits) c [] [] r (connection-asking now offset offer limits) (asking-first now offset offer limits))

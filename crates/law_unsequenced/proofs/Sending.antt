@@ -22,6 +22,7 @@ use Rattle.enet_outbox.specs.Emission.{Filling, acknowledgement_of, unsequenced_
 use Rattle.enet_outbox.proofs.Filled.{by-filling}
 use Rattle.enet_peer.specs.Peering.{Peering, answering}
 use Rattle.enet_peer.specs.declared.parts.Limits.{Limits}
+use Rattle.enet_peer.specs.declared.parts.Offsets.{Offsets}
 use Rattle.enet_peer.specs.Calls.{pace_of, gone_on, submitted}
 use Rattle.law_connection.specs.LinkSteps.{Has}
 use Rattle.law_connection.specs.Connection.{Put, End, put_by}
@@ -242,8 +243,8 @@ goes-submitted own p q is h = by (is_unsequenced mtu c) refl
     by false e = sequenced (slice_get o.senders q.channel) e
 
 -- a host answers
-pub goes-answered : (own : End) (now : ℕ) (offer : Offer) (server : Server) (limits : Limits) → own.peer ≡ None → own.submitted ≡ [] → SendsAt own → Goes own own.log own.submitted (Some (answering now offer server limits))
-goes-answered own now offer server limits is none h = record {
+pub goes-answered : (own : End) (now : ℕ) (offsets : Offsets) (offer : Offer) (server : Server) (limits : Limits) → own.peer ≡ None → own.submitted ≡ [] → SendsAt own → Goes own own.log own.submitted (Some (answering now offsets offer server limits))
+goes-answered own now offsets offer server limits is none h = record {
   sends = record {
     logged = λ x u there c. subst (λ l. IsOne l u) (was ∙ sym nothing) (h.logged x u there c);
     queued = record { group_is = ap (λ (l : List Packet). length l % 65536) (sym nothing); waits = λ u w. absurd w };
@@ -253,7 +254,7 @@ goes-answered own now offer server limits is none h = record {
 }
   where
     q : Peering
-    q = answering now offer server limits
+    q = answering now offsets offer server limits
 
     nothing : going_unsequenced q.terms.mtu own.submitted ≡ []
     nothing = subst (λ l. going_unsequenced q.terms.mtu l ≡ []) (sym none) refl

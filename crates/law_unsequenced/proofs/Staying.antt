@@ -1,5 +1,5 @@
 -- What a peer keeps of unsequenced packets, whatever comes, when time passes, and by the user's other calls.
-use Rattle.std.proofs.Common.{◌≡◌, ℕ, Bool, true, false, cond, ltb, leb, ◌==◌, ◌&&◌, not, List, [], ◌∷◌, ◌++◌, map, length, refl, sym, ap, subst, ◌∙◌, inl, inr, ◌⊎◌, Option, Some, None, Result, Ok, Err}
+use Rattle.std.proofs.Common.{◌≡◌, ℕ, ◌%◌, ◌^◌, Bool, true, false, cond, ltb, leb, ◌==◌, ◌&&◌, not, List, [], ◌∷◌, ◌++◌, map, length, refl, sym, ap, subst, ◌∙◌, inl, inr, ◌⊎◌, Option, Some, None, Result, Ok, Err}
 use Rattle.std.specs.Prelude.{is_some}
 use Rattle.std.specs.List.{slice_get}
 use Rattle.std.proofs.lemmas.List.Elements.{filter-append}
@@ -11,6 +11,7 @@ use Rattle.enet_codec.specs.declared.stop.Stop.{Stop}
 use Rattle.enet_codec.specs.declared.stop.Stop.TheVariants as stop
 use Rattle.enet_codec.specs.Message.{Message, Body, acknowledge, connect, verify_connect, disconnect, ping, send_reliable, send_unreliable, send_fragment, send_unsequenced, bandwidth_limit, throttle_configure, send_unreliable_fragment}
 use Rattle.enet_seq.specs.Numbering.{wire}
+use Rattle.enet_rtt.specs.Clock.{meant_time}
 use Rattle.enet_rtt.specs.declared.expiry.Expiry.{Expiry}
 use Rattle.enet_rtt.specs.declared.expiry.Expiry.TheVariants.{No, Resend, End as Ends}
 use Rattle.enet_unsequenced.specs.Groups.{Seen, dispatches, mark}
@@ -214,9 +215,12 @@ acknowledged-same p channel number = by-control (channel == 0xFF)
     by-control true = refl
     by-control false = by (slice_get o.senders channel)
 
-on_acknowledge-stays : (p : Peering) (now channel number time : ℕ) → StaysAt p (on_acknowledge p now channel number time)
-on_acknowledge-stays p now channel number time = if-peer (StaysAt p) (is_connecting p.state) p (accepted p now channel number time) (stays (core p)) (by (matched_by p.outbox channel number time))
+on_acknowledge-stays : (p : Peering) (now channel number told : ℕ) → StaysAt p (on_acknowledge p now channel number told)
+on_acknowledge-stays p now channel number told = if-peer (StaysAt p) (is_connecting p.state) p (accepted p now channel number time) (stays (core p)) (by (matched_by p.outbox channel number time))
   where
+    time : ℕ
+    time = meant_time told (p.offset % 2 ^ 16)
+
     gone : Peering
     gone = record p { outbox = after_acknowledgement p.outbox channel number }
 

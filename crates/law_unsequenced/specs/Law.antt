@@ -49,5 +49,5 @@ JoinedLaw = (one two : JoinedEnd) (events : List (Side × Event)) (c : Connectio
 
 -- after every run of a client that asks and a host that knows nothing of it
 abbrev pub AskingLaw : Type 0
-AskingLaw = (now : ℕ) (offer : Offer) (limits : Limits) (events : List (Side × Event)) (c : Connection)
-    → Runs events (asking_pair now offer limits) c → AreFair events c
+AskingLaw = (now offset : ℕ) (offer : Offer) (limits : Limits) (events : List (Side × Event)) (c : Connection)
+    → Runs events (asking_pair now offset offer limits) c → AreFair events c

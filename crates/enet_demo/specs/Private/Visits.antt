@@ -9,7 +9,7 @@ use Rattle.enet_demo.specs.Visits.{plan_of, beginning, Visits}
 
 -- what a client's threads ended with: its visit, or what ended them early
 abbrev pub IsOutcome : Plan → ℕ → Result Visit Refusal → Type 0
-IsOutcome plan turns outcome = IfOk outcome (Visits beginning plan turns) × IfErr outcome EndsRun
+IsOutcome plan turns outcome = IfOk outcome (Visits (beginning plan.secret) plan turns) × IfErr outcome EndsRun
 
 -- what each client's threads ended with, from client 0 on
 abbrev pub AreOutcomes : Demonstration → List (Result Visit Refusal) → Type 0

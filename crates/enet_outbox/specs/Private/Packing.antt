@@ -2,6 +2,7 @@
 use Rattle.std.specs.Prelude.{◌≡◌, ℕ, ◌+◌, ◌%◌, ◌==◌, not, Bool, if◌then◌else◌, ◌-◌, ◌≤◌, ◌||◌, nat_le, true, false, List, length, map, flat_map, Option, Some, None, slice_range, slice_get, slice_set, slice_index}
 use Rattle.std.specs.List.{AllByRecursion, list_any, range_with_len}
 use Rattle.enet_codec.specs.Message.{IsMessage, Message, canonical}
+use Rattle.enet_rtt.specs.Clock.{told_time}
 use Rattle.enet_throttle.specs.Throttle.{Throttling, is_admitted, next_counter}
 use Rattle.enet_senders.specs.Controlling.{Commands}
 use Rattle.enet_sender.specs.Due.{SendingEnd}
@@ -134,5 +135,5 @@ header_asking now to asking = record {
   peer = to.slot;
   session = if to.slot % 4096 == 0xFFF then 0 else to.session;
   compressed = false;
-  sent = if asking then Some (now % 65536) else None;
+  sent = if asking then Some (told_time now to.offset) else None;
 }

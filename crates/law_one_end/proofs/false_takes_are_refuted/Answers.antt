@@ -1,5 +1,6 @@
 use Rattle.law_one_end.proofs.Refuting.{elsewhere, twice, gap, swapped, altered}
 use Rattle.law_one_end.proofs.Foreign.{foreign-refused, misdirected-refused, hasty-refused}
+use Rattle.law_one_end.proofs.Confirming.{guess-refused}
 use Rattle.law_one_end.proofs.false_takes_are_refuted.Goals as goal
 
 pub returns-clause-elsewhere : goal.returns-clause-elsewhere
@@ -25,3 +26,6 @@ returns-clause-misdirected c = misdirected-refused
 
 pub returns-clause-hasty : goal.returns-clause-hasty
 returns-clause-hasty c = hasty-refused
+
+pub returns-clause-guessed : goal.returns-clause-guessed
+returns-clause-guessed c = guess-refused

@@ -5,7 +5,7 @@ pub returns-clause-joined : goal.returns-clause-joined
 returns-clause-joined c = λ start terms limits low. stays-fit _ (joined-fits start terms limits low)
 
 pub returns-clause-connecting : goal.returns-clause-connecting
-returns-clause-connecting c = λ start offer limits low. stays-fit _ (asking-fits start offer limits low)
+returns-clause-connecting c = λ start offset offer limits low. stays-fit _ (asking-fits start offset offer limits low)
 
 pub returns-clause-answering : goal.returns-clause-answering
-returns-clause-answering c = λ start offer server limits. stays-fit _ (answering-fits start offer server limits)
+returns-clause-answering c = λ start offsets offer server limits. stays-fit _ (answering-fits start offsets offer server limits)

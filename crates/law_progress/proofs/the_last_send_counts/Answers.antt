@@ -1,0 +1,8 @@
+use Rattle.law_progress.proofs.Counting.{first-counts, again-counts}
+use Rattle.law_progress.proofs.the_last_send_counts.Goals as goal
+
+pub returns-clause-first : goal.returns-clause-first
+returns-clause-first c = first-counts
+
+pub returns-clause-again : goal.returns-clause-again
+returns-clause-again c = again-counts
