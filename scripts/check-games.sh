@@ -8,7 +8,9 @@
 #   throws out a third;
 # - yuzu: a room, in which two members talk and send a game's datagrams, and which refuses a third;
 # - godot3: a server and a client over its multiplayer, in the compression modes 0 to 4 (1 is the range coder);
-# - python3-enet: plain, with a checksum, with an interceptor, with the range coder, and with all three.
+# - python3-enet: plain, with a checksum, with an interceptor, with the range coder, and with all three;
+# - love: LÖVE, whose program has an ENet of its own, at one end, and python3-enet over libenet or over ours at the other. It and what it needs
+#   here (6 MB) are SKIPPED where they can't be fetched.
 # Not here is 0ad: its server is the game itself, which starts with its data alone, 1.4 GB to fetch and 3.2 GB on the disk.
 # Prints a line for each, 'passed' or 'failed', and as last line 'N passed, M failed'; the status is 1 where one failed. It takes root, for
 # the namespace, a network to Debian's packages, and some five minutes.
@@ -32,6 +34,21 @@ prepare() {
     # Red Eclipse's server looks for a file of the game's data and reads its own settings.
     touch "$room/eclipse/data/maps/readme.txt" && ln -s "$room/root/usr/share/games/redeclipse"/* "$room/eclipse/" || return 1
     printf '%s\n' 'servertype 1' 'serverport 28801' > "$room/home/servinit.cfg"
+}
+
+# LÖVE and what the machine hasn't of what it needs, in the folder `love` of `room`. Nothing is fetched where it is installed.
+fetch_love() {
+    mkdir -p "$room/fetched/partial" "$room/love" && cp -r c/games/love "$room/visit.love" || return 1
+    apt-get -y --no-install-recommends --download-only -o Debug::NoLocking=1 -o APT::Sandbox::User=root \
+        -o "Dir::Cache::archives=$room/fetched" install love || return 1
+    local deb
+    for deb in "$room"/fetched/*.deb; do [ ! -e "$deb" ] || dpkg-deb -x "$deb" "$room/love" || return 1; done
+    love_program
+}
+
+# The program of LÖVE, into `love`.
+love_program() {
+    love=$(compgen -G "$room/love/usr/bin/love*" || command -v love) && love=${love%%$'\n'*}
 }
 
 # Runs the rest of the words with the library $1, ours or libenet's.
@@ -58,6 +75,28 @@ both_ends() {
     local relay=$!
     until_bound "$to" && on "$client" "${@:4:$#-4}" visit "$to" "${@:$#}" > "$room/client" 2>&1 && wait "$relay"
     tell $? "$name" "$server" "$client"
+    kill "$relay" 2> /dev/null
+    wait "$relay" 2> /dev/null
+}
+
+# An end of a connection, $2 being `serve` or `visit` and $3 the port: by LÖVE where $1 is `love`, else by python3-enet over the library $1.
+end_by() {
+    local libs=$room/love/usr/lib/x86_64-linux-gnu
+    if [ "$1" = love ]; then
+        HOME=$room/home LD_LIBRARY_PATH=$libs:$libs/pulseaudio timeout 60 "$love" "$room/visit.love" "$2" "$3"
+    else
+        on "$1" /usr/bin/python3 "$room/visit.py" "$2" "$3" plain
+    fi
+}
+
+# LÖVE and python3-enet, of which $1 serves and $2 visits.
+love_and_python() {
+    local to=$port
+    port=$((port + 1))
+    end_by "$1" serve "$to" > "$room/server" 2>&1 &
+    local relay=$!
+    until_bound "$to" && end_by "$2" visit "$to" > "$room/client" 2>&1 && wait "$relay"
+    tell $? 'love and python3-enet' "$1" "$2"
     kill "$relay" 2> /dev/null
     wait "$relay" 2> /dev/null
 }
@@ -114,6 +153,11 @@ run_all() {
             both_ends "python3-enet, $way" "${ends[@]}" /usr/bin/python3 "$room/visit.py" "$way"
         done
     done
+    [ -d "$room/visit.love" ] && love_program || return 0
+    for way in libenet ours; do
+        love_and_python "$way" love
+        love_and_python love "$way"
+    done
 }
 
 port=$((21000 + RANDOM % 5000))
@@ -130,4 +174,5 @@ room=$(mktemp -d) || exit 1
 trap 'rm -rf "$room"' EXIT
 archive=${1:-crates/enet_c/out/libenet_c.a}
 build_clients "$room" > "$room/said" 2>&1 && prepare "$archive" >> "$room/said" 2>&1 || { tail -n 20 "$room/said"; echo '0 passed, 1 failed'; exit 1; }
+fetch_love > "$room/said" 2>&1 || { rm -rf "$room/visit.love"; echo "SKIPPED love: $(tail -n 1 "$room/said")"; }
 unshare -n bash scripts/check-games.sh --inside "$room"
