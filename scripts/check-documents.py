@@ -8,6 +8,8 @@
 - README's commands name files that are there, and its command for all tests is the one that .ci/run runs;
 - the code that docs/USING.md shows stands in an example or in a trial, which the tests compile and run;
 - the counts of definitions that docs/HEADLINE.md and docs/PROOFS.md tell are those of scripts/trusted.py;
+- the version that `enet_relay --version` tells, in the code and in its definition, is the one of the file VERSION, and so are those that
+  README's files have and that CHANGELOG.md begins with;
 - docs/PERF.md begins with the line that names the start, which never changes;
 - the plots are what measure/draw.py makes of measure/results.
 
@@ -24,7 +26,7 @@ DOCUMENTS = ["README.md", "CONTRIBUTING.md", *sorted(glob.glob("docs/*.md"))]
 # Names that stand nowhere in the repository by their nature: the kit's, the system's and the reference library's own.
 ELSEWHERE = re.compile(
     r"rt( .*)?|rattle.*|logic [0-9a-f]+|SHORTER_PROOFS\.md|FIRST_PROOFS\.md|docs/NOT_COVERED\.md|itoa|"
-    r"ss( .*)?|perf.*|valgrind.*|nft.*|ulimit.*|net\..*|[A-Z]\w+=.*|-l\w+|"
+    r"sudo apt .*|tar xf .*|ss( .*)?|perf.*|valgrind.*|nft.*|ulimit.*|net\..*|[A-Z]\w+=.*|-l\w+|"
     r"ENetChannel|enet_channel|initialize_with_callbacks|peer_throttle|reset_queues|setup_outgoing_command|protocol_command_size|recvmmsg"
 )
 # Parts of a name that stand for any: `crate/specs/File`, `on_*`, `Sound-EVENT`, `example_..`.
@@ -202,6 +204,20 @@ def start(counts):
     counts.check(first == START, f"docs/PERF.md: the first line is '{first}', not '{START}'")
 
 
+def version(counts):
+    """One version: of the file VERSION, of the program, of its contract, of the files that README names and of the newest part of CHANGELOG.md."""
+    told = read("VERSION").strip()
+    for path, marked in (
+        ("crates/enet_console/src/versions.rt", rf'^    "{re.escape(told)} \('),
+        ("crates/enet_console/specs/Versions.antt", rf'^version = codes "{re.escape(told)}"$'),
+    ):
+        counts.check(re.search(marked, read(path), re.M), f"{path} hasn't the version {told} of the file VERSION")
+    files = set(re.findall(r"(?:_|gofnjerta-?)(\d+\.\d+\.\d+)[_-]", read("README.md")))
+    counts.check(files == {told}, f"README.md names files of {files or 'no version'}, not of {told}")
+    newest = re.search(r"^## (\S+)", read("CHANGELOG.md"), re.M)
+    counts.check(newest and newest[1] == told, f"CHANGELOG.md doesn't begin with the version {told} of the file VERSION")
+
+
 def plots(counts):
     drawn = subprocess.run([sys.executable, "measure/draw.py", "--check"], capture_output=True, text=True, check=False)
     counts.check(drawn.returncode == 0, drawn.stdout.strip())
@@ -210,7 +226,7 @@ def plots(counts):
 def main():
     os.chdir(os.path.join(os.path.dirname(os.path.abspath(__file__)), ".."))
     counts = Counts()
-    for check in (stated, names, links, commits, commands, shown, trusted, start, plots):
+    for check in (stated, names, links, commits, commands, shown, trusted, start, version, plots):
         check(counts)
     print(f"{counts.passed} passed, {counts.failed} failed")
     return 1 if counts.failed else 0

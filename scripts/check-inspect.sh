@@ -180,6 +180,14 @@ print(count)
 END
 }
 
+# The picture that README shows is drawn of the script beside it.
+picture_of_readme() {
+    local kept=docs/figures/lost-packet
+    timeout 60 "$program" lab < $kept.lab | python3 scripts/timeline.py lab $kept.lab "$room/made" || { fail "picture of README" "$kept.lab"; return; }
+    timeline lost-packet "$room/made" '' 0
+    cmp -s "$room/picture" $kept.svg && passed=$((passed + 1)) || fail "picture of README" "$kept.svg isn't what is drawn of $kept.lab"
+}
+
 # What has no timeline: its name here, its file, what is wanted on standard error, and the status.
 no_timeline() {
     timeout 60 "$program" inspect "$2" --timeline "$room/none" > "$room/out" 2> "$room/err"
@@ -217,6 +225,7 @@ else
     rows
     captures
     timelines
+    picture_of_readme
     refused_timelines
     files
 fi

@@ -9,8 +9,10 @@
 #   opens a host, libenet's tutorial (c/tests/tutorial.c) is compiled for libenet's names and talks to itself, and the example in Python talks
 #   to the one in C;
 # - archive: the tutorial built for libenet runs on the archive's libenet.so.7, and the archive's program says its help;
-# - readme: each row of the table below `| You want | Install | Run |` in README (or the file that TABLE names) does as it says: what Install has
-#   ends with status 0, and so does what Run has, unless it is there to serve; then it listens. A row with systemctl comes in the booted system, below;
+# - readme: each row of the table below `| You want | Install | Run |` in README (or the file that TABLE names) does as it says, in a root of its own
+#   with nothing but apt: what stands in back-quotes under Install ends with status 0 ('the same' is what the row above has), and so does what
+#   stands under Run, unless it is there to serve; then it listens, and still does six seconds later. It is told how many seconds lie between
+#   the beginning of Install and that. A row with systemctl comes in the booted system, below;
 # - cube2: Debian's cube2-server, installed over libenet7-gofnjerta, serves clients of its game (c/games/cube.c);
 # - systemd: in a system that systemd-nspawn boots the unit is enabled and started, two clients connect, figures are told, a line at the control
 #   FIFO is answered, systemctl stop ends it with Result=success and the clients are told within a second, and it comes back after each of
@@ -98,6 +100,7 @@ installs() {
 
 server() {
     apart 'cd /root/work
+        [[ $(enet_relay --version) == "enet_relay $(dpkg-query -W -f "\${Version}" enet-relay) (rattle-kit-"*")" ]]
         enet_relay serve --help | grep -q -- --port && test -r /usr/share/man/man1/enet_relay-serve.1.gz
         printf "pair 2\ntick A 100\n" | enet_relay lab | grep -q "^ok"
         . /usr/share/bash-completion/completions/enet_relay && complete -p enet_relay
@@ -155,40 +158,70 @@ archive() {
         bound 7777 && LD_LIBRARY_PATH=/opt/check /opt/check/tutorial visit 7777 && wait $relay'
 }
 
-# What stands in back-quotes in the column $2 of the table's row $1, without sudo.
+# What stands in back-quotes in the column $2 of the table's row $1, a line for each.
 cell() {
-    cut -d '|' -f $(($2 + 1)) <<< "${1//\\|/\\}" | grep -o '`[^`]*`' | tr -d '`' | sed 's/^sudo //'
+    cut -d '|' -f $(($2 + 1)) <<< "${1//\\|/\\}" | grep -o '`[^`]*`' | tr -d '`'
 }
 
-# The rows of the table, with `your_server` and its source there.
+# Makes a root of the suite $1 with nothing but apt, as a new machine has it, in $room/bare; out/roots keeps it without the lists of packages.
+unpack_bare() {
+    local kept=out/roots/$1-bare.tar root=$room/bare
+    [ -s "$kept" ] || { mmdebstrap --quiet --variant=minbase "$1" "out/roots/new-$1.tar" "${MIRROR:-http://deb.debian.org/debian}" &&
+        mv "out/roots/new-$1.tar" "$kept"; } || return 1
+    rm -rf --one-file-system "$root" && mkdir "$root" && tar -xf "$kept" -C "$root" && mkdir -p "$root/root/release" "$root/opt/check" || return 1
+    cp "$folder"/*.deb "$folder"/*.tar.gz "$root/root/release/"
+    cp "$room/tutorial" /usr/lib/x86_64-linux-gnu/libenet.so.7 "$root/opt/check/"
+    cp /etc/resolv.conf "$root/etc/resolv.conf"
+    # Nobody is there to answer apt.
+    echo 'APT::Get::Assume-Yes "true";' > "$root/etc/apt/apt.conf.d/99yes"
+    inside 'apt-get update -q'
+}
+
+# What the rows speak of: a server that was built for libenet, the source of one, which is C and C++, and a capture.
+bring_games() {
+    printf '#!/bin/sh\nexec /opt/check/tutorial serve 7777\n' > "$1/your_server"
+    chmod 755 "$1/your_server"
+    sed 's/int main(.*/int main(void) { int argc = 3; const char *argv[] = {"t", "serve", "7777", 0};/; s/= "Client/= (void *)"Client/
+        s/strcmp(event.peer->data/strcmp((char *)event.peer->data/' c/tests/tutorial.c > "$1/your_server.cpp"
+    python3 scripts/timeline.py capture trials/captured/data.txt "$1/game.pcap"
+}
+
+# Whether the words $2, and then $1, do what a row says, in a root of its own. Tells the seconds that this took.
+row() {
+    local root=$room/row begun
+    rm -rf --one-file-system "$root" && cp -a "$room/bare" "$root" && bring_games "$root/root/release" || return 1
+    begun=$EPOCHREALTIME
+    inside "cd /root/release && sudo() { \"\$@\"; } && $2" && apart "cd /root/release && sudo() { \"\$@\"; } && { $1; } & it=\$!
+        for _ in {1..600}; do
+            if [ \$(wc -l < /proc/net/udp) -gt 1 ] || ! kill -0 \$it 2> /dev/null; then break; fi
+            sleep 0.1
+        done
+        echo \$EPOCHREALTIME > /root/reached
+        for _ in {1..60}; do kill -0 \$it 2> /dev/null || { wait \$it; exit; }; sleep 0.1; done
+        [ \$(wc -l < /proc/net/udp) -gt 1 ]" && awk -v begun="$begun" '{ printf "%.1f\n", $1 - begun }' "$root/root/reached" > "$room/took"
+}
+
+# The rows of the table.
 readme() {
-    local row number=0 install run
+    local row number=0 install='' run
     grep -q '^| You want | Install | Run |' "$table" || { skip "$1-readme" "$table has no table '| You want | Install | Run |'"; return; }
-    cat > "$root/root/release/your_server" << 'END'
-#!/bin/sh
-exec /opt/check/tutorial serve 7777
-END
-    chmod 755 "$root/root/release/your_server"
-    sed 's/argc < 3/0/; s/int main(.*/int main(void) { int argc = 3; char *argv[] = {"t", "serve", "7777", 0};/' c/tests/tutorial.c \
-        > "$root/root/release/your_server.c"
+    unpack_bare "$1" > "$room/said" 2>&1 || { skip "$1-readme" "no root: $(tail -n 2 "$room/said" | tr '\n' ' ')"; return; }
     awk '/^\| You want \| Install \| Run \|/ { on = 1; next } on && !/^\|/ { exit } on && !/^\|-/' "$table" > "$room/rows"
     while IFS= read -r row; do
         number=$((number + 1))
-        install=$(cell "$row" 2)
+        [[ $(cut -d '|' -f 3 <<< "$row") == ' the same ' ]] || install=$(cell "$row" 2)
         run=$(cell "$row" 3)
         # A row that wants a running systemd comes in the system that is booted.
         if [[ $run == *systemctl* ]]; then
-            echo "$run" > "$root/root/row"
-            continue
+            echo "sudo() { \"\$@\"; }; $run" > "$root/root/row"
+        elif row "$run" "$install" > "$room/said" 2>&1; then
+            passed=$((passed + 1))
+            echo "passed $1-readme-$number, $(<"$room/took") seconds from the beginning of its installation to:" $run
+        else
+            fail "$1-readme-$number" "$(tail -n 15 "$room/said" | cut -c 1-300)"
         fi
-        [ -z "$install" ] || try "$1-readme-$number-install" inside "cd /root/release && export APT_CONFIG= && apt() { apt-get -q -y \"\$@\"; } && $install"
-        try "$1-readme-$number" apart "cd /root/release && { $run; } & it=\$!
-            for _ in {1..600}; do
-                if [ \$(wc -l < /proc/net/udp) -gt 1 ]; then echo it listens; sleep 0.5; kill -0 \$it; exit; fi
-                kill -0 \$it 2> /dev/null || { wait \$it; exit; }
-                sleep 0.1
-            done; exit 1"
     done < "$room/rows"
+    rm -rf --one-file-system "$room/row" "$room/bare"
 }
 
 cube2() {
@@ -211,9 +244,11 @@ ask() { exec 3<> /dev/tcp/127.0.0.1/9100 && printf 'GET %s HTTP/1.1\r\nHost: a\r
 export LD_LIBRARY_PATH=/opt/check
 judge disabled "$(systemctl is-enabled enet-relay) $(systemctl is-active enet-relay)" 'disabled inactive'
 sed -i 's/^OPTIONS="/&--metrics 127.0.0.1:9100 /' /etc/default/enet-relay
+begun=$(now)
 if [ -s /root/row ]; then bash -e /root/row; else systemctl enable --now enet-relay; fi
 judge enabled "$? $(systemctl is-enabled enet-relay)" '0 enabled'
 until_up 0
+up=$(($(now) - begun))
 sleep 1
 judge started "$(state ActiveState)" active
 /opt/check/told 47001 2 40 > /root/told & told=$!
@@ -248,7 +283,7 @@ judge restarted "$(state ActiveState) $(state NRestarts)" 'active 7'
 judge no-core "$(find / -xdev -name 'core*' -path '*relay*' 2> /dev/null | head -n 1)" ''
 apt-get purge -q -y enet-relay > /root/purged 2>&1
 judge purged "$? $(systemctl is-active enet-relay) $(pgrep -cx enet_relay) $(find /etc -name '*enet-relay*' | wc -l)" '0 inactive 0 0'
-echo "ok told after $heard ms, stopped after $stopped ms"
+echo "ok told after $heard ms, stopped after $stopped ms, up $up ms after it was enabled"
 echo done
 END
     cat > "$root/etc/systemd/system/trial.service" << 'END'
@@ -292,12 +327,7 @@ build_base() {
         buildah "${store[@]}" commit -q "$base" gofnjerta-base > "$room/added" || return 1
     podman "${store[@]}" "${runs[@]}" run --rm --ulimit nofile=1024:1024 --ulimit nproc=1024:1024 --network none localhost/gofnjerta-base true
 }
-image() {
-    local base
-    base=$(buildah "${store[@]}" from scratch) && buildah "${store[@]}" add -q "$base" "out/roots/$1.tar" / > "$room/added" &&
-        buildah "${store[@]}" commit -q "$base" gofnjerta-base > "$room/added" || return 1
-    podman "${store[@]}" "${runs[@]}" run --rm --network none localhost/gofnjerta-base true
-}
+
 image() {
     buildah "${store[@]}" bud -q --isolation chroot --build-arg BASE=localhost/gofnjerta-base --build-arg PROGRAM=bin/enet_relay \
         -f "$there/deploy/container/Containerfile" -t gofnjerta-relay "$there" > "$room/added" || return 1
@@ -316,6 +346,7 @@ image() {
         echo "told after $took ms"
         [ "$took" -le 2000 ]' image "${store[@]}" "${runs[@]}"
 }
+
 try_image() {
     local there store=(--root "$room/store" --runroot "$room/stored" --storage-driver vfs) runs=(--runtime runc --cgroup-manager cgroupfs)
     there=$(echo "$root"/root/work/gofnjerta-*/)

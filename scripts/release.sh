@@ -1,6 +1,6 @@
 #!/usr/bin/env bash
 # A release: `release.sh [--after-tests] FOLDER` makes of the commit that is checked out, in FOLDER,
-#   gofnjerta-VERSION-linux-x86_64.tar.gz   the program, the libraries for C, manual, completion, examples, deploy/ and docs/, to unpack anywhere
+#   gofnjerta-VERSION-linux-x86_64.tar.gz   the program, the libraries for C, manual, completion, examples, deploy/, docs/ and tools/, to unpack anywhere
 #   *.deb                                   the five packages of package-relay.sh and package-c.sh
 #   PROVED.txt                              commit, kit, how many functions were proved of each crate, what was tested, what is trusted
 #   THIRD-PARTY.txt                         what of others is linked into them, and its licences
@@ -102,6 +102,14 @@ write_proved() {
     echo "libenet's names, their pool of blocks) is tested, not proved."
 }
 
+# Stops unless the program tells the version, and where it is proved here the kit, too.
+hold_version() {
+    local told wanted="enet_relay $version ("
+    [ "$mode" = pack ] || wanted="enet_relay $version ($(rt version))"
+    told=$("$program" --version) || stop "$program doesn't tell its version"
+    [[ $told == "$wanted"* ]] || stop "$program tells '$told' where '$wanted' is wanted: crates/enet_console/src/versions.rt"
+}
+
 # The archive, whose one folder is named as it is.
 pack_archive() {
     local name=gofnjerta-$version-linux-x86_64 there
@@ -113,7 +121,7 @@ pack_archive() {
     write_manuals "$there/bin/enet_relay" "$there/share/man/man1"
     install -m 644 deploy/bash/enet_relay "$there/share/bash-completion/completions/"
     write_examples "$there/examples"
-    git archive HEAD deploy docs README.md CHANGELOG.md | tar -xf - -C "$there"
+    git archive HEAD deploy docs tools README.md CHANGELOG.md | tar -xf - -C "$there"
     write_copyright > "$there/COPYRIGHT.txt"
     cp "$room/PROVED.txt" "$room/THIRD-PARTY.txt" "$there/"
     chmod -R u=rwX,go=rX "$there"
@@ -140,6 +148,7 @@ else
     prove
     checked_lines > "$room/checked"
 fi
+hold_version
 write_proved > "$room/PROVED.txt"
 python3 scripts/third-party.py enet_relay enet_c > "$room/THIRD-PARTY.txt"
 pack_archive

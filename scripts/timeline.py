@@ -2,6 +2,8 @@
 """For scripts/check-inspect.sh: captures for `enet_relay inspect --timeline`, and what it must tell of them.
 
     timeline.py capture FILE OUT        makes a capture in pcap format of a file of trials/captured: its datagrams, at its times
+    timeline.py lab SCRIPT OUT          makes one of a lab's script for two hosts and of its answers on standard input: what each puts out, by
+                                        its clock
     timeline.py crowd OUT               makes one of 30 connections, and 600 datagrams of one of them
     timeline.py random SEED OUT         makes one of random datagrams at random times, between few addresses
     timeline.py check CAPTURE WORDS SVG reads a capture by itself, and compares the summary and the picture with what it finds
@@ -52,6 +54,18 @@ def captured(path):
         way, payload, _, time = line.split()[:4]
         ends = (client, server) if way == 'c2s' else (server, client)
         yield (1000000000 + 1000 * int(time[2:]), *ends, bytes.fromhex(payload))
+
+
+def put_out(path, answers):
+    ends = {'A': '10.0.0.1:4660', 'B': '10.0.0.2:47001'}
+    clocks = {'A': 0, 'B': 0}
+    lines = [line.split() for line in open(path) if line.strip() and not line.startswith('#')]
+    for words, answer in zip(lines, answers, strict=True):
+        if words[0] == 'tick':
+            clocks[words[1]] += int(words[2])
+        elif words[0] == 'turn' and answer.strip() != 'none':
+            side, other = ('A', 'B') if words[1] == 'A' else ('B', 'A')
+            yield (1000000000 + 1000 * clocks[side], ends[side], ends[other], bytes.fromhex(answer.split()[1]))
 
 
 def connect(identifier):
@@ -250,6 +264,8 @@ def main():
     match sys.argv[1:]:
         case ['capture', path, out]:
             write(out, captured(path))
+        case ['lab', script, out]:
+            write(out, put_out(script, sys.stdin))
         case ['crowd', out]:
             write(out, crowd())
         case ['random', seed, out]:
