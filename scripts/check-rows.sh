@@ -122,6 +122,14 @@ end_service() {
     first=
 }
 
+# Whether the program told its version and a kit, by $1: the version is that of the file VERSION, and the kit's logic the one of `rt version`,
+# where `rt` is there. Kits with one logic prove the same, and may have other names.
+tells_version() {
+    local logic
+    logic=$(rt version 2> /dev/null | sed 's/.* logic/logic/')
+    [[ $1 == "enet_relay $(<VERSION) (rattle-kit-"*" "${logic:-logic *}")" ]]
+}
+
 refused_command_lines() {
     local words
     while IFS= read -r words; do
@@ -178,8 +186,17 @@ no_threads() {
     chmod +x "$room/no-threads"
 }
 
+# Makes a program of the built one to which the system gives no random bytes.
+no_entropy() {
+    echo 'int getentropy(void *bytes, unsigned long count) { return bytes && count ? -1 : 0; }' |
+        cc -std=gnu11 -shared -fPIC -fno-builtin -x c - -o "$room/no-entropy.so" || return 1
+    printf '%s\n' '#!/bin/bash' "LD_PRELOAD=$room/no-entropy.so exec \"\$PROGRAM\" \"\$@\"" > "$room/no-entropy"
+    chmod +x "$room/no-entropy"
+}
+
 services() {
     no_threads
+    no_entropy || fail no-entropy "there is no library without random bytes"
     free_port
     service_line serve-two-turns 0 "$(listening)" 'served 2 received 0 sent 0' serve --port "$port" --turns 2
     service_line serve-no-turn 0 "$(listening)" 'served 0 received 0 sent 0' serve --port "$port" --turns 0 --address 127.0.0.1
@@ -197,6 +214,11 @@ services() {
         serve --port "$port" --turns 2
     PROGRAM=$program program=$room/no-threads service_line serve-in-the-only-thread 0 "$(listening)" 'served 2 received 0 sent 0' \
         serve --port "$port" --turns 2 --threads 1
+    service_line serve-with-no-secret 0 "$(listening)" 'served 2 received 0 sent 0' serve --port "$port" --turns 2 --no-secret
+    PROGRAM=$program program=$room/no-entropy service_line serve-where-there-is-no-secret 1 \
+        'the system gives no secret (getentropy failed); --no-secret serves without one' '' serve --port "$port" --turns 2
+    PROGRAM=$program program=$room/no-entropy service_line serve-with-no-secret-where-there-is-none 0 "$(listening)" \
+        'served 2 received 0 sent 0' serve --port "$port" --turns 2 --no-secret
     start_service --turns 1000000
     service_line port-taken 1 'E14 WireFault: Address already in use (os error 98)' '' serve --port "$port" --turns 2
     service_line no-such-address 1 'E14 WireFault: Cannot assign requested address (os error 99)' '' \
@@ -321,8 +343,12 @@ command_lines() {
     command_line a-word-too-many 2 'bad command line' /dev/null "$room/out" lab frob
     command_line help 0 '' /dev/null "$room/out" --help
     grep -q lab "$room/out" || fail help "it doesn't name the lab"
+    grep -q -- '--version' "$room/out" || fail help "it doesn't name --version"
+    command_line version 0 '' /dev/null "$room/out" --version
+    tells_version "$(<"$room/out")" || fail version "it tells '$(<"$room/out")'"
+    command_line version-of-a-command 2 'bad command line' /dev/null "$room/out" serve --version
     command_line help-of-serve 0 '' /dev/null "$room/out" serve --help
-    grep -q -- '--queue-capacity' "$room/out" && grep -q -- '--threads' "$room/out" && grep -q -- '--control' "$room/out" && grep -q -- '--per-address' "$room/out" && grep -q -- '--metrics' "$room/out" || fail help-of-serve 'an option is missing'
+    grep -q -- '--queue-capacity' "$room/out" && grep -q -- '--threads' "$room/out" && grep -q -- '--no-secret' "$room/out" && grep -q -- '--control' "$room/out" && grep -q -- '--per-address' "$room/out" && grep -q -- '--metrics' "$room/out" || fail help-of-serve 'an option is missing'
     command_line input-that-cannot-be-read 1 'input or output failed' / "$room/out" lab
     command_line output-that-cannot-be-written 1 'input or output failed' "$rows/one-reliable-packet.lab" /dev/full lab
 }
