@@ -2,7 +2,7 @@
 # Runs the built program `enet_relay inspect`: on the datagrams of the files in trials/captured, of which it must tell what
 # inspected.awk derives from the remarks that stand beside them; on lines that are cut short, compressed, unreadable or passed over; and on
 # captures in pcap format that are made here, byte by byte. With `--timeline` it must tell and draw of captures what timeline.py finds in
-# them. The last line is 'N passed, M failed'; the status is 1 where one fails. The
+# them, and mark what stands in the rows of marks.rows. The last line is 'N passed, M failed'; the status is 1 where one fails. The
 # program is the one that `rt ci`, or `rt run` in crates/enet_relay, leaves; another can be named as argument.
 cd "$(dirname "$0")/.." || exit 1
 . scripts/tally.sh
@@ -180,6 +180,13 @@ print(count)
 END
 }
 
+# The rows of what is marked.
+marks() {
+    local wrong
+    wrong=$(python3 scripts/timeline.py marks "$captures/marks.rows" "$program" "$room" 2>&1) && passed=$((passed + $(grep -c '^row ' "$captures/marks.rows"))) \
+        || fail marks "$wrong"
+}
+
 # The picture that README shows is drawn of the script beside it.
 picture_of_readme() {
     local kept=docs/figures/lost-packet
@@ -214,6 +221,8 @@ files() {
     [ $? -eq 1 ] && [ "$(<"$room/err")" = 'input or output failed' ] && passed=$((passed + 1)) || fail unwritable "$(<"$room/err")"
     timeout 60 "$program" inspect one two > "$room/out" 2> "$room/err"
     [ $? -eq 2 ] && [ "$(<"$room/err")" = 'bad command line' ] && passed=$((passed + 1)) || fail two-files "$(<"$room/err")"
+    timeout 60 "$program" inspect one --at UP > "$room/out" 2> "$room/err"
+    [ $? -eq 2 ] && [ "$(<"$room/err")" = 'bad command line' ] && passed=$((passed + 1)) || fail no-end "$(<"$room/err")"
 }
 
 room=$(mktemp -d) || exit 1
@@ -225,6 +234,7 @@ else
     rows
     captures
     timelines
+    marks
     picture_of_readme
     refused_timelines
     files

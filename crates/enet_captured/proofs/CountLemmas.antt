@@ -3,14 +3,7 @@ use Rattle.std.proofs.Common.{◌≡◌, ◌<◌, ◌+◌, ℕ, suc, Bool, true,
 use Rattle.std.proofs.lemmas.Option.{slice_get-get_or}
 use Rattle.enet_codec.specs.declared.address.Addr.{Addr}
 use Rattle.enet_captured.specs.declared.timeline.Connection.{Connection}
-use Rattle.enet_captured.specs.Counts.{count_below}
 use Rattle.enet_captured.specs.Private.Belonging.{IsLast, holds_at, is_between, is_between_at}
-
-pub count_below_yes : (test : ℕ → Bool) (n : ℕ) → test n ≡ true → count_below test (n + 1) ≡ count_below test n + 1
-count_below_yes test n holds = ap (count_below test) (add-one n) ∙ ap (λ (b : Bool). (if b then (count_below test n + 1) else (count_below test n))) holds
-
-pub count_below_no : (test : ℕ → Bool) (n : ℕ) → test n ≡ false → count_below test (n + 1) ≡ count_below test n
-count_below_no test n no_more = ap (count_below test) (add-one n) ∙ ap (λ (b : Bool). (if b then (count_below test n + 1) else (count_below test n))) no_more
 
 -- what the connection at a place says is what is said of the place
 pub at_read : (connections : List Connection) (from to : Addr) (i : ℕ) (d : Connection) → i < length connections

@@ -1,3 +1,6 @@
 pub mod Steps
 pub mod CountLemmas
 pub mod GapLemmas
+pub mod TableLemmas
+pub mod LinkLemmas
+pub mod FateLemmas

@@ -45,7 +45,7 @@ is_same a b = (a.number == b.number) && (a.channel == b.channel)
 
 -- What acknowledges a command that went the other way, where it acknowledges one: by its number, or as the VERIFY_CONNECT to a CONNECT.
 abbrev pub answers_by : Detail → Told → Told → Bool
-answers_by (Received number) a b = (number == b.number) && (a.channel == b.channel)
+answers_by (Received number time) a b = (number == b.number) && (a.channel == b.channel)
 answers_by Nothing a b = same_kind a.kind VerifyConnect && same_kind b.kind Connect
 answers_by (Offered id) a b = same_kind a.kind VerifyConnect && same_kind b.kind Connect
 answers_by (Unreliable n) a b = same_kind a.kind VerifyConnect && same_kind b.kind Connect

@@ -4,3 +4,4 @@ pub mod Readings
 pub mod Timelines
 pub mod Commands
 pub mod Gaps
+pub mod Tables

@@ -2,7 +2,7 @@
 
 ghost use Rattle.std.specs.Prelude.{◌≡◌, ◌≤◌, ◌++◌, List, length, drop, IfOk};
 ghost use Rattle.enet_captured.specs.declared.told.Told.{Told};
-ghost use Rattle.enet_captured.specs.Private.Readings.{Says, SaysRest};
+ghost use Rattle.enet_captured.specs.Private.Readings.{Says, SaysRest, SaysSent};
 
 use crate::told::{Told, told_of};
 use enet_codec::{Stop, read_command, read_header};
@@ -24,6 +24,16 @@ pub(crate) fn read_commands(
         return Ok(Some(Stop::Compressed));
     }
     read_rest(told, datagram, len)
+}
+
+/// The sent time in a datagram's header, if it has one.
+pub(crate) fn sent_in(datagram: &[u8]) -> Option<u16>
+    ensures { SaysSent datagram.now result }
+{
+    match read_header(datagram) {
+        None => None,
+        Some((header, _)) => header.sent,
+    }
 }
 
 // The commands that stand behind the header, which ends at a place.

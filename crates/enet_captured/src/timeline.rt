@@ -2,11 +2,12 @@
 
 ghost use Rattle.std.specs.Prelude.{◌≡◌, ◌++◌, map, OnOk};
 ghost use Rattle.enet_captured.specs.Counts.{same_way};
+ghost use Rattle.enet_captured.specs.Sends.{other_way, way_number};
 ghost use Rattle.enet_captured.specs.Private.Timelines.{mark_of, moment_of};
 
 use crate::connections::{Belonging, connection_for};
 use crate::fault::TimelineFault;
-use crate::reading::read_commands;
+use crate::reading::{read_commands, sent_in};
 use crate::told::{Detail, Kind, Told};
 use enet_codec::{Addr, Stop};
 use enet_text::{Captured, Datagram, Format, datagram_in, is_capture, read_format, read_packet};
@@ -29,6 +30,28 @@ impl Way {
         match (self, other) {
             (Way::Right, Way::Right) | (Way::Left, Way::Left) => true,
             (Way::Right, Way::Left) | (Way::Left, Way::Right) => false,
+        }
+    }
+}
+
+impl Way {
+    /// The other way.
+    pub fn other(self) -> Way
+        ensures { result ≡ other_way self }
+    {
+        match self {
+            Way::Right => Way::Left,
+            Way::Left => Way::Right,
+        }
+    }
+
+    /// Its number in a key.
+    pub(crate) fn number(self) -> u8
+        ensures { result ≡ way_number self }
+    {
+        match self {
+            Way::Right => 0,
+            Way::Left => 1,
         }
     }
 }
@@ -68,6 +91,8 @@ pub struct Mark {
     /// The number of its connection.
     pub connection: usize,
     pub way: Way,
+    /// When its datagram was sent, by the low 16 bits of its sender's clock in milliseconds, if that says so.
+    pub sent: Option<u16>,
     pub told: Told,
 }
 
@@ -177,6 +202,7 @@ fn note(
                 number,
                 connection,
                 way,
+                sent_in(datagram.payload),
                 told.as_slice(),
             )?;
         }
@@ -200,15 +226,17 @@ fn push_marks(
     datagram: u64,
     connection: usize,
     way: Way,
+    sent: Option<u16>,
     told: &[Told],
 ) -> Result<(), AllocError>
-    ensures { OnOk result (marks.new.items ≡ marks.old.items ++ map (mark_of datagram connection way) told.now) }
+    ensures { OnOk result (marks.new.items ≡ marks.old.items ++ map (mark_of datagram connection way sent) told.now) }
 {
     for one in told {
         marks.push(Mark {
             datagram,
             connection,
             way,
+            sent,
             told: *one,
         })?;
     }

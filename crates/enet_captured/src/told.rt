@@ -28,8 +28,8 @@ pub enum Kind {
 #[derive(Clone, Copy)]
 pub enum Detail {
     Nothing,
-    /// The reliable number that is acknowledged.
-    Received(u16),
+    /// The reliable number that is acknowledged, and the sent time of the datagram that had it.
+    Received { number: u16, time: u16 },
     /// The connect id that is offered.
     Offered(u32),
     /// Its place among the unreliable packets of a reliable number.
@@ -113,11 +113,14 @@ pub(crate) fn told_of(command: &Command<'_>) -> Told
         Command::Acknowledge {
             head,
             received_number,
-            ..
+            received_time,
         } => (
             Kind::Acknowledge,
             head,
-            Detail::Received(received_number),
+            Detail::Received {
+                number: received_number,
+                time: received_time,
+            },
             0,
         ),
         Command::Connect { head, offer } => (

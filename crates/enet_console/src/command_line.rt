@@ -73,6 +73,15 @@ pub struct InspectOptions {
     pub file: Option<String>,
     /// The file to draw into; None where the datagrams are told in words.
     pub picture: Option<String>,
+    /// The end of the connections at which the capture was made, if that is known.
+    pub at: Option<End>,
+}
+
+/// An end of a connection, as the picture has it.
+#[derive(Clone, Copy)]
+pub enum End {
+    Left,
+    Right,
 }
 
 /// What the program is to do.
@@ -156,7 +165,8 @@ fn inspect_command<'a>(alloc: Global) -> Result<Command<'a>, AllocError> {
     Command::new(alloc, "inspect")
         .about("Tells in words what datagrams say: a line of hex each, or a capture in pcap format")
         .arg(file(alloc))?
-        .arg(picture(alloc))
+        .arg(picture(alloc))?
+        .arg(at(alloc))
 }
 
 fn serve_command<'a>(alloc: Global) -> Result<Command<'a>, AllocError> {
@@ -192,6 +202,12 @@ fn file<'a>(alloc: Global) -> Arg<'a> {
 fn picture<'a>(alloc: Global) -> Arg<'a> {
     Arg::new(alloc, "timeline").long("timeline").help(
         "Draw a capture's connections into this file, as an SVG, and tell in words what they hold",
+    )
+}
+
+fn at<'a>(alloc: Global) -> Arg<'a> {
+    Arg::new(alloc, "at").long("at").help(
+        "The end at which the capture was made: LEFT, whence the first datagram came, or RIGHT",
     )
 }
 
@@ -320,7 +336,7 @@ fn task_of(alloc: Global, found: &ArgMatches<'_>) -> Result<Option<Task>, AllocE
     };
     match name {
         "lab" => Ok(Some(Task::Lab)),
-        "inspect" => Ok(Some(Task::Inspect(inspect_options(alloc, found)?))),
+        "inspect" => Ok(inspect_options(alloc, found)?.map(Task::Inspect)),
         "serve" => match read_admission(alloc, found)? {
             Some(admission) => Ok(serve_options(found, admission).map(Task::Serve)),
             None => Ok(None),
@@ -330,11 +346,29 @@ fn task_of(alloc: Global, found: &ArgMatches<'_>) -> Result<Option<Task>, AllocE
     }
 }
 
-fn inspect_options(alloc: Global, found: &ArgMatches<'_>) -> Result<InspectOptions, AllocError> {
-    Ok(InspectOptions {
+// None where an end is neither.
+fn inspect_options(
+    alloc: Global,
+    found: &ArgMatches<'_>,
+) -> Result<Option<InspectOptions>, AllocError> {
+    let Some(at) = end_of(found.get_str("at")) else {
+        return Ok(None);
+    };
+    Ok(Some(InspectOptions {
         file: word_named(alloc, found, "file")?,
         picture: word_named(alloc, found, "timeline")?,
-    })
+        at,
+    }))
+}
+
+// Some(None) where it wasn't said.
+fn end_of(word: Option<&str>) -> Option<Option<End>> {
+    match word {
+        None => Some(None),
+        Some("LEFT" | "left") => Some(Some(End::Left)),
+        Some("RIGHT" | "right") => Some(Some(End::Right)),
+        Some(_) => None,
+    }
 }
 
 fn word_named(

@@ -21,7 +21,7 @@ mod word;
 
 pub use admission::Admission;
 pub use command_line::{
-    DemoOptions, InspectOptions, Length, ServeOptions, ServerThreads, Task, Unread, read_task,
+    DemoOptions, End, InspectOptions, Length, ServeOptions, ServerThreads, Task, Unread, read_task,
 };
 pub use control::Control;
 pub use outlet::{Outlet, Stream};

@@ -1,7 +1,8 @@
 //! What `inspect --timeline` draws.
 
 use crate::failure::Failure;
-use enet_captured::read_timeline;
+use enet_captured::{Way, read_timeline};
+use enet_console::End;
 use enet_text::InspectFault;
 use enet_timeline::{draw, summarize};
 use std::io::{ErrorKind, Read, Write};
@@ -10,14 +11,20 @@ use std::{fs, io};
 
 /// Draws the capture of a file, or of standard input, into the file that `picture` names, and tells on standard output what it holds. One that
 /// is cut short is drawn up to there.
-pub fn draw_capture<R>(rt: &R, file: Option<String>, picture: &str) -> Result<(), Failure>
+pub fn draw_capture<R>(
+    rt: &R,
+    file: Option<String>,
+    picture: &str,
+    at: Option<End>,
+) -> Result<(), Failure>
 where
     R: Files + Input + Print + AllocGlobal,
 {
     let input = read_input(rt, file)?;
     let timeline = read_timeline(rt.alloc(), input.as_slice()).map_err(Failure::Timeline)?;
-    let words = summarize(rt.alloc(), &timeline)?;
-    let drawn = draw(rt.alloc(), &timeline)?;
+    let at = at.map(way_to);
+    let words = summarize(rt.alloc(), &timeline, at)?;
+    let drawn = draw(rt.alloc(), &timeline, at)?;
     fs::write(rt, picture, drawn.as_str()).map_err(Failure::File)?;
     write_words(rt, words.as_str())?;
     if timeline.is_cut {
@@ -25,6 +32,14 @@ where
         return Err(Failure::Inspect(InspectFault::CutShort(packets)));
     }
     Ok(())
+}
+
+// The way that leads to an end.
+fn way_to(end: End) -> Way {
+    match end {
+        End::Left => Way::Left,
+        End::Right => Way::Right,
+    }
 }
 
 fn read_input<R>(rt: &R, file: Option<String>) -> Result<Vec<u8>, Failure>

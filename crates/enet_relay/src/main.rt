@@ -52,9 +52,9 @@ where
         Task::Lab => {
             lab(rt.alloc(), &mut rt.reader(), &mut io::writer(rt)).map_err(Failure::Lab)?;
         }
-        Task::Inspect(InspectOptions { file, picture }) => match picture {
+        Task::Inspect(InspectOptions { file, picture, at }) => match picture {
             None => inspect_input(rt, file)?,
-            Some(picture) => draw_capture(rt, file, picture.as_str())?,
+            Some(picture) => draw_capture(rt, file, picture.as_str(), at)?,
         },
         Task::Serve(options) => serve(rt, options)?,
         Task::Demo(options) => {

@@ -1,5 +1,5 @@
 -- What a summary says: of the whole, and of one connection after another.
-use Rattle.std.specs.Prelude.{◌≡◌, ◌-◌, ◌/◌, ◌%◌, ◌==◌, ℕ, zero, suc, nat_lt, Bool, if◌then◌else◌, List, [], ◌∷◌, ◌++◌, length, vec_len, slice_get, count_by, codes, Option, Some, None}
+use Rattle.std.specs.Prelude.{◌≡◌, ◌-◌, ◌/◌, ◌%◌, ◌==◌, ℕ, zero, suc, nat_lt, Bool, if◌then◌else◌, List, [], ◌∷◌, ◌++◌, length, vec_len, slice_get, count_by, codes, map, Option, Some, None}
 use Rattle.std.specs.Fmt.{decimal}
 use Rattle.std.specs.Int.{to_be_bytes, w32}
 use Rattle.std.specs.List.{flat_map}
@@ -9,13 +9,17 @@ use Rattle.enet_codec.specs.Stop.{stop_label}
 use Rattle.enet_text.specs.Texts.{address_text, bytes_text}
 use Rattle.enet_captured.specs.declared.told.Kind.{Kind}
 use Rattle.enet_captured.specs.declared.told.Kind.TheVariants.{Acknowledge, Connect, VerifyConnect, Disconnect, Ping, SendReliable, SendUnreliable, SendFragment, SendUnsequenced, BandwidthLimit, ThrottleConfigure, SendUnreliableFragment}
+use Rattle.enet_captured.specs.declared.timeline.Way.{Way}
 use Rattle.enet_captured.specs.declared.timeline.Way.TheVariants.{Right, Left}
+use Rattle.enet_captured.specs.declared.fates.Marked.{Marked}
+use Rattle.enet_captured.specs.declared.fates.Outcome.TheVariants.{Acknowledged, NoneSeen, Open}
+use Rattle.enet_captured.specs.Fates.{has_ended, marked_as, was_early, was_in_vain, was_resent}
 use Rattle.enet_captured.specs.declared.timeline.Seen.{Seen}
 use Rattle.enet_captured.specs.declared.timeline.Mark.{Mark}
 use Rattle.enet_captured.specs.declared.timeline.Timeline.{Timeline}
 use Rattle.enet_captured.specs.declared.part.Part.{Part}
 use Rattle.enet_captured.specs.Commands.{name_of, same_kind}
-use Rattle.enet_captured.specs.Counts.{same_way, is_stopped_by, resends}
+use Rattle.enet_captured.specs.Counts.{same_way, is_stopped_by}
 use Rattle.enet_captured.specs.Gaps.{IsLongest}
 use Rattle.enet_captured.specs.Parts.{IsPart}
 
@@ -107,16 +111,46 @@ commands_text marks =
     all_text (length marks) ++ flat_map (kind_text marks) plain_kinds ++ codes "\n  packets:"
     ++ flat_map (kind_text marks) packet_kinds ++ codes "\n"
 
--- What went again, and what nobody acknowledged.
-unfoldable pub resends_text : List Mark → List Mark → List ℕ
-resends_text to_right to_left =
-    codes "  sent again: " ++ decimal (resends to_right) ++ codes " to the right, " ++ decimal (resends to_left) ++ codes " to the left; "
+-- What became of the datagrams that go one way: how many were acknowledged, how many were sent again without an acknowledgement that was
+-- seen, how many neither; how many repeat a command, and how many of these came too early.
+unfoldable pub ended_text : List ℕ → ℕ → ℕ → ℕ → List ℕ
+ended_text name acknowledged unseen left_open =
+    codes "  to the " ++ name ++ codes ": acknowledged " ++ decimal acknowledged ++ codes "; no acknowledgement seen " ++ decimal unseen
+    ++ codes "; not acknowledged and not sent again " ++ decimal left_open ++ codes "; "
 
-unfoldable pub unanswered_text : ℕ → ℕ → List ℕ
-unanswered_text right left = codes "not acknowledged: " ++ decimal right ++ codes " to the right, " ++ decimal left ++ codes " to the left\n"
+unfoldable pub resent_text : ℕ → ℕ → List ℕ
+resent_text resent early = codes "sent again " ++ decimal resent ++ codes ", too early " ++ decimal early ++ codes "\n"
 
-abbrev pub again_text : Part → ℕ → ℕ → List ℕ
-again_text p right left = resends_text p.to_right.items p.to_left.items ++ unanswered_text right left
+unfoldable pub outcomes_text : List ℕ → Way → List Marked → List ℕ
+outcomes_text name way marked =
+    ended_text name (count_by (has_ended way Acknowledged) marked) (count_by (has_ended way NoneSeen) marked) (count_by (has_ended way Open) marked)
+    ++ resent_text (count_by (was_resent way) marked) (count_by (was_early way) marked)
+
+-- How many acknowledge what is sent again all the same, where any do, and why that may be: what leads to the end at which the capture was
+-- made had arrived there.
+abbrev pub way_name : Way → List ℕ
+way_name Right = codes "right"
+way_name Left = codes "left"
+
+abbrev pub vain_words : Option Way → Way → List ℕ
+vain_words None way = codes "lost or late behind this point, or not yet read"
+vain_words (Some end) way = if same_way end way then codes "had arrived, not read in time" else codes "lost or late"
+
+unfoldable pub vain_line : ℕ → List ℕ → List ℕ → List ℕ
+vain_line count name words =
+    codes "  " ++ decimal count ++ codes " to the " ++ name ++ codes " acknowledge what is sent again all the same: " ++ words ++ codes "\n"
+
+unfoldable pub vain_text : Option Way → Way → ℕ → List ℕ
+vain_text at way count = if count == 0 then [] else vain_line count (way_name way) (vain_words at way)
+
+unfoldable pub fates_text : Option Way → List Marked → List ℕ
+fates_text at marked =
+    outcomes_text (codes "right") Right marked ++ outcomes_text (codes "left") Left marked
+    ++ vain_text at Right (count_by (was_in_vain Right) marked) ++ vain_text at Left (count_by (was_in_vain Left) marked)
+
+-- The datagrams of a connection, with what became of them.
+abbrev pub marked_in : Part → List Marked
+marked_in part = map (marked_as part.marks.items) part.seen.items
 
 -- A longest gap between two datagrams, and the later one: of gaps that are as long, any.
 unfoldable pub before_text : ℕ → List ℕ
@@ -132,22 +166,20 @@ gap_text (Some gap) = longest_text gap.0 gap.1
 unfoldable pub first_datagrams_text : ℕ → List ℕ
 first_datagrams_text datagrams = if nat_lt 500 datagrams then (codes "  drawn are the first " ++ decimal 500 ++ codes " datagrams\n") else []
 
--- The text of a connection. How many commands aren't acknowledged is only tested.
-pub record TellsPart (part : Part) (text : List ℕ) : Type 0 where
-  pub right : ℕ
-  pub left : ℕ
+-- The text of a connection.
+pub record TellsPart (part : Part) (at : Option Way) (text : List ℕ) : Type 0 where
   pub gap : Option (ℕ × ℕ)
   pub is_longest : IsLongest part.seen.items gap
   pub told : text ≡ ends_text part ++ going_text part.seen.items ++ stops_text part.seen.items ++ commands_text part.marks.items
-      ++ again_text part right left ++ gap_text gap ++ first_datagrams_text (vec_len part.seen)
+      ++ fates_text at (marked_in part) ++ gap_text gap ++ first_datagrams_text (vec_len part.seen)
 
 -- The texts of so many connections, one behind another.
-unfoldable pub TellsParts : Timeline → ℕ → List ℕ → Type 0
-TellsParts t zero text = text ≡ []
-TellsParts t (suc n) text =
-    (before last : List ℕ) × (part : Part) × (text ≡ before ++ last) × TellsParts t n before × IsPart t n part × TellsPart part last
+unfoldable pub TellsParts : Timeline → Option Way → ℕ → List ℕ → Type 0
+TellsParts t at zero text = text ≡ []
+TellsParts t at (suc n) text =
+    (before last : List ℕ) × (part : Part) × (text ≡ before ++ last) × TellsParts t at n before × IsPart t n part × TellsPart part at last
 
-pub record Summarizes (t : Timeline) (text : List ℕ) : Type 0 where
+pub record Summarizes (t : Timeline) (at : Option Way) (text : List ℕ) : Type 0 where
   pub parts : List ℕ
   pub told : text ≡ whole_text t ++ parts
-  pub each : TellsParts t (length t.connections.items) parts
+  pub each : TellsParts t at (length t.connections.items) parts

@@ -6,13 +6,14 @@ ghost use Rattle.std.specs.String.{string_bytes};
 ghost use Rattle.enet_timeline.specs.Pictures.{opening_text, ground_text, lines_text, IsPicture};
 
 use crate::element::{
-    push_cross, push_left_head, push_line, push_right_head, push_title, push_words,
+    push_cross, push_diamond, push_left_head, push_line, push_right_head, push_ring, push_title,
+    push_words,
 };
 use crate::labels::{label, push_seconds, title};
 use crate::places::{LEFT, PAGE, RIGHT, is_long, step_of};
 use crate::queue::{Waiting, follow, push_left_over};
-use crate::summary::{push_part, push_whole};
-use enet_captured::{Kind, Mark, Part, Seen, Timeline, Way, goes_again, part_of, went_before};
+use crate::summary::{push_part, push_whole, vain_words};
+use enet_captured::{Kind, Mark, Marked, Outcome, Part, Seen, Timeline, Way, mark_all, part_of};
 use enet_text::address_text;
 use std::alloc::{AllocError, Global};
 
@@ -33,24 +34,15 @@ struct Pen {
     /// When the capture's first datagram was captured.
     begun: u64,
     queue: Vec<Waiting>,
-    /// The next command, the next to the right that asks for an acknowledgement, and the next to the left.
+    /// The next command.
     next: usize,
-    right: usize,
-    left: usize,
+    /// The way that leads to the end at which the capture was made, if that is known.
+    at: Option<Way>,
 }
 
-/// How an arrow looks.
-#[derive(Clone, Copy)]
-struct Look {
-    class: &'static str,
-    /// Whether a command of it went before.
-    is_again: bool,
-    /// Whether one goes again.
-    is_lost: bool,
-}
-
-/// Draws a timeline as an SVG. An error where there is no memory for it.
-pub fn draw(alloc: Global, timeline: &Timeline) -> Result<String, AllocError>
+/// Draws a timeline as an SVG. The way leads to the end at which the capture was made, if that is known. An error where there is no memory for
+/// it.
+pub fn draw(alloc: Global, timeline: &Timeline, at: Option<Way>) -> Result<String, AllocError>
     ensures { IfOk result (λ text. IsPicture timeline.now (string_bytes text)) }
 {
     let mut summary = String::new(alloc);
@@ -63,8 +55,7 @@ pub fn draw(alloc: Global, timeline: &Timeline) -> Result<String, AllocError>
         begun: timeline.seen.first().map_or(0, |seen| seen.at),
         queue: Vec::new(alloc),
         next: 0,
-        right: 0,
-        left: 0,
+        at,
     };
     push_legend(&mut pen)?;
     for index in 0..timeline.connections.len().min(CONNECTIONS) {
@@ -131,11 +122,13 @@ path{fill:none;stroke:#333;stroke-width:1.3}
 .late{stroke:#e58a1f}
 .open{stroke:#d33;stroke-dasharray:4 2}
 .dot{fill:#e58a1f;stroke:#fff}
-.cross{stroke:#d11;stroke-width:2}
+.cross{fill:#fff;stroke:#d11;stroke-width:1.2}
+.early{fill:#e58a1f;stroke:#fff;stroke-width:1}
+.vain{fill:#fff;stroke:#e58a1f;stroke-width:2}
+.twice{stroke-dasharray:2 3}
 .rule{stroke:#ddd}
 .again{stroke-width:2.2}
 text.again{fill:#b85c00;font-weight:bold}
-.lost{stroke-dasharray:2 3}
 .data{stroke:#1f5fbf}.data.head{fill:#1f5fbf}
 .plain{stroke:#2a9d5c}.plain.head{fill:#2a9d5c}
 .control{stroke:#7a3fb0}.control.head{fill:#7a3fb0}
@@ -164,28 +157,23 @@ fn push_lines(text: &mut String, top: u64, words: &str) -> Result<u64, AllocErro
 }
 
 /// What the looks of arrows say: where each stands, its class and its words.
-const LEGEND: [(u64, &str, &str); 7] = [
+const LEGEND: [(u64, &str, &str); 8] = [
     (16, "data", "reliable"),
     (120, "plain", "unreliable, unsequenced"),
     (306, "control", "connection"),
     (414, "ping", "ping"),
     (484, "ack", "acknowledgements"),
     (640, "unread", "can't be read"),
-    (758, "data again", "sent again"),
+    (768, "data again", "sent again"),
+    (880, "data twice", "the same datagram, seen before"),
 ];
 
-// What the looks of arrows say.
+// What the looks of arrows and the marks on them say.
 fn push_legend(pen: &mut Pen) -> Result<(), AllocError> {
     let y = pen.y.saturating_add(4);
     push_samples(&mut pen.text, y)?;
-    push_cross(&mut pen.text, "cross", 870, y)?;
-    push_words(
-        &mut pen.text,
-        "sum",
-        880,
-        y.saturating_add(4),
-        "goes again later: lost, or its acknowledgement",
-    )?;
+    let y = y.saturating_add(17);
+    push_mark_samples(&mut pen.text, y)?;
     pen.y = y.saturating_add(20);
     push_summary(pen, HELP)
 }
@@ -197,9 +185,28 @@ fn push_samples(text: &mut String, y: u64) -> Result<(), AllocError> {
     Ok(())
 }
 
+fn push_mark_samples(text: &mut String, y: u64) -> Result<(), AllocError> {
+    let base = y.saturating_add(4);
+    push_cross(text, "cross", 24, y)?;
+    push_words(text, "sum", 36, base, NONE_SEEN)?;
+    push_diamond(text, "early", 216, y)?;
+    push_words(text, "sum", 228, base, TOO_EARLY)?;
+    push_ring(text, "vain", 368, y)?;
+    push_words(text, "sum", 380, base, IN_VAIN)
+}
+
+/// What the marks say.
+const NONE_SEEN: &str = "no acknowledgement seen";
+
+const TOO_EARLY: &str = "sent again too early";
+
+const IN_VAIN: &str =
+    "what it acknowledges was sent again all the same: lost or late behind this point, or not yet read";
+
 const HELP: &str =
     "Time runs down, in seconds since the first datagram; a pause is cut short where its length stands. At an arrow: what its commands are, channel:number (bytes).
-Beside each end: the reliable numbers it sent (c is the channel of the connection itself), each from its sending to its acknowledgement: orange went again, red is never acknowledged.
+Beside each end: the reliable numbers it sent (c is the channel of the connection itself), each from its sending to its acknowledgement: orange went again, of red no acknowledgement was seen.
+No acknowledgement seen, and sent again: it was lost, refused, or its acknowledgement was lost on the far side of the capture. Whatever isn't sent again has no mark.
 ";
 
 fn push_sample(
@@ -229,8 +236,6 @@ fn draw_part(alloc: Global, pen: &mut Pen, part: &Part) -> Result<(), AllocError
     let top = pen.y;
     pen.queue.clear();
     pen.next = 0;
-    pen.right = 0;
-    pen.left = 0;
     draw_datagrams(alloc, pen, part)?;
     pen.y = pen.y.saturating_add(14);
     push_left_over(&mut pen.text, pen.queue.as_slice(), pen.y)?;
@@ -240,7 +245,7 @@ fn draw_part(alloc: Global, pen: &mut Pen, part: &Part) -> Result<(), AllocError
 
 fn push_part_summary(alloc: Global, pen: &mut Pen, part: &Part) -> Result<(), AllocError> {
     let mut summary = String::new(alloc);
-    push_part(alloc, &mut summary, part)?;
+    push_part(alloc, &mut summary, part, pen.at)?;
     push_summary(pen, summary.as_str())
 }
 
@@ -256,13 +261,14 @@ fn push_end_names(alloc: Global, pen: &mut Pen, part: &Part) -> Result<(), Alloc
 
 // The datagrams of a connection.
 fn draw_datagrams(alloc: Global, pen: &mut Pen, part: &Part) -> Result<(), AllocError> {
+    let marked = mark_all(alloc, part.seen.as_slice(), part.marks.as_slice())?;
     let mut before: Option<u64> = None;
-    for seen in part.seen.iter().take(DATAGRAMS) {
-        let gap = seen.at.saturating_sub(before.unwrap_or(seen.at));
-        before = Some(seen.at);
+    for one in marked.iter().take(DATAGRAMS) {
+        let gap = one.seen.at.saturating_sub(before.unwrap_or(one.seen.at));
+        before = Some(one.seen.at);
         push_pause(alloc, pen, gap)?;
         pen.y = pen.y.saturating_add(step_of(gap));
-        draw_seen(alloc, pen, part, seen)?;
+        draw_seen(alloc, pen, part, one)?;
     }
     Ok(())
 }
@@ -285,15 +291,14 @@ fn push_pause(alloc: Global, pen: &mut Pen, gap: u64) -> Result<(), AllocError> 
 }
 
 // A datagram, with what it does to what waits.
-fn draw_seen(alloc: Global, pen: &mut Pen, part: &Part, seen: &Seen) -> Result<(), AllocError> {
+fn draw_seen(alloc: Global, pen: &mut Pen, part: &Part, one: &Marked) -> Result<(), AllocError> {
     let marks = part.marks.as_slice();
     let first = pen.next.min(marks.len());
-    let count = count_in(&marks[first..], seen.number);
+    let count = count_in(&marks[first..], one.seen.number);
     let marks = marks.get(first..first.saturating_add(count)).unwrap_or(&[]);
     pen.next = first.saturating_add(count);
-    let look = look_of(pen, part, seen, marks);
-    push_moment(alloc, pen, seen)?;
-    push_arrow(alloc, pen, seen, marks, look)?;
+    push_moment(alloc, pen, &one.seen)?;
+    push_arrow(alloc, pen, one, marks)?;
     for mark in marks.iter().take(COMMANDS) {
         follow(alloc, &mut pen.text, &mut pen.queue, mark, pen.y)?;
     }
@@ -306,42 +311,6 @@ fn count_in(marks: &[Mark], datagram: u64) -> usize {
         .iter()
         .take_while(|mark| mark.datagram == datagram)
         .count()
-}
-
-// How the arrow of a datagram looks, and past its commands.
-fn look_of(pen: &mut Pen, part: &Part, seen: &Seen, marks: &[Mark]) -> Look {
-    let mut look = Look {
-        class: class_of(seen, marks),
-        is_again: false,
-        is_lost: false,
-    };
-    for mark in marks {
-        if mark.told.asks {
-            look = match mark.way {
-                Way::Right => look_with(look, part.to_right.as_slice(), pen.right),
-                Way::Left => look_with(look, part.to_left.as_slice(), pen.left),
-            };
-            step_past(pen, mark.way);
-        }
-    }
-    look
-}
-
-// The look with what the command at a place adds.
-fn look_with(look: Look, sent: &[Mark], place: usize) -> Look {
-    Look {
-        class: look.class,
-        is_again: look.is_again || went_before(sent, place),
-        is_lost: look.is_lost || goes_again(sent, place),
-    }
-}
-
-// Past a command that asks for an acknowledgement.
-fn step_past(pen: &mut Pen, way: Way) {
-    match way {
-        Way::Right => pen.right = pen.right.saturating_add(1),
-        Way::Left => pen.left = pen.left.saturating_add(1),
-    }
 }
 
 // The class of the most telling command.
@@ -395,57 +364,109 @@ fn push_moment(alloc: Global, pen: &mut Pen, seen: &Seen) -> Result<(), AllocErr
     )
 }
 
-// The arrow of a datagram, with its words.
+// The arrow of a datagram, with its words and marks.
 fn push_arrow(
     alloc: Global,
     pen: &mut Pen,
-    seen: &Seen,
+    one: &Marked,
     marks: &[Mark],
-    look: Look,
 ) -> Result<(), AllocError> {
-    let words = label(alloc, seen, marks)?;
-    let more = title(alloc, seen, marks)?;
-    let line = if look.is_again { "again " } else { "" };
-    let class = look.class;
+    let seen = one.seen;
+    let words = label(alloc, &seen, marks)?;
+    let mut more = title(alloc, &seen, marks)?;
+    push_reasons(&mut more, one, pen.at)?;
+    let line = line_class(one);
+    let class = class_of(&seen, marks);
     let class = format!(in alloc; "{line}{class}")?;
     let text = &mut pen.text;
     text.push_str("<g>")?;
     push_title(text, more.as_str())?;
-    push_shaft(text, class.as_str(), seen.way, look, pen.y)?;
-    let side = match (seen.way, look.is_again) {
-        (Way::Right, false) => "",
-        (Way::Right, true) => "again",
-        (Way::Left, false) => "to",
-        (Way::Left, true) => "to again",
-    };
+    push_shaft(text, class.as_str(), seen.way, pen.y)?;
+    push_marks(text, one, pen.y)?;
     let x = match seen.way {
         Way::Right => LEFT + 10,
         Way::Left => RIGHT - 10,
     };
-    push_words(text, side, x, pen.y.saturating_sub(4), words.as_str())?;
+    push_words(
+        text,
+        words_class(one),
+        x,
+        pen.y.saturating_sub(4),
+        words.as_str(),
+    )?;
     text.push_str("</g>\n")?;
     Ok(())
 }
 
-// The line of an arrow, and its head. One that is lost has a cross.
-fn push_shaft(
-    text: &mut String,
-    class: &str,
-    way: Way,
-    look: Look,
-    y: u64,
-) -> Result<(), AllocError> {
+// How the line of a datagram differs from others of its class.
+fn line_class(one: &Marked) -> &'static str {
+    match (one.fate.went_before, one.fate.was_seen) {
+        (true, _) => "again ",
+        (false, true) => "twice ",
+        (false, false) => "",
+    }
+}
+
+fn words_class(one: &Marked) -> &'static str {
+    match (one.seen.way, one.fate.went_before) {
+        (Way::Right, false) => "",
+        (Way::Right, true) => "again",
+        (Way::Left, false) => "to",
+        (Way::Left, true) => "to again",
+    }
+}
+
+// The line of an arrow, and its head.
+fn push_shaft(text: &mut String, class: &str, way: Way, y: u64) -> Result<(), AllocError> {
     push_line(text, class, (LEFT, y), (RIGHT, y))?;
     match way {
-        Way::Right => push_right_head(text, class, RIGHT, y)?,
-        Way::Left => push_left_head(text, class, LEFT, y)?,
+        Way::Right => push_right_head(text, class, RIGHT, y),
+        Way::Left => push_left_head(text, class, LEFT, y),
     }
-    if look.is_lost {
-        let x = match way {
-            Way::Right => RIGHT - 40,
-            Way::Left => LEFT + 40,
-        };
-        push_cross(text, "cross", x, y)?;
+}
+
+// The marks of a datagram, near its arrow's head.
+fn push_marks(text: &mut String, one: &Marked, y: u64) -> Result<(), AllocError> {
+    let way = one.seen.way;
+    if one.fate.outcome().is(Outcome::NoneSeen) {
+        push_cross(text, "cross", behind_head(way, 40), y)?;
+    }
+    if one.fate.is_early {
+        push_diamond(text, "early", behind_head(way, 22), y)?;
+    }
+    if one.fate.is_in_vain {
+        push_ring(text, "vain", behind_head(way, 58), y)?;
+    }
+    Ok(())
+}
+
+// So far behind the head of an arrow.
+fn behind_head(way: Way, far: u64) -> u64 {
+    match way {
+        Way::Right => RIGHT.saturating_sub(far),
+        Way::Left => LEFT.saturating_add(far),
+    }
+}
+
+// What the marks of a datagram say, a line each.
+fn push_reasons(text: &mut String, one: &Marked, at: Option<Way>) -> Result<(), AllocError> {
+    if one.fate.outcome().is(Outcome::NoneSeen) {
+        text.push_str("\n")?;
+        text.push_str(NONE_SEEN)?;
+    }
+    if one.fate.is_early {
+        text.push_str("\n")?;
+        text.push_str(TOO_EARLY)?;
+    }
+    if one.fate.is_in_vain {
+        let words = vain_words(at, one.seen.way);
+        write!(
+            text,
+            "\nwhat it acknowledges was sent again all the same: {words}"
+        )?;
+    }
+    if one.fate.was_seen {
+        text.push_str("\nthe same datagram, seen before")?;
     }
     Ok(())
 }

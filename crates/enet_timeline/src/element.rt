@@ -48,11 +48,32 @@ pub(crate) fn push_left_head(
     )
 }
 
-/// A cross whose middle is there.
+/// A hollow cross whose middle is there.
 pub(crate) fn push_cross(text: &mut String, class: &str, x: u64, y: u64) -> Result<(), AllocError> {
     write!(
         text,
-        "<path class=\"{class}\" d=\"M{x} {y}m-5 -5l10 10m0 -10l-10 10\"/>\n"
+        "<path class=\"{class}\" d=\"M{x} {y}m-6 -4l2 -2l4 4l4 -4l2 2l-4 4l4 4l-2 2l-4 -4l-4 4l-2 -2l4 -4z\"/>\n"
+    )
+}
+
+/// A diamond whose middle is there.
+pub(crate) fn push_diamond(
+    text: &mut String,
+    class: &str,
+    x: u64,
+    y: u64,
+) -> Result<(), AllocError> {
+    write!(
+        text,
+        "<path class=\"{class}\" d=\"M{x} {y}m-6 0l6 -6l6 6l-6 6z\"/>\n"
+    )
+}
+
+/// A ring whose middle is there.
+pub(crate) fn push_ring(text: &mut String, class: &str, x: u64, y: u64) -> Result<(), AllocError> {
+    write!(
+        text,
+        "<circle class=\"{class}\" cx=\"{x}\" cy=\"{y}\" r=\"5\"/>\n"
     )
 }
 

@@ -83,7 +83,10 @@ fn short_name(kind: Kind) -> &'static str {
 fn push_number(text: &mut String, told: Told) -> Result<(), AllocError> {
     let number = told.number;
     match told.detail {
-        Detail::Received(received) => write!(text, "{received}"),
+        Detail::Received {
+            number: received,
+            ..
+        } => write!(text, "{received}"),
         Detail::Nothing | Detail::Offered(_) => write!(text, "{number}"),
         Detail::Unreliable(place) => write!(text, "{number}.{place}"),
         Detail::Group(group) => write!(text, "g{group}"),
@@ -133,7 +136,10 @@ fn push_long(text: &mut String, told: Told) -> Result<(), AllocError> {
 fn push_detail(text: &mut String, detail: Detail) -> Result<(), AllocError> {
     match detail {
         Detail::Nothing => Ok(()),
-        Detail::Received(received) => write!(text, " received_number {received}"),
+        Detail::Received {
+            number: received,
+            time,
+        } => write!(text, " received_number {received} received_time {time}"),
         Detail::Offered(id) => write!(text, " connect_id {id:08x}"),
         Detail::Unreliable(place) => write!(text, " unreliable {place}"),
         Detail::Group(group) => write!(text, " group {group}"),

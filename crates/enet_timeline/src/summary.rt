@@ -3,13 +3,13 @@
 ghost use Rattle.std.specs.Prelude.{◌≡◌, ◌++◌, ℕ, List, Option, length, codes, IfOk, OnOk};
 ghost use Rattle.std.specs.List.{flat_map};
 ghost use Rattle.std.specs.String.{string_bytes};
-ghost use Rattle.enet_timeline.specs.Summaries.{counts_text, unkept_text, cut_text, first_connections_text, whole_text, names_text, id_text, began_text, ends_text, ways_text, going_text, lasting, unread_text, stopped_text, stops_text, counted_text, kind_text, all_text, commands_text, resends_text, unanswered_text, again_text, before_text, longest_text, gap_text, first_datagrams_text, TellsPart, Summarizes};
+ghost use Rattle.enet_timeline.specs.Summaries.{counts_text, unkept_text, cut_text, first_connections_text, whole_text, names_text, id_text, began_text, ends_text, ways_text, going_text, lasting, unread_text, stopped_text, stops_text, counted_text, kind_text, all_text, commands_text, outcomes_text, ended_text, resent_text, way_name, vain_words, vain_text, vain_line, fates_text, marked_in, before_text, longest_text, gap_text, first_datagrams_text, TellsPart, Summarizes};
 
 use crate::drawing::{CONNECTIONS, DATAGRAMS};
 use crate::labels::push_seconds;
 use enet_captured::{
-    Kind, Mark, Part, Seen, Timeline, Way, count_of, going, longest_gap, part_of, resends,
-    stopped_by, unanswered,
+    Kind, Mark, Marked, Outcome, Part, Seen, Timeline, Way, count_of, early, ended, going, in_vain,
+    longest_gap, mark_all, part_of, resent, stopped_by,
 };
 use enet_codec::Stop;
 use enet_text::{address_text, bytes_text};
@@ -34,15 +34,16 @@ const PACKETS: [Kind; 5] = [
     Kind::SendUnsequenced,
 ];
 
-/// What a timeline holds, in words: how much of everything, and of each connection the same. An error where there is no memory for it.
-pub fn summarize(alloc: Global, timeline: &Timeline) -> Result<String, AllocError>
-    ensures { IfOk result (λ text. Summarizes timeline.now (string_bytes text)) }
+/// What a timeline holds, in words: how much of everything, and of each connection the same. The way leads to the end at which the capture was
+/// made, if that is known. An error where there is no memory for it.
+pub fn summarize(alloc: Global, timeline: &Timeline, at: Option<Way>) -> Result<String, AllocError>
+    ensures { IfOk result (λ text. Summarizes timeline.now at (string_bytes text)) }
 {
     let mut text = String::new(alloc);
     push_whole(&mut text, timeline)?;
     for index in 0..timeline.connections.len() {
         let part = part_of(alloc, timeline, index)?;
-        push_part(alloc, &mut text, &part)?;
+        push_part(alloc, &mut text, &part, at)?;
     }
     Ok(text)
 }
@@ -105,14 +106,19 @@ fn push_first_connections(text: &mut String, connections: usize) -> Result<(), A
 }
 
 /// The lines of a connection.
-pub(crate) fn push_part(alloc: Global, text: &mut String, part: &Part) -> Result<(), AllocError>
-    ensures { OnOk result ((told : List ℕ) × (string_bytes text.new ≡ string_bytes text.old ++ told) × TellsPart part.now told) }
+pub(crate) fn push_part(
+    alloc: Global,
+    text: &mut String,
+    part: &Part,
+    at: Option<Way>,
+) -> Result<(), AllocError>
+    ensures { OnOk result ((told : List ℕ) × (string_bytes text.new ≡ string_bytes text.old ++ told) × TellsPart part.now at told) }
 {
     push_ends(alloc, text, part)?;
     push_datagrams(text, part.seen.as_slice())?;
     push_stops(text, part.seen.as_slice())?;
     push_commands(text, part.marks.as_slice())?;
-    push_again(text, part)?;
+    push_part_fates(alloc, text, part, at)?;
     push_gap(text, longest_gap(part.seen.as_slice()))?;
     push_first_datagrams(text, part.seen.len())?;
     Ok(())
@@ -262,34 +268,116 @@ fn push_counted(text: &mut String, name: &str, count: usize) -> Result<(), Alloc
     write!(text, " {name} {count}")
 }
 
-fn push_again(text: &mut String, part: &Part) -> Result<(), AllocError>
-    ensures { OnOk result ((right left : ℕ) × (string_bytes text.new ≡ string_bytes text.old ++ again_text part.now right left)) }
+fn push_part_fates(
+    alloc: Global,
+    text: &mut String,
+    part: &Part,
+    at: Option<Way>,
+) -> Result<(), AllocError>
+    ensures { OnOk result (string_bytes text.new ≡ string_bytes text.old ++ fates_text at (marked_in part.now)) }
 {
-    push_resends(text, part.to_right.as_slice(), part.to_left.as_slice())?;
-    let right = unanswered(part.to_right.as_slice(), part.answers_left.as_slice());
-    let left = unanswered(part.to_left.as_slice(), part.answers_right.as_slice());
-    push_unanswered(text, right, left)?;
+    let marked = mark_all(alloc, part.seen.as_slice(), part.marks.as_slice())?;
+    push_fates(text, marked.as_slice(), at)?;
     Ok(())
 }
 
-fn push_resends(text: &mut String, to_right: &[Mark], to_left: &[Mark]) -> Result<(), AllocError>
-    ensures { OnOk result (string_bytes text.new ≡ string_bytes text.old ++ resends_text to_right.now to_left.now) }
+// What became of the datagrams that go one way and the other.
+fn push_fates(text: &mut String, marked: &[Marked], at: Option<Way>) -> Result<(), AllocError>
+    ensures { OnOk result (string_bytes text.new ≡ string_bytes text.old ++ fates_text at marked.now) }
 {
-    let right = resends(to_right);
-    let left = resends(to_left);
+    push_outcomes(text, "right", Way::Right, marked)?;
+    push_outcomes(text, "left", Way::Left, marked)?;
+    push_vain(text, at, Way::Right, in_vain(marked, Way::Right))?;
+    push_vain(text, at, Way::Left, in_vain(marked, Way::Left))?;
+    Ok(())
+}
+
+// What became of those that go one way.
+fn push_outcomes(
+    text: &mut String,
+    name: &str,
+    way: Way,
+    marked: &[Marked],
+) -> Result<(), AllocError>
+    ensures { OnOk result (string_bytes text.new ≡ string_bytes text.old ++ outcomes_text name.now way marked.now) }
+{
+    let acknowledged = ended(marked, way, Outcome::Acknowledged);
+    let unseen = ended(marked, way, Outcome::NoneSeen);
+    let left_open = ended(marked, way, Outcome::Open);
+    push_ended(text, name, acknowledged, unseen, left_open)?;
+    push_resent(text, resent(marked, way), early(marked, way))?;
+    Ok(())
+}
+
+fn push_ended(
+    text: &mut String,
+    name: &str,
+    acknowledged: usize,
+    unseen: usize,
+    left_open: usize,
+) -> Result<(), AllocError>
+    ensures { OnOk result (string_bytes text.new ≡ string_bytes text.old ++ ended_text name.now acknowledged unseen left_open) }
+{
     write!(
         text,
-        "  sent again: {right} to the right, {left} to the left; "
+        "  to the {name}: acknowledged {acknowledged}; no acknowledgement seen {unseen}; not acknowledged and not sent again {left_open}; "
     )
 }
 
-fn push_unanswered(text: &mut String, right: usize, left: usize) -> Result<(), AllocError>
-    ensures { OnOk result (string_bytes text.new ≡ string_bytes text.old ++ unanswered_text right left) }
+fn push_resent(text: &mut String, resent: usize, early: usize) -> Result<(), AllocError>
+    ensures { OnOk result (string_bytes text.new ≡ string_bytes text.old ++ resent_text resent early) }
+{
+    write!(text, "sent again {resent}, too early {early}\n")
+}
+
+// How many that go one way acknowledge what is sent again all the same, where any do.
+fn push_vain(text: &mut String, at: Option<Way>, way: Way, count: usize) -> Result<(), AllocError>
+    ensures { OnOk result (string_bytes text.new ≡ string_bytes text.old ++ vain_text at way count) }
+{
+    if count == 0 {
+        return Ok(());
+    }
+    push_vain_count(text, count, way_name(way), vain_words(at, way))
+}
+
+fn push_vain_count(
+    text: &mut String,
+    count: usize,
+    name: &str,
+    words: &str,
+) -> Result<(), AllocError>
+    ensures { OnOk result (string_bytes text.new ≡ string_bytes text.old ++ vain_line count name.now words.now) }
 {
     write!(
         text,
-        "not acknowledged: {right} to the right, {left} to the left\n"
+        "  {count} to the {name} acknowledge what is sent again all the same: {words}\n"
     )
+}
+
+fn way_name(way: Way) -> &'static str
+    ensures { result.now ≡ way_name way }
+{
+    match way {
+        Way::Right => "right",
+        Way::Left => "left",
+    }
+}
+
+/// Why what was acknowledged is sent again all the same, by the way of the acknowledgement and the end at which the capture was made, if that
+/// is known: an acknowledgement that leads there had arrived.
+pub(crate) fn vain_words(at: Option<Way>, way: Way) -> &'static str
+    ensures { result.now ≡ vain_words at way }
+{
+    match at {
+        None => "lost or late behind this point, or not yet read",
+        Some(end) => {
+            if end.is(way) {
+                "had arrived, not read in time"
+            } else {
+                "lost or late"
+            }
+        }
+    }
 }
 
 fn push_gap(text: &mut String, gap: Option<(u64, u64)>) -> Result<(), AllocError>

@@ -23,7 +23,7 @@ kind_in (send_unreliable_fragment f p) = SendUnreliableFragment
 
 -- What it has beside its number.
 abbrev pub detail_in : Body → Detail
-detail_in (acknowledge n t) = Received n
+detail_in (acknowledge n t) = Received n t
 detail_in (connect o) = Offered o.connect_id
 detail_in (verify_connect v) = Nothing
 detail_in (disconnect i) = Nothing

@@ -33,3 +33,8 @@ pub data Says (bytes : List ℕ) : List Told → Option Stop → Type 0 where
       → Says bytes [] (Some stop.Compressed)
   plain : (h : Header) (front rest : List ℕ) (told : List Told) (why : Option Stop) → bytes ≡ front ++ rest → SpellsHeader front h
       → h.compressed ≡ false → SaysRest rest told why → Says bytes told why
+
+-- The sent time in a datagram's header: none where the datagram has no header.
+abbrev pub SaysSent : List ℕ → Option ℕ → Type 0
+SaysSent bytes sent =
+    ((h : Header) (front rest : List ℕ) → bytes ≡ front ++ rest → SpellsHeader front h → sent ≡ h.sent) × (SpellsNoHeader bytes → sent ≡ None)

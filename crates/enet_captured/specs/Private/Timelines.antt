@@ -1,5 +1,5 @@
 -- What a capture holds.
-use Rattle.std.specs.Prelude.{◌+◌, ◌*◌, ◌/◌, ℕ, Bool, if◌then◌else◌}
+use Rattle.std.specs.Prelude.{◌+◌, ◌*◌, ◌/◌, ℕ, Bool, if◌then◌else◌, Option}
 use Rattle.enet_text.specs.declared.pcap.Captured.{Captured}
 use Rattle.enet_captured.specs.declared.told.Told.{Told}
 use Rattle.enet_captured.specs.declared.timeline.Way.{Way}
@@ -10,5 +10,5 @@ abbrev pub moment_of : Captured → Bool → ℕ
 moment_of captured nanoseconds = captured.seconds * 1000000 + (if nanoseconds then captured.parts / 1000 else captured.parts)
 
 -- A command of a datagram.
-abbrev pub mark_of : ℕ → ℕ → Way → Told → Mark
-mark_of datagram connection way told = record { datagram = datagram; connection = connection; way = way; told = told }
+abbrev pub mark_of : ℕ → ℕ → Way → Option ℕ → Told → Mark
+mark_of datagram connection way sent told = record { datagram = datagram; connection = connection; way = way; sent = sent; told = told }

@@ -1,4 +1,4 @@
-use Rattle.std.proofs.Common.{◌++◌, refl}
+use Rattle.std.proofs.Common.{refl}
 use Rattle.enet_timeline.proofs.Joins.{join3}
 use Rattle.enet_timeline.proofs.drawing.push_head.Goals as goal
 

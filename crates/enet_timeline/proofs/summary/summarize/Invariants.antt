@@ -5,4 +5,4 @@ use Rattle.enet_timeline.proofs.summary.summarize.Given as goal
 
 -- so far each connection is told, one behind another
 abbrev pub invariant-loop-index : goal.invariant-loop-index
-invariant-loop-index l = (parts : List ℕ) × (string_bytes l.text ≡ whole_text l.timeline ++ parts) × TellsParts l.timeline l.index parts
+invariant-loop-index l = (parts : List ℕ) × (string_bytes l.text ≡ whole_text l.timeline ++ parts) × TellsParts l.timeline l.fn.at l.index parts
