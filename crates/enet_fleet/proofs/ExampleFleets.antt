@@ -19,7 +19,7 @@ use Rattle.law_network.specs.Log.{Logged, fresh_greatest, fresh_channels}
 use Rattle.law_network.specs.Network.{Site}
 use Rattle.law_network.specs.Numbers.{Stands}
 use Rattle.law_network.specs.World as world
-use Rattle.law_network.proofs.LoneSites.{Lone, site, end_of, submits, takes, PutsOne, after_putting, puts-out, text_of, header_of, logged, spells, Brings, after_hearing, Obeys, hears, hears-nothing, free_site, asks-first, answers-first}
+use Rattle.law_network.proofs.LoneSites.{Lone, site, end_of, submits, takes, PutsOne, after_putting, puts-out, text_of, header_of, logged, spells, Brings, after_hearing, Obeys, hears, after_nothing, hears-nothing, free_site, asks-first, answers-first}
 use Rattle.law_network.proofs.ExampleWorlds.{content, submitting, sending, sent, hearing, taking, offer, reliable, asking_message, verifying_message, confirming_message, asking, asked, ask, answering, verified, verify, welcomed, confirmed, confirm, standing, told_asker, told_answerer, puts-ask, brings-ask, puts-verify, brings-verify, puts-confirm, brings-confirm, crosses-told}
 use Rattle.enet_site.specs.Places.{Place, opened_at}
 use Rattle.enet_site.specs.declared.put_out.Sent.{Sent}
@@ -121,7 +121,7 @@ unfolding cutting.piece_count
 nothing-left = record { sends = refl; none = refl }
 
 abbrev undisturbed : Lone
-undisturbed = after_hearing acknowledged [] acknowledged.peer
+undisturbed = after_nothing acknowledged
 
 pub crosses : example.Crosses
 unfolding fresh_channels fresh_greatest

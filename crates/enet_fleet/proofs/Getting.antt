@@ -11,7 +11,7 @@ use Rattle.enet_outbox.specs.declared.parts.Unsequenced.{Unsequenced}
 use Rattle.enet_outbox.specs.Emission.{filled}
 use Rattle.enet_peer.specs.Peering.{Peering, answering}
 use Rattle.enet_peer.specs.declared.parts.PeerEvent.{PeerEvent}
-use Rattle.enet_peer.specs.Calls.{pace_of, gone_on, submitted, ticked}
+use Rattle.enet_peer.specs.Calls.{moved, pace_of, gone_on, submitted}
 use Rattle.enet_peer.specs.CommandEffect.{obeyed}
 use Rattle.law_connection.specs.LinkSteps.{Has}
 use Rattle.law_connection.specs.Connection.{Put, End, packets_of}
@@ -21,7 +21,7 @@ use Rattle.law_connection.proofs.FitEnds.{fit-peer}
 use Rattle.law_unsequenced.specs.Unsequenced.{come_unsequenced, come_by, carried, TakenAs, ComeAs, Each}
 use Rattle.law_unsequenced.specs.Law.{AreInTime, AreDistinct}
 use Rattle.law_unsequenced.proofs.Parts.{IsPart, part-front, part-of_map, each-part, each-map, pairs-part}
-use Rattle.law_unsequenced.proofs.Staying.{core, Stays, Becomes, packet_in, ticked-stays, left-stays, set-stays, gone_on-stays, obeyed-becomes}
+use Rattle.law_unsequenced.proofs.Staying.{core, Stays, Becomes, packet_in, moved-stays, left-stays, set-stays, gone_on-stays, obeyed-becomes}
 use Rattle.law_unsequenced.proofs.Taking.{Gets, seen_in, untaken_in, gets-more, gets-took, all-dispatched}
 
 as-taken : (qs : List Packet) (n : ℕ) (u : Unsequenced) → ComeAs qs n u → TakenAs qs n (packet_in u)
@@ -78,7 +78,7 @@ into own other new (Come put now sent) come f h g =
     let p : Peering = h.0 in
     let b = coming own p put now sent h.1 f in
     subst (GetsTo (come ++ carried put.message)) (sym h.3) (gets-more come (carried put.message) own.events (Some p) (obeyed p now sent put.message).after b.comes (with-peer come own (Some p) h.1 g))
-into own other new (Tick now) come f h g = subst (GetsTo (come ++ [])) (sym h.2) (gets-staying come own h.0 (ticked h.0 now) h.1 (ticked-stays h.0 now) g)
+into own other new (Tick now) come f h g = subst (GetsTo (come ++ [])) (sym h.3) (gets-staying come own h.0 (moved h.2 h.0 now) h.1 (moved-stays h.2 h.0 now) g)
 into own other new Take come f h g =
     subst (GetsTo (come ++ [])) (sym h.5) (subst (λ l. Gets l (own.events ++ h.2 ∷ []) (Some h.1)) (sym (append-nil come)) (gets-took come own.events h.0 h.1 h.2 h.4 (with-peer come own (Some h.0) h.3 g)))
 into own other new (Disconnect way info) come f h g = subst (GetsTo (come ++ [])) (sym h.4) (gets-staying come own h.0 h.1 h.2 (left-stays h.0 h.1 way info h.3) g)

@@ -1,8 +1,8 @@
 -- A tick that brings a host nothing.
-use Rattle.std.proofs.Common.{◌≡◌, ◌≢◌, ℕ, zero, suc, ◌%◌, ◌^◌, ◌<◌, ◌≤◌, inl, inr, nat_le, Bool, true, false, cond, ◌||◌, ◌&&◌, if◌then◌else◌, is_some, Option, Some, None, List, [], ◌∷◌, ◌++◌, length, map, take, drop, slice_get, refl, sym, ap, ap₂, subst, ◌∙◌, arith}
+use Rattle.std.proofs.Common.{◌≡◌, ◌≢◌, ℕ, suc, ◌%◌, ◌^◌, ◌<◌, ◌≤◌, inl, inr, nat_le, Bool, true, false, cond, ◌||◌, ◌&&◌, if◌then◌else◌, is_some, Option, Some, None, List, [], ◌∷◌, ◌++◌, length, map, take, drop, slice_get, get_or, refl, sym, ap, ap₂, subst, ◌∙◌, arith}
 use Rattle.std.specs.List.{count_by, list_any}
 use Rattle.std.proofs.lemmas.Bool.{le-leb}
-use Rattle.std.proofs.lemmas.Option.{slice_get_within}
+use Rattle.std.proofs.lemmas.Option.{slice_get_within, slice_get-get_or}
 use Rattle.enet_sleepers.specs.Soon.{is_due_soon}
 use Rattle.enet_rtt.specs.Clock.{elapsed_time, HappensIn}
 use Rattle.enet_codec.specs.declared.packet.Packet.{Packet}
@@ -11,7 +11,7 @@ use Rattle.enet_peer.specs.declared.parts.PeerState.TheVariants as state
 use Rattle.enet_peer.specs.Peering.{Peering}
 use Rattle.enet_peer.specs.Calls as peers
 use Rattle.enet_peer.specs.Calls.{is_connected, with_throttle_limit}
-use Rattle.enet_peer.proofs.Calm.{nothing-due}
+use Rattle.enet_peer.proofs.Calm.{nothing-moved}
 use Rattle.enet_slot.specs.Slot.{SlotState, changed, with_changed, with_peer, with_peer_in, is_due_in}
 use Rattle.enet_slot.specs.Slot as slot
 use Rattle.enet_slot.specs.Giving.{is_vacant}
@@ -19,11 +19,14 @@ use Rattle.enet_slot.specs.Sharing.{is_standing, limit_for, with_limit, shared}
 use Rattle.enet_peer.specs.Waiting as peered
 use Rattle.enet_slot.specs.Waiting.{waits_in, Waits}
 use Rattle.enet_sleepers.specs.Sleeping.{Noted, Sleeps, KeepsSleepers}
-use Rattle.enet_sleepers.proofs.Keeping.{keeps-mapped}
+use Rattle.enet_sleepers.proofs.Keeping.{keeps-mapped, some-same}
 use Rattle.enet_deadlines.specs.Sets.{IsIn, IsOut}
 use Rattle.enet_host.specs.Private.Ticking.{all_ticked}
 use Rattle.enet_host.specs.Host.{Host, HoldsNoFree}
-use Rattle.enet_host.specs.Ticking.{brings, clock_after, ticked, with_shares, IsDueIn}
+use Rattle.enet_host.specs.declared.credits.Credit.{Credit}
+use Rattle.enet_host.specs.Crediting.{is_short_at}
+use Rattle.enet_host.specs.Ticking.{all_moved, brings, clock_after, ticked, with_shares, IsDueIn}
+use Rattle.enet_host.proofs.Moving.{slot_moved, length-moved, get-moved, moved-still}
 
 neither-left : (b c : Bool) → (b || c) ≡ false → b ≡ false
 neither-left true c e = e
@@ -45,11 +48,11 @@ kept-in state.AckDisconnect s p busy = refl
 kept-in state.Ended s p busy = refl
 kept-in state.Parting s p busy = refl
 
-calm-slot : (now : ℕ) (s : SlotState) (o : Option Peering) → s.peer ≡ o → is_due_in o now ≡ false → ((p : Peering) → o ≡ Some p → p.state ≢ state.Free)
-    → with_changed (λ (p : Peering). peers.ticked p now) s o ≡ s
-calm-slot now s None held none busy = refl
-calm-slot now s (Some p) held none busy =
-    ap (λ (q : Peering). with_peer s q) (nothing-due p now none) ∙ kept-in p.state s p (busy p refl) ∙ ap (λ (o : Option Peering). record s { peer = o }) (sym held)
+calm-slot : (now : ℕ) (short : Bool) (s : SlotState) (o : Option Peering) → s.peer ≡ o → is_due_in o now ≡ false → ((p : Peering) → o ≡ Some p → p.state ≢ state.Free)
+    → with_changed (λ (p : Peering). peers.moved short p now) s o ≡ s
+calm-slot now short s None held none busy = refl
+calm-slot now short s (Some p) held none busy =
+    ap (λ (q : Peering). with_peer s q) (nothing-moved short p now none) ∙ kept-in p.state s p (busy p refl) ∙ ap (λ (o : Option Peering). record s { peer = o }) (sym held)
 
 -- one that waits is not free
 busy-waits : (s : SlotState) → Waits s → (p : Peering) → s.peer ≡ Some p → p.state ≢ state.Free
@@ -59,36 +62,34 @@ busy-waits s waits p held free =
     absurd (cc)
 
 -- one that sleeps is left as it is by a tick
-pub ticked-still : (now i : ℕ) (v : Noted) (s : SlotState) → v.clock % 2 ^ 32 ≡ now → Sleeps v i s → changed (λ (p : Peering). peers.ticked p now) s ≡ s
-ticked-still now i v s shown (inl f) = ap (λ (o : Option Peering). with_changed (λ (p : Peering). peers.ticked p now) s o) f.empty
-ticked-still now i v s shown (inr h) =
-    calm-slot now s s.peer refl (subst (λ (n : ℕ). slot.is_due n s ≡ false) shown (h.due.before v.clock (omega arith) h.ahead)) (busy-waits s h.waits)
+pub moved-asleep : (now : ℕ) (short : Bool) (i : ℕ) (v : Noted) (s : SlotState) → v.clock % 2 ^ 32 ≡ now → Sleeps v i s → slot_moved now short s ≡ s
+moved-asleep now short i v s shown (inl f) = ap (λ (o : Option Peering). with_changed (λ (p : Peering). peers.moved short p now) s o) f.empty
+moved-asleep now short i v s shown (inr h) =
+    calm-slot now short s s.peer refl (subst (λ (n : ℕ). slot.is_due n s ≡ false) shown (h.due.before v.clock (omega arith) h.ahead)) (busy-waits s h.waits)
 
-pub keeps-ticked : (now : ℕ) (v : Noted) (old new : List SlotState) → KeepsSleepers now v old → new ≡ all_ticked now old → KeepsSleepers now v new
-keeps-ticked now v old new k same =
-    subst (KeepsSleepers now v) (sym same) (keeps-mapped now v (changed (λ (p : Peering). peers.ticked p now)) old
-    (λ i s there out sleeps. subst (Sleeps v i) (sym (ticked-still now i v s k.shown sleeps)) sleeps) k)
+keeps-all-moved : (now : ℕ) (short : ℕ → Bool) (v : Noted) (slots : List SlotState) → KeepsSleepers now v slots → KeepsSleepers now v (all_moved now short slots)
+keeps-all-moved now short v slots k = record {
+  count = k.count ∙ sym (length-moved now short slots);
+  shown = k.shown;
+  blank = k.blank;
+  asleep = λ i t there out.
+      let inside : i < length slots = omega (arith, slice_get_within (all_moved now short slots) i t there, length-moved now short slots) in
+      let s : SlotState = get_or slots i t in
+      let was : slice_get slots i ≡ Some s = slice_get-get_or slots i t inside in
+      let sleeps : Sleeps v i s = k.asleep i s was out in
+      let is : slot_moved now (short i) s ≡ t = some-same (slice_get (all_moved now short slots) i) (slot_moved now (short i) s) t (get-moved now short slots i s was) there in
+      subst (Sleeps v i) (sym (moved-asleep now (short i) i v s k.shown sleeps) ∙ is) sleeps;
+}
 
--- a change that leaves the elements of these places as they are
-map-still : {X : Type 0} (f : X → X) (xs : List X) (k m : ℕ) → k ≤ m → ((i : ℕ) (x : X) → slice_get xs i ≡ Some x → k ≤ i → i < m → f x ≡ x)
-    → map f (take k xs) ++ drop k xs ≡ map f (take m xs) ++ drop m xs
-map-still f [] zero zero le still = refl
-map-still f [] zero (suc m) le still = refl
-map-still f [] (suc k) zero le still = refl
-map-still f [] (suc k) (suc m) le still = refl
-map-still f (x ∷ xs) zero zero le still = refl
-map-still f (x ∷ xs) zero (suc m) le still =
-    ap₂ (λ y ys. y ∷ ys) (sym (still 0 x refl (omega arith) (omega arith)))
-    (map-still f xs zero m (omega arith) (λ i y there past less. still (suc i) y there (omega arith) (omega (arith, less))))
-map-still f (x ∷ xs) (suc k) zero le still = absurd (omega (arith, le))
-map-still f (x ∷ xs) (suc k) (suc m) le still =
-    ap (λ ys. f x ∷ ys) (map-still f xs k m (omega (arith, le)) (λ i y there past less. still (suc i) y there (omega (arith, past)) (omega (arith, less))))
+pub keeps-moved : (now : ℕ) (credits : List Credit) (v : Noted) (old new : List SlotState) → KeepsSleepers now v old → new ≡ all_ticked now credits old → KeepsSleepers now v new
+keeps-moved now credits v old new k same = subst (KeepsSleepers now v) (sym same) (keeps-all-moved now (is_short_at credits) v old k)
 
 -- a tick changes nothing of those that sleep between two slots
-pub ticked-past : (now k m : ℕ) (v : Noted) (slots : List SlotState) → KeepsSleepers now v slots → ((i : ℕ) → k ≤ i → i < m → IsOut v.awake i) → k ≤ m
-    → all_ticked now (take k slots) ++ drop k slots ≡ all_ticked now (take m slots) ++ drop m slots
-ticked-past now k m v slots kept out more =
-    map-still (changed (λ (p : Peering). peers.ticked p now)) slots k m more (λ i s there past less. ticked-still now i v s kept.shown (kept.asleep i s there (out i past less)))
+pub moved-past : (now : ℕ) (credits : List Credit) (k m : ℕ) (v : Noted) (slots : List SlotState) → KeepsSleepers now v slots → ((i : ℕ) → k ≤ i → i < m → IsOut v.awake i) → k ≤ m
+    → all_ticked now credits (take k slots) ++ drop k slots ≡ all_ticked now credits (take m slots) ++ drop m slots
+moved-past now credits k m v slots kept out more =
+    moved-still now (is_short_at credits) slots k m more
+    (λ i s there past less. moved-asleep now (is_short_at credits i) i v s kept.shown (kept.asleep i s there (out i past less)))
 
 -- a throttle's limit leaves it open whether there is an event
 last-mute : (st : PeerState) (p q : Peering) → is_some (peers.last_event st q) ≡ is_some (peers.last_event st p)
@@ -167,17 +168,17 @@ keeps-changed now v change slots free k =
     keeps-mapped now v (changed change) slots
     (λ i s there out sleeps. changed-sleeps i v change s (free i (omega (arith, slice_get_within slots i s there, k.count)) out) sleeps) k
 
-calm-slots : (now : ℕ) (slots : List SlotState) → list_any (slot.is_due now) slots ≡ false → HoldsNoFree slots → map (changed (λ (p : Peering). peers.ticked p now)) slots ≡ slots
-calm-slots now [] none held = refl
-calm-slots now (s ∷ rest) none held =
+calm-slots : (now : ℕ) (short : ℕ → Bool) (slots : List SlotState) → list_any (slot.is_due now) slots ≡ false → HoldsNoFree slots → all_moved now short slots ≡ slots
+calm-slots now short [] none held = refl
+calm-slots now short (s ∷ rest) none held =
     ap₂ (λ (t : SlotState) (ts : List SlotState). t ∷ ts)
-    (calm-slot now s s.peer refl (neither-left (slot.is_due now s) (list_any (slot.is_due now) rest) none) (λ p is. held 0 s p refl is))
-    (calm-slots now rest (neither-right (slot.is_due now s) (list_any (slot.is_due now) rest) none) (λ i t p there is. held (suc i) t p there is))
+    (calm-slot now (short 0) s s.peer refl (neither-left (slot.is_due now s) (list_any (slot.is_due now) rest) none) (λ p is. held 0 s p refl is))
+    (calm-slots now (λ i. short (suc i)) rest (neither-right (slot.is_due now s) (list_any (slot.is_due now) rest) none) (λ i t p there is. held (suc i) t p there is))
 
 calm-tick : (h : Host) (ms : ℕ) → HoldsNoFree h.slots → brings h (clock_after h.clock ms) ≡ false → ticked h ms ≡ record h { clock = clock_after h.clock ms }
 calm-tick h ms held none =
     let now = clock_after h.clock ms in
-    let slots = calm-slots now h.slots (neither-left (list_any (slot.is_due now) h.slots) (nat_le 1000 (elapsed_time now h.shared_at)) none) held in
+    let slots = calm-slots now (is_short_at h.credits) h.slots (neither-left (list_any (slot.is_due now) h.slots) (nat_le 1000 (elapsed_time now h.shared_at)) none) held in
     let early = neither-right (list_any (slot.is_due now) h.slots) (nat_le 1000 (elapsed_time now h.shared_at)) none in
     ap (λ (ss : List SlotState). with_shares (record h { clock = now; slots = ss })) slots
     ∙ ap (λ (b : Bool). record h {

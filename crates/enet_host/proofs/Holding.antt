@@ -39,10 +39,12 @@ use Rattle.enet_slot.specs.Emitting.{PeerEmits, passes_by}
 use Rattle.enet_host.specs.Serving.{InTurn, Served, EmitsInTurn, AllPass}
 use Rattle.enet_host.specs.Turns.{turn_of}
 use Rattle.enet_slot.specs.Sharing.{is_standing, limit_for, with_limit, shared}
-use Rattle.enet_host.specs.Ticking.{clock_after, with_time, is_due, ticked}
+use Rattle.enet_host.specs.Crediting.{is_short_at}
+use Rattle.enet_host.specs.Ticking.{all_moved, clock_after, with_time, is_due, ticked}
 use Rattle.enet_slot.specs.Calls.{kept, on_peer_in, Submits, Does, DoesWithMemory, GivesEvent}
 use Rattle.enet_host.specs.Calls.{put_back, on_slot, on_named}
 use Rattle.enet_host.proofs.Limits.{joined-limited, unused-limited}
+use Rattle.enet_host.proofs.Moving.{each-moved}
 use Rattle.enet_host.proofs.Turning.{turns-apart}
 
 -- a slot doesn't hold a free peer
@@ -248,13 +250,17 @@ held-if : (due : Bool) (xs ys : List SlotState) → HoldsNoFree xs → HoldsNoFr
 held-if true xs ys a b = a
 held-if false xs ys a b = b
 
+pub moved-held : (now : ℕ) (short : ℕ → Bool) (slots : List SlotState) → HoldsNoFree slots → HoldsNoFree (all_moved now short slots)
+moved-held now short slots old i t p there held =
+    each-moved IsHeld now short slots (λ j s at. changed-in (λ (q : Peering). calls.moved (short j) q now) s s.peer refl) i t there p held
+
 pub ticked-held : (h : Host) (ms : ℕ) → HoldsNoFree h.slots → HoldsNoFree (ticked h ms).slots
 ticked-held h ms old =
     let now : ℕ = clock_after h.clock ms in
     let timed : Host = with_time h now in
     let outgoing : ℕ = timed.config.outgoing in
     let standing : ℕ = count_by is_standing timed.slots in
-    let held : HoldsNoFree timed.slots = changed-held (λ (p : Peering). calls.ticked p now) h.slots old in
+    let held : HoldsNoFree timed.slots = moved-held now (is_short_at h.credits) h.slots old in
     held-if (is_due timed) (map (shared outgoing standing) timed.slots) timed.slots (shared-held outgoing standing timed.slots held) held
 
 -- a slot is given
@@ -263,6 +269,9 @@ gave-held slots new i event old x = subst HoldsNoFree (sym x.after) (event-held 
 
 pub changed-after : (change : Peering → Peering) (slots new : List SlotState) → new ≡ map (changed change) slots → HoldsNoFree slots → HoldsNoFree new
 changed-after change slots new e old = subst HoldsNoFree (sym e) (changed-held change slots old)
+
+pub moved-after : (now : ℕ) (short : ℕ → Bool) (slots new : List SlotState) → new ≡ all_moved now short slots → HoldsNoFree slots → HoldsNoFree new
+moved-after now short slots new e old = subst HoldsNoFree (sym e) (moved-held now short slots old)
 
 pub shared-if-held : (due : Bool) (outgoing : ℕ) (slots new : List SlotState) → new ≡ (if due then map (shared outgoing (count_by is_standing slots)) slots else slots) → HoldsNoFree slots
     → HoldsNoFree new

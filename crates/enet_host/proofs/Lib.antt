@@ -9,6 +9,7 @@ pub mod Serving
 pub mod Telling
 pub mod Holding
 pub mod Foretold
+pub mod Moving
 pub mod Bringing
 pub mod Limits
 pub mod Adding

@@ -20,7 +20,7 @@ use Rattle.enet_peer.specs.Peering as peers
 use Rattle.enet_peer.specs.Calls.{is_connected, with_throttle, with_throttle_limit, with_ping_interval, with_timeout}
 use Rattle.enet_peer.specs.Calls as calls
 use Rattle.enet_peer.specs.Held.{HasLimits}
-use Rattle.enet_peer.proofs.Limited.{handled-limited, left-limited, put-out-limited, taken-limited, ticked-limited}
+use Rattle.enet_peer.proofs.Limited.{handled-limited, left-limited, put-out-limited, taken-limited, moved-limited}
 use Rattle.enet_slot.specs.Slot.{SlotState, with_peer, with_peer_in, with_changed, changed}
 use Rattle.enet_slot.specs.Giving.{limits_of, unused_slot, joined_terms, given, Basis, asking, answering}
 use Rattle.enet_slot.specs.declared.giving.Question.{Question}
@@ -36,6 +36,8 @@ use Rattle.enet_host.specs.Receiving as receiving
 use Rattle.enet_host.specs.Receiving.{Offers, Arrives}
 use Rattle.enet_host.specs.Serving.{InTurn, Served, EmitsInTurn, AllPass}
 use Rattle.enet_host.specs.Turns.{turn_of}
+use Rattle.enet_host.specs.Ticking.{all_moved}
+use Rattle.enet_host.proofs.Moving.{each-moved}
 use Rattle.enet_host.proofs.Turning.{turns-apart}
 
 -- ---- one slot
@@ -266,8 +268,10 @@ gave-limited x y slots new i event old gave =
     subst (AreLimited x y) (sym gave.after)
     (set-limited x y slots i gave.left old (subst (IsLimited x y) (sym g.left) (peer-limited x y gave.slot g.taken.after (taken-limited x y g.peer g.taken was g.next))))
 
-pub ticked-after : (x y now : ℕ) (slots new : List SlotState) → new ≡ map (changed (λ (p : Peering). calls.ticked p now)) slots → AreLimited x y slots → AreLimited x y new
-ticked-after x y now slots new e old = subst (AreLimited x y) (sym e) (changed-limited x y (λ (p : Peering). calls.ticked p now) slots (λ p h. ticked-limited x y p now h) old)
+pub limited-after : (x y now : ℕ) (short : ℕ → Bool) (slots new : List SlotState) → new ≡ all_moved now short slots → AreLimited x y slots → AreLimited x y new
+limited-after x y now short slots new e old =
+    subst (AreLimited x y) (sym e)
+    (each-moved (IsLimited x y) now short slots (λ i s at. changed-in x y (λ (p : Peering). calls.moved (short i) p now) s s.peer (λ p h. moved-limited x y (short i) p now h) refl (old i s at)))
 
 pub told-after : (x y incoming outgoing : ℕ) (slots new : List SlotState) → new ≡ map (changed (λ (p : Peering). calls.with_bandwidth p incoming outgoing)) slots → AreLimited x y slots → AreLimited x y new
 told-after x y incoming outgoing slots new e old =

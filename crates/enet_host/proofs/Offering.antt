@@ -1,6 +1,7 @@
 -- A slot is given out.
-use Rattle.std.proofs.Common.{◌≡◌, ◌≢◌, ℕ, ◌<◌, false, Option, Some, None, Result, Ok, Err, IfOk, IfErr, OnOk, OnErr, List, length, slice_set, get_or, sym, ap, subst, ◌∙◌}
+use Rattle.std.proofs.Common.{◌≡◌, ◌≢◌, ℕ, ◌<◌, false, Option, Some, None, Result, Ok, Err, IfOk, IfErr, OnOk, OnErr, List, length, slice_get, slice_set, get_or, sym, ap, subst, ◌∙◌}
 use Rattle.enet_codec.specs.declared.command.Offer.{Offer}
+use Rattle.std.proofs.lemmas.Option.{slice_get-get_or}
 use Rattle.enet_codec.specs.declared.address.Addr.{Addr}
 use Rattle.enet_codec.specs.declared.config.Config.{Config}
 use Rattle.enet_codec.specs.declared.event.PeerRef.{PeerRef}
@@ -11,13 +12,18 @@ use Rattle.enet_codec.specs.declared.stop.Stop.TheVariants as stop
 use Rattle.enet_slot.specs.declared.giving.Question.{Question}
 use Rattle.enet_slot.specs.declared.slot.Slot.{Slot}
 use Rattle.enet_slot.specs.declared.all.Seat.{Seat}
+use Rattle.enet_slot.specs.declared.all.Seat.TheVariants.{Known}
 use Rattle.enet_slot.specs.Seating.{IsSeat}
 use Rattle.enet_slot.specs.Slot.{SlotState, name_of}
-use Rattle.enet_slot.specs.Giving.{Basis, asking, answering}
+use Rattle.enet_slot.specs.Giving.{Basis, unused_slot, asking, answering}
 use Rattle.enet_host.specs.Opening.{available, Connects, no_memory, asks}
 use Rattle.enet_slot.specs.Receiving.{stopped}
-use Rattle.enet_host.specs.Receiving.{Offers, offer_refused, is_known, handled_one}
+use Rattle.enet_host.specs.declared.credits.Credit.{Credit}
+use Rattle.enet_host.specs.Crediting.{with_came}
+use Rattle.enet_host.specs.Receiving.{Listener, Offers, offer_refused, is_known, handled_one}
 use Rattle.enet_host.specs.Receiving as receiving
+use Rattle.enet_host.specs.Private.Receiving.{OfferCredits}
+use Rattle.enet_host.specs.Private.Receiving as credit
 use Rattle.enet_slot.specs.Slotted.{shown, all_shown}
 use Rattle.enet_slot.proofs.Shown.{get-shown, set-shown, same-shown}
 
@@ -61,3 +67,11 @@ pub seat-in : (xs ys : List Slot) (from : Addr) (word generations : ℕ) (r seat
     → IsSeat from word generations (all_shown xs) seat
 seat-in xs ys from word generations r seat e same is =
     subst (λ (zs : List Slot). IsSeat from word generations (all_shown zs) seat) same (subst (λ (t : Seat). IsSeat from word generations (all_shown ys) t) is e)
+
+-- which credits an offer of a connection that is there leaves
+pub credits-known : (h : Listener) (from : Addr) (o : Offer) (len i generations : ℕ) (credits new : List Credit) (answer : Received) → offer_refused o ≡ None
+    → IsSeat from o.connect_id generations h.slots (Known i) → new ≡ with_came credits i len → OfferCredits h from o len answer credits new
+credits-known h from o len i generations credits new answer fine seat counted =
+    let s : SlotState = get_or h.slots i unused_slot in
+    let there : slice_get h.slots i ≡ Some s = slice_get-get_or h.slots i unused_slot seat.1 in
+    subst (λ (ks : List Credit). OfferCredits h from o len answer credits ks) (sym counted) (credit.repeated i s credits fine there (seat.2 s there) answer)

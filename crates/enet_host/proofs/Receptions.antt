@@ -1,7 +1,8 @@
 -- A datagram comes to a slot.
-use Rattle.std.proofs.Common.{◌≡◌, ◌≢◌, ℕ, ◌<◌, inl, inr, true, false, Option, Some, None, List, length, slice_get, slice_set, get_or, refl, sym, ap, subst, ◌∙◌}
+use Rattle.std.proofs.Common.{◌≡◌, ◌≢◌, ℕ, ◌<◌, inl, inr, ◌&&◌, not, if◌then◌else◌, Bool, true, false, Option, Some, None, List, length, slice_get, slice_set, get_or, refl, sym, ap, ap₂, subst, ◌∙◌}
 use Rattle.enet_codec.specs.declared.header.Header.{Header}
 use Rattle.enet_codec.specs.declared.address.Addr.{Addr}
+use Rattle.enet_codec.specs.declared.command.Offer.{Offer}
 use Rattle.enet_codec.specs.declared.event.Received.{Received}
 use Rattle.enet_codec.specs.declared.stop.Stop.{Stop}
 use Rattle.enet_codec.specs.declared.stop.Stop.TheVariants as stop
@@ -9,12 +10,17 @@ use Rattle.enet_peer.specs.declared.parts.PeerState.{PeerState}
 use Rattle.enet_peer.specs.declared.parts.PeerState.TheVariants as state
 use Rattle.enet_peer.specs.Handling.{Arrival}
 use Rattle.enet_peer.specs.Peering.{Peering}
-use Rattle.enet_peer.specs.Heading.{IsRead}
+use Rattle.enet_peer.specs.Heading.{IsRead, IsOffer}
 use Rattle.enet_slot.specs.declared.slot.Slot.{Slot}
 use Rattle.enet_slot.specs.Slot.{SlotState, with_peer_in}
 use Rattle.enet_slot.specs.Giving.{Basis, is_vacant}
-use Rattle.enet_slot.specs.Receiving.{PeerReceives, no_peer, refused_by_slot, refused_by_peer, stopped}
-use Rattle.enet_host.specs.Receiving.{Arrives, heard, refused_by}
+use Rattle.enet_slot.specs.Receiving.{PeerReceives, is_deaf, is_same_address, fits_session, hears_in, no_peer, refused_by_slot, refused_by_peer, stopped}
+use Rattle.enet_host.specs.declared.credits.Credit.{Credit}
+use Rattle.enet_host.specs.Crediting.{with_came}
+use Rattle.enet_host.specs.Receiving.{Listener, Arrives, Credits, heard, is_at, refused_by}
+use Rattle.enet_host.specs.Receiving as receiving
+use Rattle.enet_host.specs.Private.Receiving.{is_heard, OfferCredits}
+use Rattle.enet_host.specs.Private.Receiving as credit
 use Rattle.enet_slot.specs.Slotted.{shown, all_shown}
 use Rattle.enet_slot.proofs.Shown.{get-shown, set-shown}
 use Rattle.enet_sleepers.specs.Sleeping.{Noted, KeepsSleepers, KeepsOthers}
@@ -71,3 +77,52 @@ pub keeps-heard : (now n : ℕ) (v : Noted) (xs : List Slot) (x y : Slot) (a : A
 keeps-heard now n v xs x y a commands answer inside is hears none k =
     subst (KeepsOthers now n v) (sym (set-shown xs n y))
     (keeps-others now n v (all_shown xs) (shown x) (shown y) (get-shown xs n x inside is) (stays-placed a commands (shown x) (shown y) answer hears none) k)
+
+-- ---- for which peer a datagram counts
+
+hears-peer : (s : SlotState) (from : Addr) (session : ℕ) (o : Option Peering) → hears_in s from o ≡ is_heard (refused_by_peer s from session o)
+hears-peer s from session None = refl
+hears-peer s from session (Some p) = by (is_deaf p.state) (is_same_address s.address from) (fits_session p session)
+  where
+    by : (deaf there fits : Bool)
+        → (not deaf && there) ≡ is_heard (if deaf then Some stop.UnknownPeer else (if not there then Some stop.WrongAddress else (if not fits then Some stop.WrongSession else None)))
+    by true there fits = refl
+    by false false fits = refl
+    by false true false = refl
+    by false true true = refl
+
+hears-at : (from : Addr) (session : ℕ) (o : Option SlotState) → is_at from o ≡ is_heard (refused_by_slot from session o)
+hears-at from session None = refl
+hears-at from session (Some s) = hears-peer s from session s.peer
+
+-- one that its slot hears, or doesn't
+pub credits-heard : (h : Listener) (from : Addr) (bytes : List ℕ) (header : Header) (commands : List ℕ) (n len : ℕ) (refusal : Option Stop) (answer : Received) (old new : List Credit)
+    → IsRead bytes header commands → header.peer ≢ no_peer → refused_by h.slots from header ≡ refusal → n ≡ header.peer → len ≡ length bytes
+    → new ≡ (if is_heard refusal then with_came old n len else old) → Credits h from bytes answer old new
+credits-heard h from bytes header commands n len refusal answer old new read known refused number size counted = by (is_heard refusal) (is) left
+  where
+    is : is_at from (slice_get h.slots header.peer) ≡ is_heard refusal
+    is = hears-at from header.session (slice_get h.slots header.peer) ∙ ap is_heard refused
+
+    left : new ≡ (if is_heard refusal then with_came old header.peer (length bytes) else old)
+    left = counted ∙ ap₂ (λ (i m : ℕ). if is_heard refusal then with_came old i m else old) number size
+
+    by : (b : Bool) → is_at from (slice_get h.slots header.peer) ≡ b → new ≡ (if b then with_came old header.peer (length bytes) else old) → Credits h from bytes answer old new
+    by true e f = record { counted = receiving.More header.peer; counts = receiving.here header commands read known e answer; after = f }
+    by false e f = record { counted = receiving.Nowhere; counts = receiving.elsewhere header commands read known e answer; after = f }
+
+-- an offer
+pub credits-offered : (h : Listener) (from : Addr) (bytes : List ℕ) (header : Header) (commands : List ℕ) (o : Offer) (len : ℕ) (answer : Received) (old new : List Credit)
+    → IsRead bytes header commands → header.peer ≡ no_peer → IsOffer commands o → len ≡ length bytes → OfferCredits h from o len answer old new → Credits h from bytes answer old new
+credits-offered h from bytes header commands o len answer old new read stranger offer size counted =
+    by answer old new (subst (λ (n : ℕ). OfferCredits h from o n answer old new) size counted)
+  where
+    by : (a : Received) (ks js : List Credit) → OfferCredits h from o (length bytes) a ks js → Credits h from bytes a ks js
+    by a ks js (credit.refused why credits is any) =
+        record { counted = receiving.Nowhere; counts = receiving.refused header commands o why read stranger offer is any; after = refl }
+    by a ks js (credit.repeated i s credits fine there is any) =
+        record { counted = receiving.More i; counts = receiving.repeated header commands o i s read stranger offer fine there is any; after = refl }
+    by a ks js (credit.unanswered why credits unknown) =
+        record { counted = receiving.Nowhere; counts = receiving.unanswered header commands o why read stranger offer unknown; after = refl }
+    by a ks js (credit.answered i credits unknown found) =
+        record { counted = receiving.First i; counts = receiving.answered header commands o i read stranger offer unknown found; after = refl }

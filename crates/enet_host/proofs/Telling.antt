@@ -1,5 +1,5 @@
 -- The first slot in turn gave its event, or its datagram.
-use Rattle.std.proofs.Common.{◌≡◌, ℕ, Some, List, length, slice_get, ap₂, subst}
+use Rattle.std.proofs.Common.{◌≡◌, ℕ, Some, List, length, slice_get, ap, ap₂, subst, ◌∙◌}
 use Rattle.enet_codec.specs.declared.address.Addr.{Addr}
 use Rattle.enet_codec.specs.declared.event.Event.{Event}
 use Rattle.enet_codec.specs.declared.event.PeerRef.{PeerRef}
@@ -8,7 +8,9 @@ use Rattle.enet_host.specs.Host.{Host}
 use Rattle.enet_host.specs.Turns.{IsFirst, slot_after}
 use Rattle.enet_slot.specs.Calls.{tells, GivesEvent}
 use Rattle.enet_host.specs.Calls.{TakesOne}
+use Rattle.enet_host.specs.declared.credits.Credit.{Credit}
 use Rattle.enet_host.specs.declared.totals.Totals.{Totals}
+use Rattle.enet_host.specs.Crediting.{with_went}
 use Rattle.enet_host.specs.Serving.{served_of, EmitsInTurn, Serves, with_datagram_out}
 use Rattle.enet_host.specs.Private.Shown.{SlotGivesEvent}
 use Rattle.enet_sleepers.proofs.Keeping.{some-same}
@@ -27,9 +29,12 @@ takes-at v old after i n event same first g next =
       rest = ap₂ (λ (ss : List SlotState) (m : ℕ). record v { slots = ss; event_from = m }) g.after next;
     })
 
-pub serves-at : (v old : Host) (after : List SlotState) (n : ℕ) (t : Totals) (gave : PeerRef × Addr × ℕ) (buf : List ℕ) → v ≡ old
+pub serves-at : (v old : Host) (after : List SlotState) (n : ℕ) (t : Totals) (ks : List Credit) (gave : PeerRef × Addr × ℕ) (buf : List ℕ) → v ≡ old
     → EmitsInTurn v.clock v.service_from v.slots (served_of gave buf) after → n ≡ slot_after (length v.slots) gave.0.slot → t ≡ with_datagram_out v.totals gave.2
-    → Serves old (Some gave) buf (record v { slots = after; service_from = n; totals = t })
-serves-at v old after n t gave buf same gives next counted =
-    subst (λ (h : Host). Serves h (Some gave) buf (record v { slots = after; service_from = n; totals = t })) same
-    (gives, ap₂ (λ (m : ℕ) (u : Totals). record v { slots = after; service_from = m; totals = u }) next counted)
+    → ks ≡ with_went v.credits gave.0.slot gave.2 → Serves old (Some gave) buf (record v { slots = after; service_from = n; totals = t; credits = ks })
+serves-at v old after n t ks gave buf same gives next counted went =
+    subst (λ (h : Host). Serves h (Some gave) buf (record v { slots = after; service_from = n; totals = t; credits = ks })) same (
+      gives,
+      ap₂ (λ (m : ℕ) (u : Totals). record v { slots = after; service_from = m; totals = u; credits = ks }) next counted
+          ∙ ap (λ (xs : List Credit). record v { slots = after; service_from = slot_after (length v.slots) gave.0.slot; totals = with_datagram_out v.totals gave.2; credits = xs }) went,
+    )

@@ -5,6 +5,7 @@ use Rattle.enet_codec.specs.declared.event.PeerRef.{PeerRef}
 use Rattle.enet_peer.specs.declared.parts.PeerState.TheVariants as state
 use Rattle.enet_peer.specs.Peering.{Peering}
 use Rattle.enet_slot.specs.Slot.{SlotState, greatest, name_of}
+use Rattle.enet_host.specs.declared.credits.Credit.{Credit}
 use Rattle.enet_host.specs.declared.totals.Totals.{Totals}
 
 pub record Host : Type 0 where
@@ -15,6 +16,7 @@ pub record Host : Type 0 where
   pub event_from : ℕ  -- the slot that `next_event` asks first: the one after the slot that gave the last event
   pub totals : Totals
   pub slots : List SlotState
+  pub credits : List Credit  -- by slot, what its peer's address sent for it and got
 
 -- no slot holds a peer that is free
 abbrev pub HoldsNoFree : List SlotState → Type 0

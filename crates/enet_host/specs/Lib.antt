@@ -1,3 +1,4 @@
+pub mod Crediting
 pub mod Host
 pub mod Held
 pub mod Memory

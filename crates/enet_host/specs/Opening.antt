@@ -11,6 +11,7 @@ use Rattle.enet_slot.specs.declared.giving.Question.{Question}
 use Rattle.enet_slot.specs.Slot.{SlotState, name_of}
 use Rattle.enet_slot.specs.Giving.{unused_slot, joined_slots, is_available, Basis, asking}
 use Rattle.enet_host.specs.declared.totals.Totals.{Totals}
+use Rattle.enet_host.specs.Crediting.{no_credit}
 use Rattle.enet_host.specs.Host.{Host}
 
 abbrev pub no_totals : Totals
@@ -26,6 +27,7 @@ opened c = record {
   event_from = 0;
   totals = no_totals;
   slots = replicate c.peers unused_slot;
+  credits = replicate c.peers no_credit;
 }
 
 -- a host whose slot 0 is connected from the start to this address

@@ -3,3 +3,4 @@ pub mod Held
 pub mod Shown
 pub mod Sleeping
 pub mod Ticking
+pub mod Receiving

@@ -11,8 +11,10 @@ use Rattle.enet_connect.specs.Terms.{is_channel_count}
 use Rattle.enet_peer.specs.Heading.{IsUnreadable, IsRead, IsOffer, IsNoOffer}
 use Rattle.enet_slot.specs.Slot.{SlotState}
 use Rattle.enet_slot.specs.Giving.{Basis, answering}
-use Rattle.enet_slot.specs.Receiving.{no_peer, refused_by_slot, is_connection, stopped, PeerReceives}
+use Rattle.enet_slot.specs.Receiving.{no_peer, hears, refused_by_slot, is_connection, stopped, PeerReceives}
+use Rattle.enet_host.specs.declared.credits.Credit.{Credit}
 use Rattle.enet_host.specs.declared.totals.Totals.{Totals}
+use Rattle.enet_host.specs.Crediting.{with_came, with_first}
 use Rattle.enet_host.specs.Host.{Host}
 use Rattle.enet_host.specs.Opening.{host_basis, available}
 
@@ -71,7 +73,51 @@ added total n = min (total + n) greatest_total
 abbrev pub with_datagram_in : Totals → ℕ → Totals
 with_datagram_in t len = record t { datagrams_in = added t.datagrams_in 1; bytes_in = added t.bytes_in len }
 
+-- for which slot's peer a datagram counts, if for any: it may be the one by which that peer begins
+pub data Counted : Type 0 where
+  Nowhere : Counted
+  More : (i : ℕ) → Counted
+  First : (i : ℕ) → Counted
+
+abbrev pub is_at : Addr → Option SlotState → Bool
+is_at from None = false
+is_at from (Some s) = hears from s
+
+-- a datagram counts for the peer that it is for, whatever becomes of it: one to its slot from its address, and an offer of its connection
+pub data Counts (h : Listener) (from : Addr) (bytes : List ℕ) : Received → Counted → Type 0 where
+  unreadable : (why : Stop) → IsUnreadable bytes why → (answer : Received) → Counts h from bytes answer Nowhere
+  no_offer : (header : Header) (commands : List ℕ) → IsRead bytes header commands → header.peer ≡ no_peer → IsNoOffer commands
+      → (answer : Received) → Counts h from bytes answer Nowhere
+  refused : (header : Header) (commands : List ℕ) (o : Offer) (why : Stop) → IsRead bytes header commands → header.peer ≡ no_peer → IsOffer commands o
+      → offer_refused o ≡ Some why → (answer : Received) → Counts h from bytes answer Nowhere
+  repeated : (header : Header) (commands : List ℕ) (o : Offer) (i : ℕ) (s : SlotState) → IsRead bytes header commands → header.peer ≡ no_peer
+      → IsOffer commands o → offer_refused o ≡ None → slice_get h.slots i ≡ Some s → is_connection from o.connect_id s ≡ true
+      → (answer : Received) → Counts h from bytes answer (More i)
+  unanswered : (header : Header) (commands : List ℕ) (o : Offer) (why : Stop) → IsRead bytes header commands → header.peer ≡ no_peer
+      → IsOffer commands o → is_known h.slots from o ≡ false → Counts h from bytes (stopped why) Nowhere
+  answered : (header : Header) (commands : List ℕ) (o : Offer) (i : ℕ) → IsRead bytes header commands → header.peer ≡ no_peer
+      → IsOffer commands o → is_known h.slots from o ≡ false → available h.basis.config h.slots ≡ Some i → Counts h from bytes handled_one (First i)
+  elsewhere : (header : Header) (commands : List ℕ) → IsRead bytes header commands → header.peer ≢ no_peer
+      → is_at from (slice_get h.slots header.peer) ≡ false → (answer : Received) → Counts h from bytes answer Nowhere
+  here : (header : Header) (commands : List ℕ) → IsRead bytes header commands → header.peer ≢ no_peer
+      → is_at from (slice_get h.slots header.peer) ≡ true → (answer : Received) → Counts h from bytes answer (More header.peer)
+
+abbrev pub with_counted : List Credit → Counted → ℕ → List Credit
+with_counted credits Nowhere len = credits
+with_counted credits (More i) len = with_came credits i len
+with_counted credits (First i) len = with_first credits i len
+
+-- which credits a datagram from an address leaves, that has so many bytes
+pub record Credits (h : Listener) (from : Addr) (bytes : List ℕ) (answer : Received) (old new : List Credit) : Type 0 where
+  pub counted : Counted
+  pub counts : Counts h from bytes answer counted
+  pub after : new ≡ with_counted old counted (length bytes)
+
+abbrev pub listener_of : Host → Listener
+listener_of h = record { basis = host_basis h; slots = h.slots }
+
 -- a call of receive: each datagram counts in the totals
 pub record Receives (old : Host) (from : Addr) (bytes : List ℕ) (answer : Received) (new : Host) : Type 0 where
-  pub arrives : Arrives (record { basis = host_basis old; slots = old.slots }) from bytes answer new.slots
-  pub rest : new ≡ record old { slots = new.slots; totals = with_datagram_in old.totals (length bytes) }
+  pub arrives : Arrives (listener_of old) from bytes answer new.slots
+  pub credits : Credits (listener_of old) from bytes answer old.credits new.credits
+  pub rest : new ≡ record old { slots = new.slots; totals = with_datagram_in old.totals (length bytes); credits = new.credits }

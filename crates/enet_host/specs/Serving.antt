@@ -5,6 +5,7 @@ use Rattle.enet_codec.specs.declared.event.PeerRef.{PeerRef}
 use Rattle.enet_slot.specs.Slot.{SlotState, name_of}
 use Rattle.enet_slot.specs.Emitting.{PeerEmits, Passes}
 use Rattle.enet_host.specs.declared.totals.Totals.{Totals}
+use Rattle.enet_host.specs.Crediting.{with_went}
 use Rattle.enet_host.specs.Host.{Host}
 use Rattle.enet_host.specs.Turns.{turn_of, slot_after}
 use Rattle.enet_host.specs.Receiving.{added}
@@ -54,4 +55,9 @@ abbrev pub Serves : Host → Option (PeerRef × Addr × ℕ) → List ℕ → Ho
 Serves old None buf new = AllPass old.clock old.slots new.slots × (new ≡ record old { slots = new.slots })
 Serves old (Some gave) buf new =
     EmitsInTurn old.clock old.service_from old.slots (served_of gave buf) new.slots
-    × (new ≡ record old { slots = new.slots; service_from = slot_after (length old.slots) gave.0.slot; totals = with_datagram_out old.totals gave.2 })
+    × (new ≡ record old {
+      slots = new.slots;
+      service_from = slot_after (length old.slots) gave.0.slot;
+      totals = with_datagram_out old.totals gave.2;
+      credits = with_went old.credits gave.0.slot gave.2;
+    })

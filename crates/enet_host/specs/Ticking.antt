@@ -1,20 +1,25 @@
 -- Time goes on at a host.
-use Rattle.std.specs.Prelude.{◌≡◌, ℕ, ◌+◌, ◌%◌, ◌^◌, ◌<◌, ◌≤◌, ◌||◌, Bool, true, min, nat_le, if◌then◌else◌, map}
+use Rattle.std.specs.Prelude.{◌≡◌, ℕ, suc, List, [], ◌∷◌, ◌+◌, ◌%◌, ◌^◌, ◌<◌, ◌≤◌, ◌||◌, Bool, true, min, nat_le, if◌then◌else◌, map}
 use Rattle.std.specs.List.{count_by, list_any}
 use Rattle.enet_rtt.specs.Clock.{elapsed_time}
 use Rattle.enet_peer.specs.Calls as peers
 use Rattle.enet_slot.specs.Slot as slot
-use Rattle.enet_slot.specs.Slot.{changed}
+use Rattle.enet_slot.specs.Slot.{SlotState, changed}
 use Rattle.enet_slot.specs.Sharing.{is_standing, shared}
+use Rattle.enet_host.specs.Crediting.{is_short_at}
 use Rattle.enet_host.specs.Host.{Host}
 
 -- the clock goes on by at most a minute
 abbrev pub clock_after : ℕ → ℕ → ℕ
 clock_after clock ms = (clock + min ms 60000) % 2 ^ 32
 
--- time has come to now at each slot
+-- time has come to now at each slot, where `short` says of which the peer's address sent too little for another answer
+abbrev pub all_moved : ℕ → (ℕ → Bool) → List SlotState → List SlotState
+all_moved now short [] = []
+all_moved now short (s ∷ slots) = changed (λ p. peers.moved (short 0) p now) s ∷ all_moved now (λ i. short (suc i)) slots
+
 abbrev pub with_time : Host → ℕ → Host
-with_time h now = record h { clock = now; slots = map (changed (λ p. peers.ticked p now)) h.slots }
+with_time h now = record h { clock = now; slots = all_moved now (is_short_at h.credits) h.slots }
 
 -- whether a second or more has passed since the bandwidth was last shared out
 abbrev pub is_due : Host → Bool

@@ -13,6 +13,7 @@ ghost use Rattle.enet_host.specs.Ticking.{ticked, clock_after};
 ghost use Rattle.enet_host.specs.Calls.{with_bandwidth, with_secret, Takes};
 
 use crate::connecting::connect;
+use crate::credits::{Credit, count_went, no_credits};
 use crate::emitting::emit;
 use crate::events::take_from;
 use crate::receiving::receive;
@@ -51,6 +52,8 @@ pub struct HostCore {
     pub(crate) slots: Vec<Slot>,
     /// Which of the slots sleep.
     pub(crate) sleepers: Sleepers,
+    /// By slot, what its peer's address sent for it and got.
+    pub(crate) credits: Vec<Credit>,
 }
 
 impl Model for HostCore {
@@ -72,6 +75,7 @@ impl Model for HostCore {
       event_from = h.event_from;
       totals = h.totals;
       slots = all_shown h.slots.items;
+      credits = h.credits.items;
     } };
 
     ghost invariant = { λ h. KeepsHost (record { peers = h.start.config.peers; clock = h.start.clock; generations = h.start.config.generations; max_packet = h.start.config.max_packet; max_waiting = h.start.config.max_waiting; service_from = h.service_from; event_from = h.event_from }) h.sleepers h.slots.items };
@@ -88,7 +92,8 @@ impl HostCore {
         }
         let slots = unused_slots(alloc, config.peers)?;
         let sleepers = Sleepers::new(alloc, config.peers, config.clock)?;
-        Ok(HostCore::with_slots(alloc, config, slots, sleepers))
+        let credits = no_credits(alloc, config.peers)?;
+        Ok(HostCore::with_slots(alloc, config, slots, sleepers, credits))
     }
 
     /// A law: a slot has at most 4,294,967,295 generations, and none holds a peer that is free.
@@ -109,13 +114,20 @@ impl HostCore {
         }
         let slots = joined_slots(alloc, &config, address)?;
         let sleepers = Sleepers::new(alloc, config.peers, config.clock)?;
-        Ok(HostCore::with_slots(alloc, config, slots, sleepers))
+        let credits = no_credits(alloc, config.peers)?;
+        Ok(HostCore::with_slots(alloc, config, slots, sleepers, credits))
     }
 
     /// A host with these settings and slots, to which nothing has happened.
-    fn with_slots(alloc: Global, config: Config, slots: Vec<Slot>, sleepers: Sleepers) -> HostCore
+    fn with_slots(
+        alloc: Global,
+        config: Config,
+        slots: Vec<Slot>,
+        sleepers: Sleepers,
+        credits: Vec<Credit>,
+    ) -> HostCore
         requires { KeepsHost (record { peers = config.peers; clock = config.clock; generations = config.generations; max_packet = config.max_packet; max_waiting = config.max_waiting; service_from = 0; event_from = 0 }) sleepers slots.items }
-        ensures { result ≡ record (opened config) { slots = all_shown slots.items } }
+        ensures { result ≡ record (opened config) { slots = all_shown slots.items; credits = credits.items } }
     {
         HostCore {
             start: Start {
@@ -129,6 +141,7 @@ impl HostCore {
             totals: Totals::none(),
             slots,
             sleepers,
+            credits,
         }
     }
 
@@ -161,7 +174,8 @@ impl HostCore {
     /// Of an offer S6 where it names no slot, S8 where it asks for no channel or for more than 255, S13 where no slot is free
     /// that has a generation left, S11 where memory is refused; an offer of a connection that is there has no effect. Else it
     /// is the stop of the first command that the peer stops: the commands before it have taken effect, and the stopped one has
-    /// none, that of S12 excepted. Each datagram counts in the totals.
+    /// none, that of S12 excepted. Each datagram counts in the totals. Its bytes count for the peer to whose slot it comes from the peer's
+    /// address, and an offer's for the peer that it is or becomes, also where the datagram is stopped: see `tick`.
     pub fn receive(&mut self, from: Addr, bytes: &[u8]) -> Received
         ensures { Receives self.old from bytes.now result self.new }
     {
@@ -169,6 +183,7 @@ impl HostCore {
         receive(
             &mut self.slots,
             &mut self.sleepers,
+            &mut self.credits,
             &self.start,
             from,
             bytes,
@@ -194,11 +209,14 @@ impl HostCore {
         };
         self.service_from = slot_after(self.start.config.peers, sent.0.slot);
         self.totals = self.totals.with_datagram_out(sent.2);
+        count_went(&mut self.credits, usize::from(sent.0.slot), sent.2);
         Some(sent)
     }
 
     /// The clock goes on by so many milliseconds, by a minute at most (our profile). What waited out its timeout is due to go
-    /// again, or its connection has ended; connected peers that are quiet are pinged. Once a second or more has passed since
+    /// again, or its connection has ended; connected peers that are quiet are pinged. A client that a CONNECT named is answered again
+    /// only while its address got at most three times what it sent for this peer, IP and UDP counted: an answer that would be more counts
+    /// as tried, and doesn't go. 7,500 ms after the first one its slot is free. Once a second or more has passed since
     /// the last such moment, the host's outgoing bandwidth is shared out among the connected peers: each one's throttle is
     /// limited by what it put out since and what it may (our profile). It takes no memory.
     pub fn tick(&mut self, ms: u32)
@@ -208,6 +226,7 @@ impl HostCore {
         self.shared_at = pass_time(
             &mut self.slots,
             &mut self.sleepers,
+            &self.credits,
             &self.start,
             self.shared_at,
         );

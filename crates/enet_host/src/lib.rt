@@ -19,6 +19,10 @@
 //!   (`SubmitsEach`).
 //! - `tick` and `set_bandwidth` are one change on each slot; once a second the outgoing bandwidth is shared out among the connected
 //!   peers. `due_in` is in how many milliseconds time brings something: a tick of fewer changes the clock alone (`IsDueIn`).
+//! - What came from the address of a slot's peer, and what went there, is counted: each datagram that comes for that peer from its address,
+//!   whether or not it is stopped, each CONNECT of it (`Counts`), and each datagram that `service` gives (`with_went`), with the headers of
+//!   IP and UDP (`size_of`). At a tick a client that was answered is not answered again where that would bring what went above three times
+//!   what came (`is_short`, and `moved` of `enet_peer`).
 //! - A peer begins with what its host's secret draws for it (`drawn` of `enet_slot`), as by the settings, or as by `set_secret` since
 //!   (`with_secret`).
 //! - `slot_counts` counts the slots that are free, with a generation left or without, and of the others how far their connections have
@@ -50,6 +54,7 @@
 mod broadcast;
 mod calls;
 mod connecting;
+mod credits;
 mod emitting;
 mod events;
 mod foretelling;
@@ -62,6 +67,7 @@ mod ticking;
 mod totals;
 mod turns;
 
+pub use credits::Credit;
 pub use enet_codec::{
     Addr, Config, DisconnectMode, Event, Outward, Packet, PeerRef, Received, Refusal, Secret, Stop,
 };

@@ -8,6 +8,7 @@ ghost use Rattle.enet_slot.specs.Slotted.{all_shown};
 ghost use Rattle.enet_sleepers.specs.Sleeping.{Noted, KeepsSleepers};
 ghost use Rattle.enet_host.specs.Private.Ticking.{all_ticked};
 
+use crate::credits::{Credit, is_short_at};
 use enet_rtt::elapsed;
 use enet_sleepers::Sleepers;
 use enet_slot::{Slot, Start, share_out};
@@ -34,9 +35,9 @@ fn share_if_due(slots: &mut Vec<Slot>, start: &Start, shared_at: u32) -> u32
 }
 
 /// Time has come to `now`, which the host's clock shows, at each slot. It brings those that sleep nothing, so that it goes to the others alone.
-fn tick_awake(slots: &mut Vec<Slot>, sleepers: &Sleepers, now: u32)
+fn tick_awake(slots: &mut Vec<Slot>, sleepers: &Sleepers, credits: &[Credit], now: u32)
     requires { KeepsSleepers now sleepers.now (all_shown slots.old.items) }
-    ensures slots { all_shown slots.new.items ≡ all_ticked now (all_shown slots.old.items) }
+    ensures slots { all_shown slots.new.items ≡ all_ticked now credits.now (all_shown slots.old.items) }
     ensures count { length slots.new.items ≡ length slots.old.items }
     ensures sleepers { KeepsSleepers now sleepers.now (all_shown slots.new.items) }
 {
@@ -45,7 +46,7 @@ fn tick_awake(slots: &mut Vec<Slot>, sleepers: &Sleepers, now: u32)
         let Some(number) = sleepers.next_awake(from) else {
             return;
         };
-        slots[number].tick(now);
+        slots[number].tick(now, is_short_at(credits, number));
         from = number + 1;
     }
 }
@@ -56,6 +57,7 @@ fn tick_awake(slots: &mut Vec<Slot>, sleepers: &Sleepers, now: u32)
 pub(crate) fn pass_time(
     slots: &mut Vec<Slot>,
     sleepers: &mut Sleepers,
+    credits: &[Credit],
     start: &Start,
     shared_at: u32,
 ) -> u32
@@ -63,13 +65,13 @@ pub(crate) fn pass_time(
     requires sleepers { (was : ℕ) × KeepsSleepers was sleepers.old (all_shown slots.old.items) }
     ensures moment { result ≡ (if nat_le 1000 (elapsed_time start.now.clock shared_at) then start.now.clock else shared_at) }
     ensures slots { all_shown slots.new.items ≡ (if nat_le 1000 (elapsed_time start.now.clock shared_at)
-        then map (shared start.now.config.outgoing (count_by is_standing (all_ticked start.now.clock (all_shown slots.old.items)))) (all_ticked start.now.clock (all_shown slots.old.items))
-        else all_ticked start.now.clock (all_shown slots.old.items)) }
+        then map (shared start.now.config.outgoing (count_by is_standing (all_ticked start.now.clock credits.now (all_shown slots.old.items)))) (all_ticked start.now.clock credits.now (all_shown slots.old.items))
+        else all_ticked start.now.clock credits.now (all_shown slots.old.items)) }
     ensures count { length slots.new.items ≡ length slots.old.items }
     ensures sleepers { KeepsSleepers start.now.clock sleepers.new (all_shown slots.new.items) }
 {
     sleepers.advance(start.clock);
-    tick_awake(slots, sleepers, start.clock);
+    tick_awake(slots, sleepers, credits, start.clock);
     let shared_at = share_if_due(slots, start, shared_at);
     sleepers.settle(slots, start.clock);
     shared_at

@@ -172,6 +172,14 @@ marked_sender bound now s = record s { sender = sender.with_marked bound now s.s
 abbrev pub marked : Outbox → ℕ → ℕ → Outbox
 marked o bound now = record o { control = controlling.with_marked bound now o.control; senders = map (marked_sender bound now) o.senders }
 
+-- of channel 0xFF all that waited out its timeout counts as tried, though nothing goes, and waits longer from now on
+abbrev pub held_back : Outbox → ℕ → ℕ → Outbox
+held_back o bound now = record o { control = controlling.with_held_back bound now o.control }
+
+-- so many milliseconds or more have passed since a sent command of channel 0xFF first went
+abbrev pub has_waited : Outbox → ℕ → ℕ → Bool
+has_waited o ms now = list_any (controlling.has_waited ms now) o.control.sent
+
 -- what a moment brings: the end of the peer, which changes nothing here, resends, or nothing
 abbrev pub lateness : Outbox → ℕ → Patience → ℕ → Expiry
 lateness o now patience heard = if has_ended o now patience heard then End else (if has_late o now then Resend else No)
@@ -180,6 +188,12 @@ abbrev pub after_lateness : Expiry → Outbox → ℕ → ℕ → Outbox
 after_lateness No o bound now = o
 after_lateness Resend o bound now = marked o bound now
 after_lateness End o bound now = o
+
+-- the same where nothing is to go
+abbrev pub after_holding : Expiry → Outbox → ℕ → ℕ → Outbox
+after_holding No o bound now = o
+after_holding Resend o bound now = held_back o bound now
+after_holding End o bound now = o
 
 -- a round trip was measured
 abbrev pub sampled : Outbox → ℕ → ℕ → ℕ → ℕ → Outbox

@@ -1,6 +1,7 @@
 //! All that a peer has to send.
 
 ghost use Rattle.std.specs.Prelude.{◌≡◌, ◌+◌, ◌/◌, ◌%◌, ◌≤◌, ◌<◌, ◌⊎◌, ◌↔◌, ◌&&◌, ◌==◌, not, nat_lt, false, [], length, IsTrue, OnOk, OnErr, IfOk, IfErr, IsErrAnd};
+ghost use Rattle.enet_rtt.specs.Clock.{HappensIn};
 ghost use Rattle.enet_throttle.specs.Throttle.{with_interval, limited};
 ghost use Rattle.enet_sender.specs.CommandChoice.{fragment_limit};
 ghost use Rattle.std.specs.List.{list_any};
@@ -8,7 +9,7 @@ ghost use Rattle.enet_fragment.specs.Cutting.{piece_length, piece_count};
 ghost use Rattle.enet_sender.specs.Due.{SendingEnd};
 ghost use Rattle.enet_sender.specs.Sender as sender;
 ghost use Rattle.enet_senders.specs.Controlling.{is_idle};
-ghost use Rattle.enet_outbox.specs.Outbox.{acknowledgement_limit, acknowledging, after_lateness, after_match, cleared, empty_outbox, is_crowded, is_done, has_nothing_reliable, lateness, marked, matched_by, narrowed, sampled, submitted, transit_of, with_control, with_unsequenced};
+ghost use Rattle.enet_outbox.specs.Outbox.{acknowledgement_limit, acknowledging, after_holding, after_lateness, after_match, cleared, empty_outbox, is_crowded, is_done, has_nothing_reliable, has_waited, lateness, marked, matched_by, narrowed, sampled, submitted, transit_of, with_control, with_unsequenced};
 
 use crate::{Acknowledgement, Matched, Unsequenced, lists};
 use bytes::Bytes;
@@ -289,6 +290,36 @@ impl Outbox {
             self.mark(now, bound);
         }
         expiry
+    }
+
+    /// What the moment `now` brings, as `late` has it, to a peer that may put nothing out: where a sent command has waited out its
+    /// timeout, those of channel 0xFF count as tried, though they don't go, and wait longer from then on (our profile).
+    pub fn hold_back(&mut self, now: u32, patience: &Patience, heard: u32, bound: u32) -> Expiry
+        ensures found { result ≡ lateness self.old.outbox now patience.now heard }
+        ensures after { self.new.outbox ≡ after_holding result self.old.outbox bound now }
+        ensures acknowledgement_room { self.new.acknowledgement_room ≡ self.old.acknowledgement_room }
+        ensures control_room { self.new.control_room ≡ self.old.control_room }
+    {
+        let found = self.lateness(now, patience, heard);
+        if found == Expiry::Resend {
+            self.control.hold_back(now, bound);
+        }
+        found
+    }
+
+    /// Whether at the moment `now` so many milliseconds have passed since a sent command of channel 0xFF first went.
+    pub fn has_waited(&self, now: u32, ms: u32) -> bool
+        ensures { result ≡ has_waited self.now.outbox ms now }
+    {
+        self.control.has_waited(now, ms)
+    }
+
+    /// In how many milliseconds after the moment `now` so many have passed since a sent command of channel 0xFF first went: 0 where they
+    /// have, and 4,294,967,295 where nothing is sent there.
+    pub fn next_waited(&self, now: u32, ms: u32) -> u32
+        ensures { HappensIn (has_waited self.now.outbox ms) now result }
+    {
+        self.control.next_waited(now, ms)
     }
 
     /// What a moment brings. The channels are asked for an end only where one of their commands is late.

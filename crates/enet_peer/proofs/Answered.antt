@@ -25,7 +25,7 @@ use Rattle.enet_peer.specs.Peering.{Peering}
 use Rattle.enet_peer.specs.declared.parts.PeerState.{PeerState}
 use Rattle.enet_peer.specs.declared.parts.PeerState.TheVariants as state
 use Rattle.enet_peer.specs.CommandEffect.{Obeys, wants_memory, answered, answered_at, is_answered_in, obeyed, acknowledged, on_acknowledge, on_match}
-use Rattle.enet_peer.specs.Calls.{PutsOut, after_timeouts_by, destination_of, gone_on_in, pace_of, ticked}
+use Rattle.enet_peer.specs.Calls.{PutsOut, after_timeouts_by, destination_of, gone_on_in, moved, pace_of, ticked}
 use Rattle.enet_peer.specs.Reachable.{Answers, IsAnswering, IsReachable, IsStill, answer_to}
 use Rattle.enet_peer.proofs.Obeying.{obeys-holds, unless-holds}
 
@@ -141,6 +141,16 @@ ticked-waits a p now h w =
     let still : IsStill p.outbox.unsequenced p.outbox.control p.outbox.senders =
     subst (λ (s : PeerState). Rattle.enet_peer.specs.Reachable.IsStillIn s p.outbox.unsequenced p.outbox.control p.outbox.senders) w.0 h.still in
     subst (λ (x : Peering). IsAnswering a (ticked x now)) (sym (is-at-end p w.0)) (ticked-at-end a p now (still-stays p.outbox now p.patience p.heard still) w)
+
+-- it is held back at no moment
+moved-at-end : (short : Bool) (a : Acknowledgement) (p : Peering) (now : ℕ) → IsAnswering a (ticked (at-end p) now) → IsAnswering a (moved short (at-end p) now)
+moved-at-end true a p now w = w
+moved-at-end false a p now w = w
+
+pub moved-waits : (a : Acknowledgement) (short : Bool) (p : Peering) (now : ℕ) → IsReachable p → IsAnswering a p → IsAnswering a (moved short p now)
+moved-waits a short p now h w =
+    let is = is-at-end p w.0 in
+    subst (λ (x : Peering). IsAnswering a (moved short x now)) (sym is) (moved-at-end short a p now (subst (λ (x : Peering). IsAnswering a (ticked x now)) is (ticked-waits a p now h w)))
 
 -- ---- a datagram goes
 

@@ -2,11 +2,12 @@
 use Rattle.std.proofs.Common.{◌≡◌, ℕ, ◌≤◌, Bool, true, false, ◌||◌, ◌&&◌, if◌then◌else◌, refl, ap, ap₂, ◌∙◌, arith}
 use Rattle.enet_rtt.specs.Clock.{HappensIn}
 use Rattle.enet_rtt.specs.declared.expiry.Expiry.{Expiry}
+use Rattle.enet_rtt.specs.declared.expiry.Expiry.TheVariants.{No, End}
 use Rattle.enet_senders.specs.declared.control.Control.TheVariants as control
-use Rattle.enet_outbox.specs.Outbox.{has_late, with_control}
+use Rattle.enet_outbox.specs.Outbox.{has_late, lateness, with_control}
 use Rattle.enet_outbox.proofs.Lateness.{nothing-late}
 use Rattle.enet_peer.specs.Peering.{Peering}
-use Rattle.enet_peer.specs.Calls.{after_timeouts_by, is_due, is_pinged, pinged, ticked}
+use Rattle.enet_peer.specs.Calls.{after_timeouts_by, expiry_of, held_back, is_answering, is_due, is_over, is_pinged, is_resend, moved, pinged, ticked}
 
 neither-left : (b c : Bool) → (b || c) ≡ false → b ≡ false
 neither-left true c e = e
@@ -16,10 +17,26 @@ neither-right : (b c : Bool) → (b || c) ≡ false → c ≡ false
 neither-right true c e = absurd (let y : true ≡ false = e in cc)
 neither-right false c e = e
 
+nothing-comes : (p : Peering) (now : ℕ) → is_due p now ≡ false → expiry_of p now ≡ No
+nothing-comes p now none =
+    let calm = neither-left (is_over p now || has_late p.outbox now) (is_pinged p now) none in
+    ap (λ (b : Bool). if b then End else lateness p.outbox now p.patience p.heard) (neither-left (is_over p now) (has_late p.outbox now) calm)
+    ∙ nothing-late p.outbox now p.patience p.heard (neither-right (is_over p now) (has_late p.outbox now) calm)
+
 pub nothing-due : (p : Peering) (now : ℕ) → is_due p now ≡ false → ticked p now ≡ p
 nothing-due p now none =
-    ap (λ (e : Expiry). pinged (after_timeouts_by e p now) now) (nothing-late p.outbox now p.patience p.heard (neither-left (has_late p.outbox now) (is_pinged p now) none))
-    ∙ ap (λ (b : Bool). if b then record p { outbox = with_control p.outbox control.Ping } else p) (neither-right (has_late p.outbox now) (is_pinged p now) none)
+    ap (λ (e : Expiry). pinged (after_timeouts_by e p now) now) (nothing-comes p now none)
+    ∙ ap (λ (b : Bool). if b then record p { outbox = with_control p.outbox control.Ping } else p) (neither-right (is_over p now || has_late p.outbox now) (is_pinged p now) none)
+
+none-of : (b : Bool) → (b && false) ≡ false
+none-of true = refl
+none-of false = refl
+
+-- nor where an answer may not go
+pub nothing-moved : (short : Bool) (p : Peering) (now : ℕ) → is_due p now ≡ false → moved short p now ≡ p
+nothing-moved short p now none =
+    ap (λ (e : Expiry). if short && is_answering p.state && is_resend e then held_back p now else ticked p now) (nothing-comes p now none)
+    ∙ ap (λ (b : Bool). if b then held_back p now else ticked p now) (none-of (short && is_answering p.state)) ∙ nothing-due p now none
 
 -- a peer that awaits no ping is not pinged, and one that does is where the time has come
 pub none-pinged : (connected quiet passed : Bool) → (connected && quiet) ≡ false → (connected && quiet && passed) ≡ false

@@ -11,3 +11,4 @@ pub mod Each
 pub mod Calm
 pub mod Waiting
 pub mod Limited
+pub mod Sampling

@@ -25,7 +25,7 @@ use Rattle.enet_inbox.specs.DataEffect.{DataEffect, handled, stopped as refused,
 use Rattle.enet_rtt.specs.Clock.{meant_time}
 use Rattle.enet_outbox.specs.declared.parts.Matched.{Matched}
 use Rattle.enet_outbox.specs.declared.parts.Matched.TheVariants as matched
-use Rattle.enet_outbox.specs.Outbox.{is_done, matched_by, lateness, with_control}
+use Rattle.enet_outbox.specs.Outbox.{is_done, matched_by, with_control}
 use Rattle.enet_outbox.specs.Emission.{filled}
 use Rattle.enet_peer.specs.declared.parts.PeerState.{PeerState}
 use Rattle.enet_peer.specs.declared.parts.PeerState.TheVariants as state
@@ -34,7 +34,7 @@ use Rattle.enet_peer.specs.Peering.{Peering}
 use Rattle.enet_peer.specs.Endings.{freed, disconnecting, parting, settled, is_later, cut_off_in}
 use Rattle.enet_peer.specs.CommandEffect.{Outcome, answered, answered_at, is_answered_in, is_allowed, is_connect, obeyed, by_body, by_answer, by_arrival, on_data, stopped, unless_refused, wants_memory, acknowledged, with_answer, on_match, is_connecting, on_acknowledge, welcomed, on_verify_in, on_last_disconnect, on_disconnect_in}
 use Rattle.enet_peer.specs.Handling.{Arrival, SoFar, Handles, nothing_left, no_command, stops, goes_on}
-use Rattle.enet_peer.specs.Calls.{Leave, AtOnce, TellsOnce, Asks, AsksLater, Refused, left, PutsOut, after_timeouts, after_timeouts_by, is_pinged, ticked, pace_of, gone_on_in, Taken, next_event, event_after, packet_event, last_event}
+use Rattle.enet_peer.specs.Calls.{Leave, AtOnce, TellsOnce, Asks, AsksLater, Refused, left, PutsOut, after_timeouts, after_timeouts_by, expiry_of, held_back, is_held_back, is_pinged, moved, ticked, pace_of, gone_on_in, Taken, next_event, event_after, packet_event, last_event}
 use Rattle.enet_peer.specs.Held.{HasLimits}
 use Rattle.enet_peer.proofs.Obeying.{obeys-holds, unless-holds, unwelcomed-holds}
 
@@ -211,8 +211,11 @@ timeouts-limited x y No p now h = h
 pub ticked-limited : (x y : ℕ) (p : Peering) (now : ℕ) → HasLimits x y p → HasLimits x y (ticked p now)
 ticked-limited x y p now h =
     let q : Peering = after_timeouts p now in
-    let a : HasLimits x y q = timeouts-limited x y (lateness p.outbox now p.patience p.heard) p now h in
+    let a : HasLimits x y q = timeouts-limited x y (expiry_of p now) p now h in
     if-peer x y (is_pinged q now) (record q { outbox = with_control q.outbox control.Ping }) q a a
+
+pub moved-limited : (x y : ℕ) (short : Bool) (p : Peering) (now : ℕ) → HasLimits x y p → HasLimits x y (moved short p now)
+moved-limited x y short p now h = if-peer x y (is_held_back short p now) (held_back p now) (ticked p now) h (ticked-limited x y p now h)
 
 -- ---- the user's calls
 

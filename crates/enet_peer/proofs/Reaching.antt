@@ -44,7 +44,7 @@ use Rattle.enet_outbox.specs.declared.parts.Unsequenced.{Unsequenced}
 use Rattle.enet_outbox.specs.declared.parts.Matched.{Matched}
 use Rattle.enet_outbox.specs.declared.parts.Matched.TheVariants as matched
 use Rattle.enet_outbox.specs.declared.parts.Pace.{Pace}
-use Rattle.enet_outbox.specs.Outbox.{Outbox, cleared_sender, marked_sender, with_control, after_acknowledgement, acknowledged_on, is_done, is_unsequenced, with_unsequenced, with_sequenced, matched_by, lateness}
+use Rattle.enet_outbox.specs.Outbox.{Outbox, cleared_sender, marked_sender, with_control, after_acknowledgement, acknowledged_on, is_done, is_unsequenced, with_unsequenced, with_sequenced, matched_by}
 use Rattle.enet_outbox.specs.Outbox as outbox
 use Rattle.enet_outbox.specs.Emission.{Filling, filled}
 use Rattle.enet_outbox.proofs.Filled.{by-filling}
@@ -57,7 +57,7 @@ use Rattle.enet_peer.specs.declared.parts.PeerEvent.{PeerEvent}
 use Rattle.enet_peer.specs.declared.parts.PeerEvent.TheVariants as event
 use Rattle.enet_peer.specs.Endings.{ended, freed, disconnecting, parting, settled, is_later, cut_off_in}
 use Rattle.enet_peer.specs.CommandEffect.{Outcome, Obeys, unless_refused, wants_memory, answered, answered_at, is_answered_in, is_allowed, is_connect, obeyed, by_body, by_answer, by_arrival, on_data, stopped, sampled, with_answer, on_match, accepted, is_connecting, on_acknowledge, welcomed, on_verify_in, on_last_disconnect, on_disconnect_in}
-use Rattle.enet_peer.specs.Calls.{Leave, AtOnce, TellsOnce, Asks, AsksLater, Refused, Leaves, left, Submits, submitted, PutsOut, after_timeouts, growth_bound, after_timeouts_by, is_pinged, ticked, is_connected, pace_of, gone_on_in, Taken, Takes, next_event, event_after, packet_event, last_event, with_bandwidth, with_throttle}
+use Rattle.enet_peer.specs.Calls.{Leave, AtOnce, TellsOnce, Asks, AsksLater, Refused, Leaves, left, Submits, submitted, PutsOut, after_timeouts, growth_bound, after_timeouts_by, expiry_of, held_back, is_held_back, is_pinged, moved, ticked, is_connected, pace_of, gone_on_in, Taken, Takes, next_event, event_after, packet_event, last_event, with_bandwidth, with_throttle}
 use Rattle.enet_peer.specs.Reachable.{IsReachable, IsStill, IsStillIn, KeepsHoldings, WaitsIn, holdings_of}
 use Rattle.enet_peer.proofs.Obeying.{obeys-holds, unless-holds, unwelcomed-holds}
 
@@ -559,11 +559,29 @@ timeouts-keep p now No h = h
 pub ticked-keeps : (p : Peering) (now : ℕ) → IsReachable p → IsReachable (ticked p now)
 ticked-keeps p now h =
     let q : Peering = after_timeouts p now in
-    let a : IsReachable q = timeouts-keep p now (lateness p.outbox now p.patience p.heard) h in
+    let a : IsReachable q = timeouts-keep p now (expiry_of p now) h in
     let told : Peering = record q { outbox = with_control q.outbox control.Ping } in
     if-peer (is_pinged q now) told q
     (λ t. connected-keeps q.state told refl (and-left (is_connected q.state) (outbox.has_nothing_reliable q.outbox)
     (and-left (is_connected q.state && outbox.has_nothing_reliable q.outbox) (leb q.ping_interval (Rattle.enet_rtt.specs.Clock.elapsed_time now q.heard)) t)) a.places a.handed_over) a
+
+held-back-keeps : (p : Peering) (now : ℕ) → IsReachable p → IsReachable (held_back p now)
+held-back-keeps p now h =
+    let o : Outbox = p.outbox in
+    record {
+      still = still-in p.state o.unsequenced o.unsequenced o.control (controlling.with_held_back (growth_bound p) now o.control) o.senders o.senders (λ x. record {
+        no_unsequenced = x.no_unsequenced;
+        no_control_sent = ap (map (controlling.held_back (growth_bound p) now)) x.no_control_sent;
+        no_queued = x.no_queued;
+        no_sent = x.no_sent;
+      }) h.still;
+      waits = h.waits;
+      places = h.places;
+      handed_over = h.handed_over;
+    }
+
+pub moved-keeps : (short : Bool) (p : Peering) (now : ℕ) → IsReachable p → IsReachable (moved short p now)
+moved-keeps short p now h = if-peer (is_held_back short p now) (held_back p now) (ticked p now) (λ t. held-back-keeps p now h) (ticked-keeps p now h)
 
 -- ---- the user's calls
 

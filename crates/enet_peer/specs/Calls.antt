@@ -15,7 +15,7 @@ use Rattle.enet_fragment.specs.Cutting.{piece_count}
 use Rattle.enet_sender.specs.CommandChoice.{Packet, fragment_limit}
 use Rattle.enet_outbox.specs.declared.parts.Pace.{Pace}
 use Rattle.enet_outbox.specs.declared.parts.Destination.{Destination}
-use Rattle.enet_outbox.specs.Outbox.{has_nothing_reliable, with_control, has_late, lateness, marked}
+use Rattle.enet_outbox.specs.Outbox.{has_nothing_reliable, with_control, has_late, has_waited, lateness, marked}
 use Rattle.enet_outbox.specs.Outbox as outbox
 use Rattle.enet_outbox.specs.Emission.{filled, Emits}
 use Rattle.enet_peer.specs.declared.parts.PeerState.{PeerState}
@@ -131,8 +131,19 @@ after_timeouts_by End p now = cut_off p
 after_timeouts_by Resend p now = record p { outbox = marked p.outbox (growth_bound p) now }
 after_timeouts_by No p now = p
 
+-- how long a client that was answered is waited for, in milliseconds since the answer first went
+abbrev pub answering_time : ℕ
+answering_time = 7500
+
+abbrev pub is_over : Peering → ℕ → Bool
+is_over p now = is_answering p.state && has_waited p.outbox answering_time now
+
+-- what a moment brings: the end of the peer, resends, or nothing
+abbrev pub expiry_of : Peering → ℕ → Expiry
+expiry_of p now = if is_over p now then End else lateness p.outbox now p.patience p.heard
+
 abbrev pub after_timeouts : Peering → ℕ → Peering
-after_timeouts p now = after_timeouts_by (lateness p.outbox now p.patience p.heard) p now
+after_timeouts p now = after_timeouts_by (expiry_of p now) p now
 
 -- a connected peer that is quiet and was not heard for the interval is pinged
 abbrev pub is_pinged : Peering → ℕ → Bool
@@ -141,13 +152,28 @@ is_pinged p now = is_connected p.state && has_nothing_reliable p.outbox && nat_l
 abbrev pub pinged : Peering → ℕ → Peering
 pinged p now = if is_pinged p now then record p { outbox = with_control p.outbox control.Ping } else p
 
--- whether a moment brings a peer anything: a sent command that waited out its timeout, or a ping
+-- whether a moment brings a peer anything: the end of its wait for a client, a sent command that waited out its timeout, or a ping
 abbrev pub is_due : Peering → ℕ → Bool
-is_due p now = has_late p.outbox now || is_pinged p now
+is_due p now = is_over p now || has_late p.outbox now || is_pinged p now
 
 -- time has come to now
 abbrev pub ticked : Peering → ℕ → Peering
 ticked p now = pinged (after_timeouts p now) now
+
+-- an answer would go again, but `short` says that its client's address sent too little for one more. It counts as tried
+abbrev pub is_resend : Expiry → Bool
+is_resend Resend = true
+is_resend _ = false
+
+abbrev pub is_held_back : Bool → Peering → ℕ → Bool
+is_held_back short p now = short && is_answering p.state && is_resend (expiry_of p now)
+
+abbrev pub held_back : Peering → ℕ → Peering
+held_back p now = record p { outbox = outbox.held_back p.outbox (growth_bound p) now }
+
+-- time has come to now at a peer whose address may have sent too little for another answer
+abbrev pub moved : Bool → Peering → ℕ → Peering
+moved short p now = if is_held_back short p now then held_back p now else ticked p now
 
 -- the next event: Connect, then the packets in the order of dispatch, then Disconnect, whose taking frees the peer
 pub record Taken : Type 0 where

@@ -40,16 +40,10 @@ is_of_handshake (verify_connect verify) = true
 is_of_handshake (disconnect info) = true
 is_of_handshake _ = false
 
--- all but fragments
-abbrev pub is_not_in_pieces : Body → Bool
-is_not_in_pieces (send_fragment fragment payload) = false
-is_not_in_pieces (send_unreliable_fragment fragment payload) = false
-is_not_in_pieces _ = true
-
 -- whether the state allows a command; a CONNECT is refused before
 abbrev pub is_allowed : PeerState → Body → Bool
 is_allowed state.Connected body = true
-is_allowed state.DisconnectLater body = is_not_in_pieces body
+is_allowed state.DisconnectLater body = true
 is_allowed state.Connecting body = is_of_handshake body
 is_allowed state.Answering body = is_of_handshake body
 is_allowed state.Disconnecting body = is_of_handshake body

@@ -11,4 +11,5 @@ pub mod Handling
 pub mod Heading
 pub mod Held
 pub mod Waiting
+pub mod Sampling
 pub mod Private

@@ -3,3 +3,4 @@ pub mod Acting
 pub mod AtOnce
 pub mod Handling
 pub mod Peered
+pub mod Time

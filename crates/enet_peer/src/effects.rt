@@ -1,8 +1,9 @@
 //! The commands that come to a peer.
 
-ghost use Rattle.std.specs.Prelude.{◌≡◌, ℕ, ◌≤◌, ◌&&◌, false, IsTrue, OnOk, OnErr, IfOk, IfErr, Ok, Option, Some, None, is_some, true};
+ghost use Rattle.std.specs.Prelude.{◌≡◌, ℕ, ◌≤◌, ◌%◌, ◌^◌, ◌&&◌, false, IsTrue, OnOk, OnErr, IfOk, IfErr, Ok, Option, Some, None, is_some, true};
 ghost use Rattle.enet_codec.specs.Message.{view};
 ghost use Rattle.enet_codec.specs.Frequent.{acknowledgement};
+ghost use Rattle.enet_rtt.specs.Clock.{meant_time};
 ghost use Rattle.enet_inbox.specs.InboxParts.{told};
 ghost use Rattle.enet_inbox.specs.InboxParts as coming;
 ghost use Rattle.enet_peer.specs.Acting.{foreseen, foreseen_data};
@@ -33,11 +34,7 @@ fn is_allowed(state: PeerState, command: &Command<'_>) -> bool
     ensures { result ≡ is_allowed state (view command.now).body }
 {
     match state {
-        PeerState::Connected => true,
-        PeerState::DisconnectLater => !matches!(
-            command,
-            Command::SendFragment { .. } | Command::SendUnreliableFragment { .. }
-        ),
+        PeerState::Connected | PeerState::DisconnectLater => true,
         PeerState::Connecting
         | PeerState::Answering
         | PeerState::Disconnecting
@@ -341,7 +338,15 @@ impl Peer {
         if self.state == PeerState::Connecting {
             return;
         }
-        self.acknowledge(now, channel, number, meant_time(told, self.offset));
+        let time = self.meant(told);
+        self.acknowledge(now, channel, number, time);
+    }
+
+    /// What a told time stands for on the clock of this peer, which adds its offset to what it tells.
+    fn meant(&self, told: u16) -> u16
+        ensures { result ≡ meant_time told (self.now.peer.offset % 2 ^ 16) }
+    {
+        meant_time(told, self.offset)
     }
 
     /// An acknowledgement takes away what it matches: the command of its number, where that was sent at the time that it repeats. One

@@ -1,6 +1,6 @@
 //! What the definitions of a peer promise. These functions have no body: their contracts are laws.
 
-ghost use Rattle.std.specs.Prelude.{◌≡◌, ℕ, ◌⊎◌, List, Option, Some, Result, true};
+ghost use Rattle.std.specs.Prelude.{◌≡◌, ℕ, ◌<◌, ◌^◌, ◌⊎◌, Bool, List, Option, Some, Result, true};
 ghost use Rattle.enet_codec.specs.Message.{Message, disconnect};
 ghost use Rattle.enet_codec.specs.declared.command.Head.{Head};
 ghost use Rattle.enet_codec.specs.declared.command.Offer.{Offer};
@@ -8,16 +8,24 @@ ghost use Rattle.enet_codec.specs.declared.refusal.Refusal.{Refusal};
 ghost use Rattle.enet_codec.specs.declared.stop.Stop.{Stop};
 ghost use Rattle.enet_connect.specs.declared.server.Server.{Server};
 ghost use Rattle.enet_connect.specs.declared.terms.Terms.{Terms};
+ghost use Rattle.enet_senders.specs.declared.control.Control.{Control};
+ghost use Rattle.enet_senders.specs.declared.control.Numbered.{Numbered};
+ghost use Rattle.enet_senders.specs.declared.control.SentControl.{SentControl};
+ghost use Rattle.enet_senders.specs.Controlling as controlling;
 ghost use Rattle.enet_sender.specs.CommandChoice.{Packet};
+ghost use Rattle.enet_sender.specs.declared.sent.Sent.{Sent};
 ghost use Rattle.enet_outbox.specs.declared.parts.Acknowledgement.{Acknowledgement};
+ghost use Rattle.enet_outbox.specs.declared.parts.Matched.TheVariants as matched;
+ghost use Rattle.enet_outbox.specs.Outbox.{Outbox, matched_by};
 ghost use Rattle.enet_peer.specs.declared.parts.Limits.{Limits};
 ghost use Rattle.enet_peer.specs.declared.parts.Offsets.{Offsets};
 ghost use Rattle.enet_peer.specs.declared.parts.PeerEvent.{PeerEvent};
 ghost use Rattle.enet_peer.specs.declared.parts.PeerState.TheVariants.{Connected, DisconnectLater};
 ghost use Rattle.enet_peer.specs.Peering.{Peering, answering, connecting, joined};
 ghost use Rattle.enet_peer.specs.CommandEffect.{Obeys, obeyed, wants_memory};
-ghost use Rattle.enet_peer.specs.Calls.{Leave, Leaves, PutsOut, Submits, Takes, is_connected, left, next_event, ticked, with_bandwidth, with_ping_interval, with_throttle, with_throttle_limit, with_timeout};
+ghost use Rattle.enet_peer.specs.Calls.{Leave, Leaves, PutsOut, Submits, Takes, is_connected, left, moved, next_event, with_bandwidth, with_ping_interval, with_throttle, with_throttle_limit, with_timeout};
 ghost use Rattle.enet_peer.specs.Reachable.{Answers, IsAnswering, IsReachable, answer_to};
+ghost use Rattle.enet_peer.specs.Sampling.{HasTimes, IsPast, ShowsNoMore, control_on, data_on};
 
 /// What every peer keeps: each that a call makes has it, and each call that changes a peer leaves it so. In Free, Ended and
 /// Parting, and in AckDisconnect too, no packet is queued and nothing is sent and unacknowledged. In AckDisconnect at least the
@@ -30,7 +38,7 @@ pub fn reachable_stays()
     ensures submitted { (r : Result (Unit {0}) (Refusal × List ℕ)) (p q : Peering) (channel : ℕ) (packet : Packet) → IsReachable p → Submits r p q channel packet → IsReachable q }
     ensures put_out { (now : ℕ) (len : Option ℕ) (p q : Peering) (buf : List ℕ) → IsReachable p → PutsOut now len p q buf → IsReachable q }
     ensures obeyed { (r : Result (Unit {0}) Stop) (p q : Peering) (now : ℕ) (sent : Option ℕ) (m : Message) → IsReachable p → Obeys r (wants_memory p now sent m) (obeyed p now sent m) p q → IsReachable q }
-    ensures ticked { (p : Peering) (now : ℕ) → IsReachable p → IsReachable (ticked p now) }
+    ensures moved { (short : Bool) (p : Peering) (now : ℕ) → IsReachable p → IsReachable (moved short p now) }
     ensures left { (r : Result (Unit {0}) Refusal) (how : Leave) (p q : Peering) (info : ℕ) → IsReachable p → Leaves r (left how p info) p q → IsReachable q }
     ensures taken { (e : Option PeerEvent) (p q : Peering) → IsReachable p → Takes e (next_event p) p q → IsReachable q }
     ensures bandwidth { (p : Peering) (incoming outgoing : ℕ) → IsReachable p → IsReachable (with_bandwidth p incoming outgoing) }
@@ -47,6 +55,21 @@ pub fn disconnect_is_answered()
     ensures waits { (p : Peering) (now time info : ℕ) (h : Head) → h.acknowledge ≡ true → (p.state ≡ Connected) ⊎ (p.state ≡ DisconnectLater)
         → IsAnswering (answer_to h time) (obeyed p now (Some time) (record { head = h; body = disconnect info })).after }
     ensures obeyed { (r : Result (Unit {0}) Stop) (a : Acknowledgement) (p q : Peering) (now : ℕ) (sent : Option ℕ) (m : Message) → IsAnswering a p → Obeys r (wants_memory p now sent m) (obeyed p now sent m) p q → IsAnswering a q }
-    ensures ticked { (a : Acknowledgement) (p : Peering) (now : ℕ) → IsReachable p → IsAnswering a p → IsAnswering a (ticked p now) }
+    ensures moved { (a : Acknowledgement) (short : Bool) (p : Peering) (now : ℕ) → IsReachable p → IsAnswering a p → IsAnswering a (moved short p now) }
     ensures goes { (a : Acknowledgement) (now : ℕ) (len : Option ℕ) (p q : Peering) (buf : List ℕ) → IsAnswering a p → PutsOut now len p q buf → Answers a now len p q }
+{}
+
+/// The sample that is taken of an acknowledgement is no longer than the command that it matches has been under way: at most the time from
+/// that command's first send until `now`, or 1 ms where that is 0, if its last send isn't after `now`. A forged acknowledgement can show a
+/// shorter round trip, and never a longer one. Of a server's answer that holds where each time that is kept of it is one from its first
+/// send to its last: that is so after its first send, and stays so when it goes again, is due to go again or is held back.
+pub fn sample_is_no_longer()
+    ensures data { (o : Outbox) (now channel number time : ℕ) → matched_by o channel number time ≡ matched.Data
+        → (p : Sent) × (data_on o channel number ≡ Some p) × (IsPast now p.transmission → ShowsNoMore now time p.transmission) }
+    ensures control { (o : Outbox) (now channel number time : ℕ) (what : Control) → matched_by o channel number time ≡ matched.Control what
+        → (p : SentControl) × (control_on o number ≡ Some p) × (p.command.control ≡ what) × (HasTimes p → IsPast now p.transmission → ShowsNoMore now time p.transmission) }
+    ensures begun { (now timeout : ℕ) (n : Numbered) → now < 2 ^ 32 → HasTimes (controlling.begun now timeout n) }
+    ensures again { (now : ℕ) (p : SentControl) → now < 2 ^ 32 → IsPast now p.transmission → HasTimes p → HasTimes (controlling.again now p) }
+    ensures marked { (bound now : ℕ) (p : SentControl) → HasTimes p → HasTimes (controlling.marked bound now p) }
+    ensures held_back { (bound now : ℕ) (p : SentControl) → IsPast now p.transmission → HasTimes p → HasTimes (controlling.held_back bound now p) }
 {}

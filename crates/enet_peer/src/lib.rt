@@ -7,7 +7,7 @@
 //!   applies, an acknowledgement is queued exactly where they say so, and want of memory changes nothing and comes only where no earlier
 //!   test stops the command (`Obeys`, `obeyed`).
 //! - `emit` puts out what the outbox's definition says and then goes on (`PutsOut`, `gone_on`).
-//! - `tick` (`ticked`), the three disconnects (`Leaves`, `left`), `submit` (`Submits`: the first of E3, E4, E5, else E1, with nothing
+//! - `tick` (`moved`), the three disconnects (`Leaves`, `left`), `submit` (`Submits`: the first of E3, E4, E5, else E1, with nothing
 //!   changed and the body handed back), `submission_refusal`.
 //! - `next_event` (`Takes`), `next_body`, `next_packet`; the makers `joined`, `connecting`, `answering`; and what the user sets
 //!   (`bandwidth`, `throttle_configure`, `throttle_limit`, `ping_interval`, `timeout`, `reserve`).
@@ -23,6 +23,7 @@
 //!   nothing is sent and unacknowledged, an acknowledgement waits in AckDisconnect, one unsequenced DISCONNECT in Parting, nothing in
 //!   Ended and Free; a sender's channel is its place; no receiver keeps what it dispatched.
 //! - A DISCONNECT that can be acknowledged is, by the first command of the datagram that ends the connection (`disconnect_is_answered`).
+//! - No acknowledgement shows a round trip that is longer than the time since the first send of what it matches (`sample_is_no_longer`).
 //!
 //! # Only tested
 //!
@@ -49,7 +50,7 @@ mod time;
 pub use datagram::{receive, what_was_put_out_comes};
 pub use heading::{read_heading, read_offer};
 pub use held::Held;
-pub use laws::{disconnect_is_answered, reachable_stays};
+pub use laws::{disconnect_is_answered, reachable_stays, sample_is_no_longer};
 pub use parts::{Limits, Offsets, PeerEvent, PeerState};
 pub use peer::Peer;
 pub use readings::RoundTrip;

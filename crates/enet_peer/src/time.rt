@@ -1,39 +1,55 @@
 //! What a moment brings.
 
-ghost use Rattle.std.specs.Prelude.{◌≡◌, ℕ, ◌≤◌, ◌<◌, ◌^◌, ◌&&◌, nat_le, IsTrue};
+ghost use Rattle.std.specs.Prelude.{◌≡◌, ℕ, ◌≤◌, ◌<◌, ◌^◌, ◌&&◌, nat_le, Bool, false, IsTrue};
 ghost use Rattle.enet_rtt.specs.Clock.{elapsed_time, HappensIn};
 ghost use Rattle.enet_outbox.specs.Outbox.{has_nothing_reliable};
 ghost use Rattle.enet_peer.specs.Endings.{cut_off};
-ghost use Rattle.enet_peer.specs.Calls.{after_timeouts, growth_bound, is_connected, is_due, is_pinged, pinged, ticked};
+ghost use Rattle.enet_peer.specs.Calls.{expiry_of, growth_bound, is_connected, is_due, is_over, is_pinged, moved, pinged};
+ghost use Rattle.enet_peer.specs.Private.Time.{expired, timed_out};
 
 use crate::{Peer, PeerState};
 use enet_rtt::{Expiry, elapsed};
 use enet_senders::Control;
 
+/// How long a client that was answered is waited for, in milliseconds since the answer first went (our profile).
+const ANSWERING_TIME: u32 = 7_500;
+
 impl Peer {
     /// Time has come to `now`, in milliseconds. Where a sent command has waited out its timeout it is due to go again, unless
-    /// the peer's patience is over: then the connection has ended, with the word 0, and a server that still waits for the
-    /// client is free at once. A connected peer that has no reliable command on the way and was not heard for the ping
+    /// the peer's patience is over: then the connection has ended, with the word 0. A server that waits for its client is free without an
+    /// event once its patience is over, or 7,500 ms have passed since its answer first went. `short` says that the client's address has
+    /// sent too little for another answer: then that one doesn't become due, but counts as tried, and is looked at again once it has
+    /// waited out its timeout from now on. A connected peer that has no reliable command on the way and was not heard for the ping
     /// interval is pinged (our profile).
-    pub fn tick(&mut self, now: u32)
-        ensures { self.new.peer ≡ ticked self.old.peer now }
+    pub fn tick(&mut self, now: u32, short: bool)
+        ensures { self.new.peer ≡ moved short self.old.peer now }
     {
-        self.time_out(now);
+        self.time_out(now, short);
         self.ping(now);
     }
 
     /// In how many milliseconds after the moment `now` time brings the peer anything: a sent command that has waited out its
-    /// timeout, or a ping. A tick before that changes nothing. 0 where a tick at `now` brings something, and 4,294,967,295
-    /// where time alone brings nothing.
+    /// timeout, the end of its wait for a client, or a ping. A tick before that changes nothing. 0 where a tick at `now` brings
+    /// something, and 4,294,967,295 where time alone brings nothing.
     pub fn due_in(&self, now: u32) -> u32
         ensures due { HappensIn (is_due self.now.peer) now result }
-        ensures calm { (later : ℕ) → later < 2 ^ 32 → elapsed_time later now < result → ticked self.now.peer later ≡ self.now.peer }
+        ensures calm { (later : ℕ) (short : Bool) → later < 2 ^ 32 → elapsed_time later now < result → moved short self.now.peer later ≡ self.now.peer }
     {
-        let late = self.outbox.next_late(now);
+        let late = self.over_in(now).min(self.outbox.next_late(now));
         if late <= self.silent_in(now) {
             return late;
         }
         late.min(self.pinged_in(now))
+    }
+
+    /// In how many milliseconds after the moment `now` the wait for a client is over; 4,294,967,295 where none is waited for.
+    fn over_in(&self, now: u32) -> u32
+        ensures { HappensIn (is_over self.now.peer) now result }
+    {
+        if self.state == PeerState::Answering {
+            return self.outbox.next_waited(now, ANSWERING_TIME);
+        }
+        u32::MAX
     }
 
     /// In how many milliseconds after the moment `now` nothing was heard for the ping interval, if nothing comes before that.
@@ -53,13 +69,43 @@ impl Peer {
         u32::MAX
     }
 
-    /// Marks what waited out its timeout, or ends a peer whose patience is over.
-    fn time_out(&mut self, now: u32)
-        ensures { self.new.peer ≡ after_timeouts self.old.peer now }
+    /// Marks what waited out its timeout, holds it back, or ends a peer whose patience is over.
+    fn time_out(&mut self, now: u32, short: bool)
+        ensures { self.new.peer ≡ timed_out short self.old.peer now }
+    {
+        if self.expire(now, short) == Expiry::End {
+            self.cut_off();
+        }
+    }
+
+    /// What a moment brings. What waited out its timeout is marked or held back.
+    fn expire(&mut self, now: u32, short: bool) -> Expiry
+        ensures found { result ≡ expiry_of self.old.peer now }
+        ensures after { self.new.peer ≡ expired short self.old.peer now }
+    {
+        if self.state != PeerState::Answering {
+            let bound = self.growth_bound();
+            return self.outbox.late(now, &self.patience, self.heard, bound);
+        }
+        if self.outbox.has_waited(now, ANSWERING_TIME) {
+            return Expiry::End;
+        }
+        self.expire_answer(now, short)
+    }
+
+    /// The same at a peer that waits for its client, and not too long.
+    fn expire_answer(&mut self, now: u32, short: bool) -> Expiry
+        requires answering { self.old.peer.state ≡ PeerState.Answering }
+        requires waits { is_over self.old.peer now ≡ false }
+        ensures found { result ≡ expiry_of self.old.peer now }
+        ensures after { self.new.peer ≡ expired short self.old.peer now }
     {
         let bound = self.growth_bound();
-        if self.outbox.late(now, &self.patience, self.heard, bound) == Expiry::End {
-            self.cut_off();
+        if short {
+            self.outbox
+                .hold_back(now, &self.patience, self.heard, bound)
+        } else {
+            self.outbox.late(now, &self.patience, self.heard, bound)
         }
     }
 

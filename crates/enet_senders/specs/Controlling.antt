@@ -1,9 +1,10 @@
 -- The sender of channel 0xFF: what is queued, and what is sent and not yet acknowledged. Times are in milliseconds.
-use Rattle.std.specs.Prelude.{◌≡◌, ℕ, ◌+◌, ◌<◌, Bool, true, false, ◌&&◌, not, ◌==◌, nat_lt, if◌then◌else◌, List, [], ◌∷◌, ◌++◌, length, map, Option, Some, None, slice_get, slice_set, is_some}
+use Rattle.std.specs.Prelude.{◌≡◌, ℕ, ◌+◌, ◌<◌, Bool, true, false, ◌&&◌, not, ◌==◌, nat_lt, nat_le, if◌then◌else◌, List, [], ◌∷◌, ◌++◌, length, map, Option, Some, None, slice_get, slice_set, is_some}
 use Rattle.std.specs.List.{position, remove}
 use Rattle.enet_codec.specs.Message.{Message, Body, connect, verify_connect, disconnect, ping, bandwidth_limit, throttle_configure, IsMessage, canonical}
 use Rattle.enet_codec.specs.Writing.{Puts}
 use Rattle.enet_seq.specs.Windows.{after, ahead}
+use Rattle.enet_rtt.specs.Clock.{elapsed_time}
 use Rattle.enet_rtt.specs.SendTimes.{no_sends, with_send, has_time}
 use Rattle.enet_rtt.specs.Transmission as transmission
 use Rattle.enet_rtt.specs.declared.expiry.Patience.{Patience}
@@ -156,6 +157,18 @@ marked bound now p = record p { transmission = transmission.marked bound now p.t
 
 abbrev pub with_marked : ℕ → ℕ → Commands → Commands
 with_marked bound now c = record c { sent = map (marked bound now) c.sent }
+
+-- where it is late, it counts as tried though nothing goes: it waits longer, from now on. The times of its sends stay
+abbrev pub held_back : ℕ → ℕ → SentControl → SentControl
+held_back bound now p =
+    if is_late now p then record p { transmission = transmission.again now (transmission.marked bound now p.transmission) } else p
+
+abbrev pub with_held_back : ℕ → ℕ → Commands → Commands
+with_held_back bound now c = record c { sent = map (held_back bound now) c.sent }
+
+-- so many milliseconds or more have passed since it first went
+abbrev pub has_waited : ℕ → ℕ → SentControl → Bool
+has_waited ms now p = nat_le ms (elapsed_time now p.transmission.first)
 
 -- it is late, and the peer, last heard at `heard`, has timed out over it
 abbrev pub ends : ℕ → Patience → ℕ → SentControl → Bool

@@ -5,11 +5,11 @@ ghost use Rattle.std.specs.List.{list_any};
 ghost use Rattle.enet_rtt.specs.Clock.{HappensIn};
 ghost use Rattle.enet_sender.specs.Counting.{added};
 ghost use Rattle.enet_senders.specs.Counting.{count_control};
-ghost use Rattle.enet_senders.specs.Controlling.{after_match, acknowledged_control, after_lateness, cleared, Did, is_idle, is_at_rest, lateness, next, next_queued, next_resent, nothing_controlled, ends, is_late, with_marked, with_queued};
+ghost use Rattle.enet_senders.specs.Controlling.{after_match, acknowledged_control, after_lateness, cleared, Did, is_idle, is_at_rest, lateness, next, next_queued, next_resent, nothing_controlled, ends, has_waited, is_late, with_held_back, with_marked, with_queued};
 
 use crate::queue::{
-    any_ends, any_late, count_sent_again, is_in_span, lateness, make_room, mark, next_late,
-    position_of, position_of_due, put, send_again, send_head,
+    any_ends, any_late, any_waited, count_sent_again, hold_back, is_in_span, lateness, make_room,
+    mark, next_late, next_waited, position_of, position_of_due, put, send_again, send_head,
 };
 use crate::{Control, Numbered, SentControl};
 use enet_codec::Refusal;
@@ -238,6 +238,31 @@ impl ControlChannel {
         ensures room { self.new.room ≡ self.old.room }
     {
         mark(&mut self.sent, now, bound);
+    }
+
+    /// Each sent command that has waited out its timeout at the moment `now` counts as tried once more, though it doesn't go: it waits
+    /// twice as long from then on, but no longer than `bound` milliseconds, or as long as it did where that is longer (our profile). No
+    /// acknowledgement matches it by that moment.
+    pub fn hold_back(&mut self, now: u32, bound: u32)
+        ensures commands { self.new.commands ≡ with_held_back bound now self.old.commands }
+        ensures room { self.new.room ≡ self.old.room }
+    {
+        hold_back(&mut self.sent, now, bound);
+    }
+
+    /// Whether at the moment `now` so many milliseconds have passed since a sent command first went.
+    pub fn has_waited(&self, now: u32, ms: u32) -> bool
+        ensures { result ≡ list_any (has_waited ms now) self.now.commands.sent }
+    {
+        any_waited(&self.sent, now, ms)
+    }
+
+    /// In how many milliseconds after the moment `now` so many have passed since a sent command first went: 0 where they have, and
+    /// 4,294,967,295 where nothing is sent.
+    pub fn next_waited(&self, now: u32, ms: u32) -> u32
+        ensures { HappensIn (λ (later : ℕ). list_any (has_waited ms later) self.now.commands.sent) now result }
+    {
+        next_waited(&self.sent, now, ms)
     }
 
     /// Drops all that is queued or sent. The numbers go on from where they stand. Then there is room for one command.

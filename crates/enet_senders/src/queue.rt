@@ -8,14 +8,14 @@ ghost use Rattle.enet_codec.specs.Writing.{Puts};
 ghost use Rattle.enet_rtt.specs.Clock.{HappensIn};
 ghost use Rattle.enet_senders.specs.declared.control.Numbered.{Numbered};
 ghost use Rattle.enet_senders.specs.declared.control.SentControl.{SentControl};
-ghost use Rattle.enet_senders.specs.Controlling.{Commands, again, begun, ends, is_in_span, is_late, is_reliable, lateness, marked, message_of, position_of};
+ghost use Rattle.enet_senders.specs.Controlling.{Commands, again, begun, ends, has_waited, held_back, is_in_span, is_late, is_reliable, lateness, marked, message_of, position_of};
 ghost use Rattle.enet_sender.specs.Counting.{added};
 ghost use Rattle.enet_senders.specs.Counting.{is_sent_again};
 ghost use Rattle.enet_senders.specs.Invariant.{KeepsRoom, room_of};
 
 use crate::{Numbered, SentControl};
 use enet_codec::write_command;
-use enet_rtt::{Expiry, Patience, SendTimes, Transmission};
+use enet_rtt::{Expiry, Patience, SendTimes, Transmission, elapsed};
 use enet_seq::ahead;
 use std::collections::VecDeque;
 
@@ -198,6 +198,48 @@ pub fn mark(sent: &mut VecDeque<SentControl>, now: u32, bound: u32)
     for place in 0..sent.len() {
         sent[place].transmission.mark(now, bound);
     }
+}
+
+/// A command that is late counts as tried, though it doesn't go.
+fn hold_back_one(sent: &mut SentControl, now: u32, bound: u32)
+    ensures { sent.new ≡ held_back bound now sent.old }
+{
+    if sent.transmission.is_late(now) {
+        sent.transmission.mark(now, bound);
+        sent.transmission.send_again(now);
+    }
+}
+
+/// All that is late counts as tried, though nothing goes.
+#[tactic(auto, using(crate::proofs::Marking::map_held_back))]
+pub fn hold_back(sent: &mut VecDeque<SentControl>, now: u32, bound: u32)
+    ensures sent { sent.new.items ≡ map (held_back bound now) sent.old.items }
+    ensures len { deque_len sent.new ≡ deque_len sent.old }
+    ensures capacity { deque_capacity sent.new ≡ deque_capacity sent.old }
+{
+    for place in 0..sent.len() {
+        hold_back_one(&mut sent[place], now, bound);
+    }
+}
+
+/// Whether so many milliseconds have passed since a sent command first went.
+pub fn any_waited(sent: &VecDeque<SentControl>, now: u32, ms: u32) -> bool
+    ensures { result ≡ list_any (has_waited ms now) sent.now.items }
+{
+    sent.iter()
+        .any(|sent| elapsed(now, sent.transmission.first) >= ms)
+}
+
+/// In how many milliseconds after the moment `now` so many have passed since a sent command first went: 0 where they have.
+pub fn next_waited(sent: &VecDeque<SentControl>, now: u32, ms: u32) -> u32
+    ensures { HappensIn (λ (later : ℕ). list_any (has_waited ms later) sent.now.items) now result }
+{
+    let mut wait = u32::MAX;
+    for place in 0..sent.len() {
+        let command = &sent[place];
+        wait = wait.min(ms.saturating_sub(elapsed(now, command.transmission.first)));
+    }
+    wait
 }
 
 /// What a moment brings, the peer having been heard last at `heard`.

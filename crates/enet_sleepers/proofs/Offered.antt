@@ -1,11 +1,13 @@
 -- Where an offer is to go.
-use Rattle.std.proofs.Common.{◌≡◌, ℕ, ◌+◌, ◌<◌, ◌≤◌, ◌⊎◌, inl, inr, Bool, true, false, ◌&&◌, nat_lt, cond, ltb, Option, Some, None, List, length, get_or, sym, ap, subst, ◌∙◌, arith}
+use Rattle.std.proofs.Common.{◌≡◌, ℕ, ◌+◌, ◌<◌, ◌≤◌, ◌⊎◌, inl, inr, Bool, true, false, ◌&&◌, nat_lt, cond, ltb, Option, Some, None, IfNone, IfSome, List, length, get_or, refl, sym, ap, subst, ◌∙◌, arith}
 use Rattle.std.specs.List.{list_any, position, position_or_len}
 use Rattle.std.proofs.lemmas.Bool.{lt-ltb, le-ltb, cases_lt}
-use Rattle.std.proofs.lemmas.List.{get_or-map, get_or_default}
-use Rattle.std.proofs.lemmas.List.Sums.{position_or_len_is}
-use Rattle.std.proofs.lemmas.List.Folds.{list_any_none}
-use Rattle.std.proofs.lemmas.Option.{slice_get-get_or}
+use Rattle.std.proofs.lemmas.Bool.Decides.{nat_tests}
+use Rattle.std.proofs.lemmas.List.{get_or-map, get_or_default, get_or_past}
+use Rattle.std.proofs.lemmas.List.Sums.{position_or_len_is, fails_before_first}
+use Rattle.std.proofs.lemmas.List.Folds.{list_any_at, list_any_none}
+use Rattle.std.proofs.lemmas.List.Quantifiers.{position-Some}
+use Rattle.std.proofs.lemmas.Option.{slice_get-get_or, get_or_from_slice_get}
 use Rattle.enet_codec.specs.declared.address.Addr.{Addr}
 use Rattle.enet_deadlines.specs.Sets.{IsIn, IsOut}
 use Rattle.enet_peer.specs.Peering.{Peering}
@@ -13,11 +15,13 @@ use Rattle.enet_slot.specs.declared.slot.Slot.{Slot}
 use Rattle.enet_slot.specs.Slot.{SlotState}
 use Rattle.enet_slot.specs.Giving.{unused_slot, is_vacant, is_available}
 use Rattle.enet_slot.specs.Receiving.{is_connection, is_connection_in}
+use Rattle.enet_slot.specs.declared.all.Seat.TheVariants.{Known}
+use Rattle.enet_slot.specs.Seating.{IsSeat}
 use Rattle.enet_slot.specs.Slotted.{shown, all_shown}
 use Rattle.enet_sleepers.specs.declared.marks.Mark.{Mark}
 use Rattle.enet_sleepers.specs.Marks.{mark_of, Names}
 use Rattle.enet_sleepers.specs.Sleeping.{Noted, KeepsSleepers}
-use Rattle.enet_sleepers.specs.Private.Sleepers.{NoneOf, KnownNowhere}
+use Rattle.enet_sleepers.specs.Private.Sleepers.{NoneOf, KnownAt, KnownNowhere}
 use Rattle.enet_sleepers.proofs.Dueness.{in-or-out}
 use Rattle.enet_sleepers.proofs.Marking.{unmarked-unknown}
 
@@ -125,3 +129,38 @@ nowhere-more from word place slots set s is other none = λ i low inside. elim (
       let same : i ≡ place = omega (arith, low, past) in
       ap (λ (j : ℕ). is_connection from word (get_or slots j unused_slot)) same ∙ ap (is_connection from word) is ∙ other
 ]
+
+-- what a search that found nothing says
+pub none-then : {X P Q : Type 0} (r : Option X) → (P → Q) → IfNone r P → IfNone r Q
+none-then None then none = then none
+none-then (Some x) then none = tt
+
+-- the slot that a mark names may hold it
+pub known-named : (from : Addr) (word number : ℕ) (slots : List SlotState) → is_connection from word (get_or slots number unused_slot) ≡ true → KnownAt from word slots number
+known-named from word number slots is = elim (cases_lt number (length slots)) [
+  | inl inside ↦ (inside, is)
+  | inr past ↦ let x : false ≡ true = sym (ap (is_connection from word) (get_or_past slots number unused_slot past)) ∙ is in absurd (cc)
+]
+
+-- or the first of all does, if one does
+pub known-first : (from : Addr) (word : ℕ) (slots : List SlotState) (r : Option ℕ) → r ≡ position (is_connection from word) slots → IfSome r (λ i. KnownAt from word slots i)
+known-first from word slots None e = tt
+known-first from word slots (Some i) e = let h = position-Some (is_connection from word) slots i unused_slot (sym e) in (h.0, h.1)
+
+past-all : (b : Bool) (n len : ℕ) → ltb n len ≡ b → cond b (Some n) None ≡ None → len ≤ n
+past-all true n len e none = absurd (cc)
+past-all false n len e none = grind (arith, nat_tests, e)
+
+pub known-none : (from : Addr) (word : ℕ) (slots : List SlotState) (r : Option ℕ) → r ≡ position (is_connection from word) slots → IfNone r (list_any (is_connection from word) slots ≡ false)
+known-none from word slots (Some i) e = tt
+known-none from word slots None e =
+    let p = is_connection from word in
+    let n = position_or_len p slots in
+    let past : length slots ≤ n = past-all (ltb n (length slots)) n (length slots) refl (sym e) in
+    list_any_none p slots (λ i d inside. fails_before_first p slots i d (omega (arith, inside, past)))
+
+-- where it is known an offer is to go there
+pub seat-known : (from : Addr) (word generations i : ℕ) (slots : List SlotState) → KnownAt from word slots i → IsSeat from word generations slots (Known i)
+seat-known from word generations i slots known =
+    let p = is_connection from word in
+    (list_any_at p slots i unused_slot known.0 known.1, known.0, λ s there. ap p (sym (get_or_from_slice_get slots i s unused_slot there)) ∙ known.1)

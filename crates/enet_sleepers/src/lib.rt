@@ -7,8 +7,9 @@
 //!
 //! Proved: what is noted of the slots stays true of them at each call, whatever the slots are (`KeepsSleepers`): one that sleeps is free,
 //! or has nothing to put out or to tell, and is due first at the moment that is noted. Which slot is awake next is exact (`IsNextFrom`), as
-//! are the first slot that can be given out (`first_available`), where an offer is to go (`IsSeat`), and in how many milliseconds time brings
-//! a slot anything, as far as that is within a second (`is_due_soon`). E1 only at `new`; no other call takes memory.
+//! are the first slot that can be given out (`first_available`), where an offer is to go, or which slot holds its connection (`IsSeat`), and
+//! in how many milliseconds time brings a slot anything, as far as that is within a second (`is_due_soon`). E1 only at `new`; no other call
+//! takes memory.
 //! Neither proved nor tested here: that a slot which has nothing falls asleep, and what a call looks at. `wake` takes a step for each
 //! doubling of the slots at most; `advance` that for each slot that is due; `settle` looks at those that are awake alone, `due_in` at these,
 //! too; `first_available` at those that are awake or sleep and are free, up to the one that it finds. A look at a slot, as by `hear`, goes

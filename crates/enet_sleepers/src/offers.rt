@@ -1,18 +1,18 @@
 //! Which slot an offer is to go to.
 
-ghost use Rattle.std.specs.Prelude.{◌≡◌, ℕ, ◌<◌, ◌≤◌, true, false, length, get_or, IfSome};
+ghost use Rattle.std.specs.Prelude.{◌≡◌, ℕ, ◌<◌, ◌≤◌, true, false, length, get_or, IfNone, IfSome};
 ghost use Rattle.std.specs.List.{list_any, position};
 ghost use Rattle.enet_slot.specs.Giving.{unused_slot, is_available};
 ghost use Rattle.enet_slot.specs.Receiving.{is_connection};
 ghost use Rattle.enet_slot.specs.Seating.{IsSeat};
 ghost use Rattle.enet_slot.specs.Slotted.{all_shown};
 ghost use Rattle.enet_sleepers.specs.Sleeping.{KeepsSleepers};
-ghost use Rattle.enet_sleepers.specs.Private.Sleepers.{NoneOf, KnownNowhere};
+ghost use Rattle.enet_sleepers.specs.Private.Sleepers.{NoneOf, KnownAt, KnownNowhere};
 
 use crate::marks::{Mark, mark_of};
 use crate::sleepers::Sleepers;
 use enet_codec::Addr;
-use enet_slot::{Seat, Slot, any_is_connection};
+use enet_slot::{Seat, Slot, position_of_connection};
 
 impl Sleepers {
     /// The first slot that is free and has a generation left of so many. Of those that sleep the free ones alone are looked at, up to it.
@@ -72,39 +72,42 @@ impl Sleepers {
         last
     }
 
-    /// Whether a slot holds a connection with this address and connect id, which takes something in. Of those that sleep mostly one at
+    /// A slot that holds a connection with this address and connect id, which takes something in. Of those that sleep mostly one at
     /// most is looked at: all are where two of them have the same mark.
-    fn is_known(&self, slots: &[Slot], from: Addr, connect_id: u32) -> bool
+    fn known_at(&self, slots: &[Slot], from: Addr, connect_id: u32) -> Option<usize>
         requires { (now : ℕ) × KeepsSleepers now self.now (all_shown slots.now) }
-        ensures { result ≡ list_any (is_connection from connect_id) (all_shown slots.now) }
+        ensures found { IfSome result (λ i. KnownAt from connect_id (all_shown slots.now) i) }
+        ensures none { IfNone result (list_any (is_connection from connect_id) (all_shown slots.now) ≡ false) }
     {
         match mark_of(&self.marks, from) {
-            Mark::Nobody => self.awake_knows(slots, from, connect_id),
+            Mark::Nobody => self.awake_known_at(slots, from, connect_id),
             Mark::One(number) => {
-                slot_knows(slots, usize::from(number), from, connect_id)
-                    || self.awake_knows(slots, from, connect_id)
+                let number = usize::from(number);
+                if slot_knows(slots, number, from, connect_id) {
+                    Some(number)
+                } else {
+                    self.awake_known_at(slots, from, connect_id)
+                }
             }
-            Mark::Several => any_is_connection(slots, from, connect_id),
+            Mark::Several => position_of_connection(slots, from, connect_id),
         }
     }
 
     /// The same of those that are awake.
-    fn awake_knows(&self, slots: &[Slot], from: Addr, connect_id: u32) -> bool
+    fn awake_known_at(&self, slots: &[Slot], from: Addr, connect_id: u32) -> Option<usize>
         requires { (now : ℕ) × KeepsSleepers now self.now (all_shown slots.now) }
-        ensures found { result ≡ true → list_any (is_connection from connect_id) (all_shown slots.now) ≡ true }
-        ensures none { result ≡ false → KnownNowhere from connect_id (all_shown slots.now) self.now.awake }
+        ensures found { IfSome result (λ i. KnownAt from connect_id (all_shown slots.now) i) }
+        ensures none { IfNone result (KnownNowhere from connect_id (all_shown slots.now) self.now.awake) }
     {
         let mut place = 0;
         while place < slots.len() {
-            let Some(number) = self.next_awake(place) else {
-                return false;
-            };
+            let number = self.next_awake(place)?;
             if slots[number].is_connection(from, connect_id) {
-                return true;
+                return Some(number);
             }
             place = number + 1;
         }
-        false
+        None
     }
 
     /// Where an offer from this address with this connect id is to go, if so many generations are allowed.
@@ -120,8 +123,8 @@ impl Sleepers {
         ensures kept { (now : ℕ) → KeepsSleepers now self.old (all_shown slots.now) → KeepsSleepers now self.new (all_shown slots.now) }
     {
         self.sift(slots, from);
-        if self.is_known(slots, from, connect_id) {
-            return Seat::Known;
+        if let Some(place) = self.known_at(slots, from, connect_id) {
+            return Seat::Known(place);
         }
         match self.first_available(slots, generations) {
             Some(place) => Seat::At(place),

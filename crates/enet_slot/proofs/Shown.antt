@@ -1,7 +1,7 @@
 -- Slots of the code and as they are shown.
-use Rattle.std.proofs.Common.{◌≡◌, ℕ, ◌<◌, Bool, Option, Some, List, length, slice_get, slice_set, get_or, refl, ap, ◌∙◌, ◌||◌, [], ◌∷◌}
+use Rattle.std.proofs.Common.{◌≡◌, ℕ, ◌+◌, ◌<◌, Bool, not, cond, ltb, Option, Some, None, List, length, slice_get, slice_set, get_or, refl, sym, ap, ap₂, ◌∙◌, [], ◌∷◌}
 use Rattle.std.proofs.lemmas.List.{map-set, length-map}
-use Rattle.std.specs.List.{list_any}
+use Rattle.std.specs.List.{position, position_or_len}
 use Rattle.std.proofs.Math.Seq.{map-set_same}
 use Rattle.std.specs.Option.{option_map}
 use Rattle.std.proofs.lemmas.Option.{slice_get-map, slice_get_read}
@@ -24,7 +24,10 @@ same-shown xs i x y read same = map-set_same shown xs i y x (same ∙ ap shown r
 pub length-shown : (xs : List Slot) → length (all_shown xs) ≡ length xs
 length-shown xs = length-map xs shown
 
--- a test of slots
-pub any-shown : (p : SlotState → Bool) (xs : List Slot) → list_any (λ (x : Slot). p (shown x)) xs ≡ list_any p (all_shown xs)
-any-shown p [] = refl
-any-shown p (x ∷ xs) = ap (λ (b : Bool). p (shown x) || b) (any-shown p xs)
+-- the first slot that passes a test
+place-shown : (p : SlotState → Bool) (xs : List Slot) → position_or_len (λ (x : Slot). p (shown x)) xs ≡ position_or_len p (all_shown xs)
+place-shown p [] = refl
+place-shown p (x ∷ xs) = ap (λ (n : ℕ). cond (not (p (shown x))) (1 + n) 0) (place-shown p xs)
+
+pub position-shown : (p : SlotState → Bool) (xs : List Slot) → position (λ (x : Slot). p (shown x)) xs ≡ position p (all_shown xs)
+position-shown p xs = ap₂ (λ (n len : ℕ). cond (ltb n len) (Some n) None) (place-shown p xs) (sym (length-shown xs))

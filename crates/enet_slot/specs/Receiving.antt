@@ -28,6 +28,14 @@ is_deaf _ = false
 abbrev pub fits_session : Peering → ℕ → Bool
 fits_session p session = if p.terms.slot == no_peer then true else session == p.terms.incoming_session
 
+-- whether a slot holds a peer at this address that takes datagrams in
+abbrev pub hears_in : SlotState → Addr → Option Peering → Bool
+hears_in s from None = false
+hears_in s from (Some p) = not (is_deaf p.state) && is_same_address s.address from
+
+abbrev pub hears : Addr → SlotState → Bool
+hears from s = hears_in s from s.peer
+
 -- why a slot takes a datagram from an address not in, in the order of tests
 abbrev pub refused_by_peer : SlotState → Addr → ℕ → Option Peering → Option Stop
 refused_by_peer s from session None = Some stop.UnknownPeer

@@ -1,7 +1,7 @@
 //! The slots of a host: how they begin, whether one holds a connection, and what the host's bandwidths do to them.
 
 ghost use Rattle.std.specs.Prelude.{◌≡◌, ◌≤◌, true, map, replicate, length, All, OnOk, OnErr, IfOk, IfErr};
-ghost use Rattle.std.specs.List.{count_by, list_any};
+ghost use Rattle.std.specs.List.{count_by, list_any, position};
 ghost use Rattle.enet_codec.specs.Config.{is_in_range};
 ghost use Rattle.enet_peer.specs.Peering.{Peering};
 ghost use Rattle.enet_peer.specs.Calls as peers;
@@ -42,26 +42,26 @@ pub fn joined_slots(alloc: Global, config: &Config, address: Addr) -> Result<Vec
     Ok(slots)
 }
 
-fn any_of(slots: &[Slot], from: Addr, connect_id: u32) -> bool
-    ensures { result ≡ list_any (λ (s : Slot). is_connection from connect_id (shown s)) slots.now }
+fn position_in(slots: &[Slot], from: Addr, connect_id: u32) -> Option<usize>
+    ensures { result ≡ position (λ (s : Slot). is_connection from connect_id (shown s)) slots.now }
 {
     slots
         .iter()
-        .any(|slot| slot.is_connection(from, connect_id))
+        .position(|slot| slot.is_connection(from, connect_id))
 }
 
-/// Whether a slot holds a connection with this address and connect id, which takes something in.
-pub fn any_is_connection(slots: &[Slot], from: Addr, connect_id: u32) -> bool
-    ensures { result ≡ list_any (is_connection from connect_id) (all_shown slots.now) }
+/// The first slot that holds a connection with this address and connect id, which takes something in.
+pub fn position_of_connection(slots: &[Slot], from: Addr, connect_id: u32) -> Option<usize>
+    ensures { result ≡ position (is_connection from connect_id) (all_shown slots.now) }
 {
-    any_of(slots, from, connect_id)
+    position_in(slots, from, connect_id)
 }
 
 /// What a host finds among its slots for an offer.
 #[derive(Clone, Copy)]
 pub enum Seat {
-    /// One holds the offer's connection already.
-    Known,
+    /// This one holds the offer's connection already.
+    Known(usize),
     /// Else this is the first that is free and has a generation left.
     At(usize),
     /// Else there is none.

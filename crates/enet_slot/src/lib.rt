@@ -6,9 +6,10 @@
 //! and has the next generation (`vacated`). `ask` and `answer` give it to a peer (`asking`, `answering`), which begins with what the
 //! host's secret draws for it (`drawn`). The tests of `refused_by`, in their order, say which datagrams it takes in, and `is_available`
 //! says whether it can be given out. A slot of which `only_waits` answers true has nothing that goes and nothing to tell (`Waits`). `tick`
-//! is its peer's (`changed`), and `due_in` says in how many milliseconds that brings something. `held` is what its peer holds of what the
-//! other end sent (`held_in`), within `most_in`. Want of memory changes nothing.
-//! Over all slots of a host: `unused_slots` and `joined_slots` make them, `any_is_connection` looks for a connection,
+//! is its peer's (`changed`), which is told whether its address sent too little for another answer, and `due_in` says in how
+//! many milliseconds that brings something. `held` is what its peer holds of what the other end sent (`held_in`), within `most_in`. Want of
+//! memory changes nothing.
+//! Over all slots of a host: `unused_slots` and `joined_slots` make them, `position_of_connection` looks for a connection,
 //! `set_bandwidth` (`changed`) and `share_out` (`shared`) are one change on each, and `count_slots` says how many are free and how far the
 //! others have come (`Counts`). Where an offer is to go is said (`IsSeat`), and found by `enet_sleepers`.
 //! Only tested, with the host's calls by `check_hosts`: that calls succeed with ample memory.
@@ -26,7 +27,7 @@ mod receiving;
 mod sharing;
 mod slot;
 
-pub use all::{Seat, any_is_connection, joined_slots, set_bandwidth, share_out, unused_slots};
+pub use all::{Seat, joined_slots, position_of_connection, set_bandwidth, share_out, unused_slots};
 pub use calls::Setting;
 pub use counting::{SlotCounts, Standing, count_sent_again, count_slots};
 pub use giving::{Question, Start};

@@ -14,12 +14,12 @@ use enet_peer::PeerState;
 use enet_throttle::{budget_of, limit_of};
 
 impl Slot {
-    /// Time has come to `now`, in milliseconds.
-    pub fn tick(&mut self, now: u32)
-        ensures { self.new.slot ≡ changed (λ (p : Peering). peers.ticked p now) self.old.slot }
+    /// Time has come to `now`, in milliseconds. `short` says that its peer's address has sent too little for another answer.
+    pub fn tick(&mut self, now: u32, short: bool)
+        ensures { self.new.slot ≡ changed (λ (p : Peering). peers.moved short p now) self.old.slot }
     {
         if let Some(peer) = &mut self.peer {
-            peer.tick(now);
+            peer.tick(now, short);
             self.let_go();
         }
     }

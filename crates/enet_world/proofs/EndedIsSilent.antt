@@ -24,7 +24,7 @@ use Rattle.enet_sender.specs.Sender.{next}
 use Rattle.enet_outbox.specs.declared.parts.Matched.{Matched}
 use Rattle.enet_outbox.specs.declared.parts.Matched.TheVariants as matched
 use Rattle.enet_outbox.specs.declared.parts.Pace.{Pace}
-use Rattle.enet_outbox.specs.Outbox.{Outbox, matched_by, after_acknowledgement, lateness, cleared_sender, marked_sender, has_nothing_reliable}
+use Rattle.enet_outbox.specs.Outbox.{Outbox, matched_by, after_acknowledgement, cleared_sender, marked_sender, has_nothing_reliable}
 use Rattle.enet_outbox.specs.Outbox as outbox
 use Rattle.enet_outbox.specs.Emission.{filled}
 use Rattle.enet_outbox.proofs.Filled.{by-filling}
@@ -33,7 +33,7 @@ use Rattle.enet_peer.specs.declared.parts.PeerState.TheVariants as state
 use Rattle.enet_peer.specs.Peering.{Peering}
 use Rattle.enet_peer.specs.Endings.{settled, disconnecting, ended, is_later, freed, cut_off_in}
 use Rattle.enet_peer.specs.CommandEffect.{obeyed, unless_refused, stopped, is_allowed, is_connect, by_body, answered, answered_at, is_answered_in, is_connecting, on_acknowledge, on_match, sampled, with_answer, on_verify_in, welcomed, on_disconnect_in, on_last_disconnect}
-use Rattle.enet_peer.specs.Calls.{Leave, AtOnce, TellsOnce, Asks, AsksLater, Refused, is_connected, left, pace_of, gone_on_in, submission_refusal, submitted, ticked, pinged, is_pinged, after_timeouts_by, growth_bound}
+use Rattle.enet_peer.specs.Calls.{Leave, AtOnce, TellsOnce, Asks, AsksLater, Refused, expiry_of, is_connected, left, moved, pace_of, gone_on_in, submission_refusal, submitted, ticked, pinged, is_pinged, after_timeouts_by, growth_bound}
 use Rattle.enet_host.specs.Host.{named}
 use Rattle.law_connection.specs.Steps.{leave_by}
 use Rattle.law_connection.specs.Steps as event
@@ -43,6 +43,7 @@ use Rattle.law_network.specs.declared.event.Side.{Side}
 use Rattle.law_network.specs.World.{World, site_of}
 use Rattle.law_progress.specs.Waits.{after_leave}
 use Rattle.law_progress.proofs.Attempts.{AreEmpty}
+use Rattle.law_progress.proofs.Moving.{by-moved}
 use Rattle.law_progress.proofs.SomethingGoes.{none-due}
 use Rattle.enet_world.specs.Private.Worlds.{IsReached}
 use Rattle.enet_world.proofs.Lasting.{Lasts}
@@ -231,7 +232,7 @@ silent-left p AsksLater info h = silent-settled (record p { state = state.Discon
 silent-left p Refused info h = h
 
 silent-ticked : (p : Peering) (n : ℕ) → IsSilent p → IsSilent (ticked p n)
-silent-ticked p n h = by (lateness p.outbox n p.patience p.heard)
+silent-ticked p n h = by (expiry_of p n)
   where
     cut : (s : PeerState) → IsSilent (cut_off_in s p)
     cut state.Answering = λ e. absurd (cc)
@@ -252,6 +253,9 @@ silent-ticked p n h = by (lateness p.outbox n p.patience p.heard)
     by End = pings (cut_off_in p.state p) (cut p.state)
     by Resend = pings (record p { outbox = outbox.marked p.outbox (growth_bound p) n }) (λ e. marked-empty (growth_bound p) n p.outbox (h e))
     by No = pings p h
+
+silent-moved : (short : Bool) (p : Peering) (n : ℕ) → IsSilent p → IsSilent (moved short p n)
+silent-moved short p n h = by-moved IsSilent short p n (silent-ticked p n h) (λ at lasts e. absurd (let z : state.Answering ≡ state.Ended = sym at ∙ e in cc))
 
 not-connected : (p : Peering) (channel len : ℕ) → submission_refusal p channel len ≡ None → p.state ≢ state.Ended
 not-connected p channel len free e = by (is_connected p.state) _ (ap is_connected e) free
@@ -280,7 +284,7 @@ silent-lasts = record {
   submits = λ p channel q free h e. absurd (not-connected p channel (length q.body) free (same-state p channel q e));
   emits = λ p now h. silent-went (record p { outbox = (filled (pace_of p now) p.outbox).outbox }) p.state (λ e. (let k = fills-none (pace_of p now) p.outbox (h e) in k.left));
   comes = λ p now sent m h. silent-obeyed p now sent m h;
-  ticks = λ p now h. silent-ticked p now h;
+  ticks = λ short p now h. silent-moved short p now h;
   takes = λ p q e next h. took (λ y t. IsSilent y) p q e next (λ info g. h) (λ x rest g u. h) (λ g u at s. absurd (cc));
   leaves = λ p q way info e h. subst (λ (o : Option Peering). IsSilent (after_leave p o)) e (silent-left p (leave_by way p.state) info h);
   sets = λ p s may h. silent-set p s may h;

@@ -14,7 +14,7 @@ use Rattle.enet_rtt.specs.declared.transmission.Transmission.{Transmission}
 use Rattle.enet_peer.specs.Peering.{Peering}
 use Rattle.enet_peer.specs.CommandEffect.{obeyed, wants_memory}
 use Rattle.enet_outbox.specs.Emission.{filled}
-use Rattle.enet_peer.specs.Calls.{pace_of, ticked}
+use Rattle.enet_peer.specs.Calls.{moved, pace_of}
 use Rattle.enet_slot.specs.Slot.{SlotState}
 use Rattle.enet_host.specs.Host.{Host, named, peer_in, slot_named}
 use Rattle.enet_host.specs.Opening as opening
@@ -22,6 +22,7 @@ use Rattle.enet_host.specs.Ticking.{clock_after}
 use Rattle.law_connection.specs.Steps.{leave_by}
 use Rattle.law_connection.specs.Steps as setting
 use Rattle.law_connection.proofs.Events.{took}
+use Rattle.law_connection.proofs.InOrder.{new-senders}
 use Rattle.law_network.specs.Beginnings.{BeganBy, Lived, WasThere}
 use Rattle.law_network.specs.Calls.{Call, Acts, Steps, Series}
 use Rattle.law_network.specs.Calls as call
@@ -51,17 +52,18 @@ use Rattle.law_network.proofs.Runs.{both}
 use Rattle.law_network.proofs.Submitting.{same-some}
 use Rattle.law_progress.specs.Attempts.{after_take}
 use Rattle.law_progress.specs.Waits.{after_leave}
-use Rattle.law_progress.proofs.Ageing.{Aged, Ages, most, ages-ticked, ages-emitted, ages-more}
+use Rattle.law_progress.proofs.Ageing.{Aged, Ages, most, ages-moved, ages-emitted, ages-more}
 use Rattle.law_progress.proofs.Waiting.{none-new, fair-obeyed, fair-takes, fair-submitted, fair-left, Fair}
-use Rattle.law_progress.proofs.Wide.{IsWide, at-least, wide-obeyed, wide-takes, wide-went, wide-left, wide-ticked}
+use Rattle.law_progress.proofs.Wide.{IsWide, at-least, wide-obeyed, wide-takes, wide-went, wide-left, wide-moved}
 use Rattle.enet_world.specs.Worlds.{first}
 use Rattle.enet_world.specs.Private.Worlds.{IsReachedIn, passes, all_pass}
 use Rattle.enet_world.proofs.Fallen.{Each, kept-by-each, each-if, each-up-to, each-reaches}
 use Rattle.enet_world.proofs.Lasting.{obeys}
-use Rattle.enet_world.proofs.Modest.{IsModest, modest-obeyed, modest-ticked, modest-emitted, modest-submitted, modest-left}
+use Rattle.enet_world.proofs.Modest.{IsModest, modest-obeyed, modest-moved, modest-emitted, modest-submitted, modest-left}
 use Rattle.enet_world.proofs.Pings.{Idle, Queued}
-use Rattle.enet_world.proofs.Punctual.{Rests, rests-ticked, rests-emitted}
-use Rattle.enet_world.proofs.Unset.{IsUnset, unset-obeyed, unset-went, unset-left, unset-ticked}
+use Rattle.enet_world.proofs.Punctual.{Rests, rests-moved, rests-emitted}
+use Rattle.enet_world.proofs.Unset.{IsUnset, unset-obeyed, unset-went, unset-left, unset-moved}
+use Rattle.enet_world.proofs.Unsent.{IsUnsent, unsent-lasts}
 
 -- ---- a peer
 -- what it keeps, where `time` milliseconds have passed since the world began; `now` is a moment of its host's clock, which wraps
@@ -71,6 +73,7 @@ pub record Habit (now time : ℕ) (p : Peering) : Type 0 where
   pub wide : IsWide p
   pub unset : IsUnset p
   pub modest : IsModest p
+  pub unsent : IsUnsent p
 
 -- ---- what a peer does at a moment
 -- a deed that is none of time, at a moment, and sets nothing of how long the peer waits
@@ -78,7 +81,7 @@ abbrev pub IsNow : ℕ → Deed → Type 0
 IsNow n (deed.Submit packet answer) = Unit {0}
 IsNow n (deed.Emit now given) = now ≡ n
 IsNow n (deed.Come now sent m answer) = now ≡ n
-IsNow n (deed.Tick now) = ⊥
+IsNow n (deed.Tick now short) = ⊥
 IsNow n (deed.Take given) = Unit {0}
 IsNow n (deed.Disconnect way info answer) = Unit {0}
 IsNow n (deed.Set (setting.ThrottleLimit limit) answer) = Unit {0}
@@ -97,6 +100,7 @@ deed-keeps now time (deed.Submit x (Ok done)) p q at a h = subst (Habit now time
   wide = h.wide;
   unset = h.unset;
   modest = modest-submitted p x.channel (record { flags = x.flags; body = x.body }) h.modest;
+  unsent = unsent-lasts.submits p x.channel (record { flags = x.flags; body = x.body }) a.0 h.unsent;
 })
 deed-keeps now time (deed.Submit x (Err why)) p q at a h = subst (Habit now time) (sym a.1) h
 deed-keeps now time (deed.Emit n given) p q at a h = subst (Habit now time) (sym (a.1 ∙ ap (λ m. emitted p m) at)) (record {
@@ -105,6 +109,7 @@ deed-keeps now time (deed.Emit n given) p q at a h = subst (Habit now time) (sym
   wide = wide-went (record p { outbox = (filled (pace_of p (now % 2 ^ 32)) p.outbox).outbox }) p.state h.wide;
   unset = unset-went (record p { outbox = (filled (pace_of p (now % 2 ^ 32)) p.outbox).outbox }) p.state h.unset;
   modest = modest-emitted p (now % 2 ^ 32) h.modest;
+  unsent = unsent-lasts.emits p (now % 2 ^ 32) h.unsent;
 })
 deed-keeps now time (deed.Come n sent m answer) p q at a h = obeys (Habit now time) answer (wants_memory p n sent m) (obeyed p n sent m) p q a h (record {
   aged = λ near. fair-obeyed (Aged now time) most p n sent m (h.aged near);
@@ -112,8 +117,9 @@ deed-keeps now time (deed.Come n sent m answer) p q at a h = obeys (Habit now ti
   wide = wide-obeyed p n sent m h.wide;
   unset = unset-obeyed p n sent m (low-now n now at) h.unset;
   modest = modest-obeyed p n sent m h.modest;
+  unsent = unsent-lasts.comes p n sent m h.unsent;
 })
-deed-keeps now time (deed.Tick n) p q at a h = absurd at
+deed-keeps now time (deed.Tick n short) p q at a h = absurd at
 deed-keeps now time (deed.Take None) p q at a h = subst (Habit now time) (sym a.1) h
 deed-keeps now time (deed.Take (Some e)) p q at a h = record {
   aged = λ near. subst (λ t. Ages now time (after_take p t)) a (fair-takes (Aged now time) most p (h.aged near));
@@ -121,6 +127,7 @@ deed-keeps now time (deed.Take (Some e)) p q at a h = record {
   wide = subst (λ t. IsWide (after_take p t)) a (wide-takes p h.wide);
   unset = took (λ y t. IsUnset y) p q e a (λ info g. h.unset) (λ x rest g u. h.unset) (λ g u s. h.unset);
   modest = took (λ y t. IsModest y) p q e a (λ info g. h.modest) (λ x rest g u. h.modest) (λ g u s. tt);
+  unsent = unsent-lasts.takes p q e a h.unsent;
 }
 deed-keeps now time (deed.Disconnect way info (Ok done)) p q at a h = subst (λ (o : Option Peering). Habit now time (after_leave p o)) a (record {
   aged = λ near. fair-left (Aged now time) most p (leave_by way p.state) info (h.aged near);
@@ -128,10 +135,11 @@ deed-keeps now time (deed.Disconnect way info (Ok done)) p q at a h = subst (λ 
   wide = wide-left p (leave_by way p.state) info h.wide;
   unset = unset-left p (leave_by way p.state) info h.unset;
   modest = modest-left p (leave_by way p.state) info h.modest;
+  unsent = subst (λ (o : Option Peering). IsUnsent (after_leave p o)) (sym a) (unsent-lasts.leaves p q way info a h.unsent);
 })
 deed-keeps now time (deed.Disconnect way info (Err why)) p q at a h = subst (Habit now time) (sym a.2) h
 deed-keeps now time (deed.Set (setting.ThrottleLimit limit) (Ok done)) p q at a h = subst (Habit now time) (sym (was-set (setting.ThrottleLimit limit) done p q a).1)
-    (record { aged = h.aged; rests = h.rests; wide = h.wide; unset = h.unset; modest = h.modest })
+    (record { aged = h.aged; rests = h.rests; wide = h.wide; unset = h.unset; modest = h.modest; unsent = h.unsent })
 deed-keeps now time (deed.Set (setting.ThrottleLimit limit) (Err why)) p q at a h = subst (Habit now time) (sym (matches.refused (deed.Set (setting.ThrottleLimit limit) (Err why)) p q a refl)) h
 deed-keeps now time (deed.Set s answer) p q at a h = absurd at
 
@@ -171,18 +179,18 @@ host-more : (time more : ℕ) (h : Host) → time ≤ more → HostHabits time h
 host-more time more h low k = record { now = k.now; clock = k.clock; mtu = k.mtu; peers = λ name p is. later p (k.peers name p is) }
   where
     later : (p : Peering) → Habit k.now time p → Habit k.now more p
-    later p a = record { aged = λ near. ages-more k.now time more p low (a.aged (omega arith)); rests = a.rests; wide = a.wide; unset = a.unset; modest = a.modest }
+    later p a = record { aged = λ near. ages-more k.now time more p low (a.aged (omega arith)); rests = a.rests; wide = a.wide; unset = a.unset; modest = a.modest; unsent = a.unsent }
 
 -- a peer that begins has sent nothing
-new-habit : (now time : ℕ) (p : Peering) → ((R : Transmission → Type 0) → Fair R most p) → IsWide p → IsUnset p → IsModest p → Habit now time p
-new-habit now time p fair wide unset modest = record { aged = λ near. fair (Aged now time); rests = fair (Rests (now % 2 ^ 32)); wide = wide; unset = unset; modest = modest }
+new-habit : (now time : ℕ) (p : Peering) → ((R : Transmission → Type 0) → Fair R most p) → IsWide p → IsUnset p → IsModest p → IsUnsent p → Habit now time p
+new-habit now time p fair wide unset modest unsent = record { aged = λ near. fair (Aged now time); rests = fair (Rests (now % 2 ^ 32)); wide = wide; unset = unset; modest = modest; unsent = unsent }
 
 begun-habit : (now time : ℕ) (c : Call) (h : Host) (i : ℕ) (s t : SlotState) (p : Peering) → 576 ≤ h.config.mtu → h.clock < 2 ^ 32 → falling.Begins c (common_of h) i s t → t.peer ≡ Some p → Habit now time p
 begun-habit now time c h i s t p wide low (falling.asks address channels info word is some free) has =
-    subst (Habit now time) (same-some _ p has) (new-habit now time _ (λ R. (((λ t' k. absurd k), none-new R 0 _), record { round_trip = omega arith; variance = omega arith }, refl)) wide (refl, refl, low) tt)
+    subst (Habit now time) (same-some _ p has) (new-habit now time _ (λ R. (((λ t' k. absurd k), none-new R 0 _), record { round_trip = omega arith; variance = omega arith }, refl)) wide (refl, refl, low) tt (λ e. absurd (cc)))
 begun-habit now time c h i s t p wide low (falling.answers from bytes commands header o is read nobody offer taken new free) has =
     subst (Habit now time) (same-some _ p has)
-    (new-habit now time _ (λ R. (((λ t' k. absurd k), none-new R 0 _), record { round_trip = omega arith; variance = omega arith }, refl)) (at-least o.mtu h.config.mtu) (refl, refl, low) (Queued _ refl refl refl))
+    (new-habit now time _ (λ R. (((λ t' k. absurd k), none-new R 0 _), record { round_trip = omega arith; variance = omega arith }, refl)) (at-least o.mtu h.config.mtu) (refl, refl, low) (Queued _ refl refl refl) (λ e. new-senders 0 _))
 
 pub still-clock : (c : Call) (n : ℕ) → IsStill c → clock_by c n ≡ n
 still-clock (call.Tick ms) n k = absurd k
@@ -264,23 +272,27 @@ tick-call time ms h g acts k = record {
     goes : (x : Occupied) (q : Peering) (ds : List Deed) → Fell (common_of h) x (call.Tick ms) ds → AllAlone ds x.peer q → Habit k.now time x.peer → Habit (k.now + d) (time + d) q
     goes x q ds fell alone was = after (subst (λ (y : List Deed). AllAlone y x.peer q) fell alone)
       where
+        short : Bool
+        short = (common_of h).short x.number
+
         share : List Deed
-        share = share_of (common_of h) (clock_after h.clock ms) x.slot.emitted (ticked x.peer (clock_after h.clock ms))
+        share = share_of (common_of h) (clock_after h.clock ms) x.slot.emitted (moved short x.peer (clock_after h.clock ms))
 
         shares : Each (IsNow n) share
         shares = each-if (IsNow n) _ _ tt
 
-        then' : Habit (k.now + d) (time + d) (ticked x.peer n)
+        then' : Habit (k.now + d) (time + d) (moved short x.peer n)
         then' = record {
-          aged = λ near. ages-ticked k.now time d x.peer (was.aged (omega arith)) near;
-          rests = rests-ticked (k.now % 2 ^ 32) n x.peer was.rests;
-          wide = wide-ticked x.peer n was.wide;
-          unset = unset-ticked x.peer n was.unset;
-          modest = modest-ticked x.peer n was.modest;
+          aged = λ near. ages-moved k.now time d short x.peer (was.aged (omega arith)) near;
+          rests = rests-moved (k.now % 2 ^ 32) n short x.peer (low-now n (k.now + d) refl) was.unsent was.rests;
+          wide = wide-moved short x.peer n was.wide;
+          unset = unset-moved short x.peer n was.unset;
+          modest = modest-moved short x.peer n was.modest;
+          unsent = unsent-lasts.ticks short x.peer n was.unsent;
         }
 
-        after : AllAlone (deed.Tick (clock_after h.clock ms) ∷ share) x.peer q → Habit (k.now + d) (time + d) q
-        after (r, tick, rest) = kept-by-each (IsNow n) (Habit (k.now + d) (time + d)) (deed-keeps (k.now + d) (time + d)) share r q shares rest (subst (Habit (k.now + d) (time + d)) (sym (tick ∙ ap (λ m. ticked x.peer m) moment)) then')
+        after : AllAlone (deed.Tick (clock_after h.clock ms) short ∷ share) x.peer q → Habit (k.now + d) (time + d) q
+        after (r, tick, rest) = kept-by-each (IsNow n) (Habit (k.now + d) (time + d)) (deed-keeps (k.now + d) (time + d)) share r q shares rest (subst (Habit (k.now + d) (time + d)) (sym (tick ∙ ap (λ m. moved short x.peer m) moment)) then')
 
 -- ---- a world
 abbrev pub WorldHabits : ℕ → World → Type 0
@@ -380,7 +392,7 @@ joined-habits c address wide low = record {
   clock = low-clock c.clock low;
   mtu = wide;
   peers = λ name p is. subst (Habit c.clock 0) (sym (each-beginning.one c address name p is).1)
-      (new-habit c.clock 0 _ (λ R. (((λ t k. absurd k), none-new R 0 _), record { round_trip = omega arith; variance = omega arith }, refl)) wide (refl, refl, low) (Idle refl refl));
+      (new-habit c.clock 0 _ (λ R. (((λ t k. absurd k), none-new R 0 _), record { round_trip = omega arith; variance = omega arith }, refl)) wide (refl, refl, low) (Idle refl refl) (λ e. absurd (cc)));
 }
 
 first-habits : (joined : Bool) (a b : Config) → (is_in_range a && is_in_range b) ≡ true → a.clock < 2 ^ 32 → b.clock < 2 ^ 32 → WorldHabits 0 (first joined a b)

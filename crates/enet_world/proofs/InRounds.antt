@@ -140,16 +140,19 @@ ticked-on joined w v x side ms told own far r step k lasts = (t.new, by t.ticks,
     t : TicksTo joined v x side now own far
     t = ticks-to joined w v x side ms told own far r step k
 
+    elsewhere : peers.is_answering k.p.state ≡ false
+    elsewhere = ap peers.is_answering k.on_p
+
     on : (peers.ticked k.p now).state ≡ state.Connected
-    on = (let z = waited k.p now lasts in z.state ∙ k.on_p)
+    on = (let z = waited k.p now elsewhere lasts in z.state ∙ k.on_p)
 
     up : (p : Peering) → t.new.peer ≡ Some p → p.state ≡ state.Connected → Up joined v x side t.new far
     up p is on_p = record { ends = t.ends; joint = t.joint; p = p; q = k.q; is_p = is; is_q = k.is_q; on_p = on_p; on_q = k.on_q }
 
     by : Ticks now own far t.new → Up joined v x side t.new far
-    by (inl h) = up (peers.ticked k.p now) (tick-peer own far t.new now k.p h k.is_p) on
+    by (inl h) = up (peers.ticked k.p now) (tick-peer own far t.new now k.p h k.is_p elsewhere) on
     by (inr h) = up (peers.with_throttle_limit (peers.ticked k.p now) h.0)
-        (ap (λ (e : End). e.peer) h.3.3 ∙ ap (λ (y : Peering). Some (peers.with_throttle_limit y h.0)) (same-peer h.1 h.3.0 (peers.ticked k.p now) h.3.1 (tick-peer own far h.1 now k.p h.2 k.is_p))) on
+        (ap (λ (e : End). e.peer) h.3.3 ∙ ap (λ (y : Peering). Some (peers.with_throttle_limit y h.0)) (same-peer h.1 h.3.0 (peers.ticked k.p now) h.3.1 (tick-peer own far h.1 now k.p h.2 k.is_p elsewhere))) on
 
 -- ---- so many datagrams, and further ones
 puts-more : (now there n m : ℕ) (from to f t from' to' : End) → PutsMany now there n from to f t → PutsMany now there m f t from' to' → (k : ℕ) × PutsMany now there k from to from' to'

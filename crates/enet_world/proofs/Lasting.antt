@@ -9,12 +9,12 @@ use Rattle.enet_peer.specs.declared.parts.PeerState.{PeerState}
 use Rattle.enet_peer.specs.declared.parts.PeerState.TheVariants as state
 use Rattle.enet_peer.specs.Peering.{Peering}
 use Rattle.enet_peer.specs.CommandEffect.{Outcome, Obeys, obeyed, wants_memory}
-use Rattle.enet_peer.specs.Calls.{submission_refusal, left, submitted, ticked, next_event}
+use Rattle.enet_peer.specs.Calls.{submission_refusal, left, moved, submitted, next_event}
 use Rattle.law_connection.specs.Connection.{End}
 use Rattle.law_connection.specs.Steps.{Way, leave_by, Setting, MaySet, with_setting, Happens, Event}
 use Rattle.law_connection.specs.Steps as event
 use Rattle.law_connection.proofs.Events.{took}
-use Rattle.law_connection.proofs.PeerChanges.{Core, Changes, kept-ticked, kept-left, kept-set, kept-emitted, kept-obeyed}
+use Rattle.law_connection.proofs.PeerChanges.{Core, Changes, kept-moved, kept-left, kept-set, kept-emitted, kept-obeyed}
 use Rattle.law_network.specs.Deeds.{Deed, Alone, AllAlone, emitted}
 use Rattle.law_network.specs.Deeds as deed
 use Rattle.law_network.proofs.Matching.{was-set, matches}
@@ -26,7 +26,7 @@ pub record Lasts (P : Peering → Type 0) : Type 0 where
   pub submits : (p : Peering) (channel : ℕ) (q : Packet) → submission_refusal p channel (length q.body) ≡ None → P p → P (submitted p channel q)
   pub emits : (p : Peering) (now : ℕ) → P p → P (emitted p now)
   pub comes : (p : Peering) (now : ℕ) (sent : Option ℕ) (m : Message) → P p → P (obeyed p now sent m).after
-  pub ticks : (p : Peering) (now : ℕ) → P p → P (ticked p now)
+  pub ticks : (short : Bool) (p : Peering) (now : ℕ) → P p → P (moved short p now)
   pub takes : (p q : Peering) (e : PeerEvent) → next_event p ≡ Some (record { event = e; after = q }) → P p → P q
   pub leaves : (p q : Peering) (way : Way) (info : ℕ) → left (leave_by way p.state) p info ≡ Some q → P p → P q
   pub sets : (p : Peering) (s : Setting) → MaySet s p → P p → P (with_setting s p)
@@ -42,7 +42,7 @@ lasts-alone P k (deed.Submit x (Ok done)) p q a h = subst P (sym a.1) (k.submits
 lasts-alone P k (deed.Submit x (Err why)) p q a h = subst P (sym a.1) h
 lasts-alone P k (deed.Emit now given) p q a h = subst P (sym a.1) (k.emits p now h)
 lasts-alone P k (deed.Come now sent m answer) p q a h = obeys P answer (wants_memory p now sent m) (obeyed p now sent m) p q a h (k.comes p now sent m h)
-lasts-alone P k (deed.Tick now) p q a h = subst P (sym a) (k.ticks p now h)
+lasts-alone P k (deed.Tick now short) p q a h = subst P (sym a) (k.ticks short p now h)
 lasts-alone P k (deed.Take None) p q a h = subst P (sym a.1) h
 lasts-alone P k (deed.Take (Some e)) p q a h = k.takes p q e a h
 lasts-alone P k (deed.Disconnect way info (Ok done)) p q a h = k.leaves p q way info a h
@@ -72,7 +72,7 @@ lasts-event P k own other new (event.Submit q) x h =
 lasts-event P k own other new (event.Emit now) x h = held P new (event.with_emission own other x.0 now) (emitted x.0 now) x.2 refl (k.emits x.0 now (holds-here P own x.0 x.1 h))
 lasts-event P k own other new (event.Come put now sent) x h =
     held P new (event.with_peer own (obeyed x.0 now sent put.message).after) (obeyed x.0 now sent put.message).after x.3 refl (k.comes x.0 now sent put.message (holds-here P own x.0 x.1 h))
-lasts-event P k own other new (event.Tick now) x h = held P new (event.with_peer own (ticked x.0 now)) (ticked x.0 now) x.2 refl (k.ticks x.0 now (holds-here P own x.0 x.1 h))
+lasts-event P k own other new (event.Tick now) x h = held P new (event.with_peer own (moved x.2 x.0 now)) (moved x.2 x.0 now) x.3 refl (k.ticks x.2 x.0 now (holds-here P own x.0 x.1 h))
 lasts-event P k own other new event.Take x h = (x.1, ap (λ (e : End). e.peer) x.5, k.takes x.0 x.1 x.2 x.4 (holds-here P own x.0 x.3 h))
 lasts-event P k own other new (event.Disconnect way info) x h = held P new (event.with_peer own x.1) x.1 x.4 refl (k.leaves x.0 x.1 way info x.3 (holds-here P own x.0 x.2 h))
 lasts-event P k own other new (event.Set setting) x h = held P new (event.with_peer own (with_setting setting x.0)) (with_setting setting x.0) x.3 refl (k.sets x.0 setting x.2 (holds-here P own x.0 x.1 h))
@@ -88,7 +88,7 @@ changes-last P k submits same frees = record {
   submits = λ p channel q free h. submits p channel q h;
   emits = λ p now h. kept-emitted P k p now h;
   comes = λ p now sent m h. kept-obeyed P k p m.head now sent m.body h;
-  ticks = λ p now h. kept-ticked P k p now h;
+  ticks = λ short p now h. kept-moved P k short p now h;
   takes = λ p q e next h. took (λ r t. P r) p q e next
       (λ info g. same p (record p { greeting = None }) refl refl h)
       (λ x rest g u. same p (record p { inbox = record p.inbox { untaken = rest } }) refl refl h)
@@ -127,6 +127,7 @@ falls-changes f k = record {
   welcomes = λ p v terms e big word h. absurd (let z : true ≡ false = sym h ∙ ap f e ∙ k.connecting in cc);
   acknowledges = λ p j number here h. h;
   marks = λ p bound now h. h;
+  holds_back = λ p bound now at h. h;
   gives_way = λ p on h. h;
   takes = λ p j r c on there h. h;
   takes_unsequenced = λ p j group payload on h. h;

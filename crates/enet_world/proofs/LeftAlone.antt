@@ -12,7 +12,7 @@ use Rattle.enet_peer.specs.declared.parts.PeerEvent.{PeerEvent}
 use Rattle.enet_peer.specs.declared.parts.PeerState.{PeerState}
 use Rattle.enet_peer.specs.declared.parts.PeerState.TheVariants as state
 use Rattle.enet_peer.specs.Peering.{Peering}
-use Rattle.enet_peer.specs.Calls.{pace_of, ticked, next_event, with_throttle_limit}
+use Rattle.enet_peer.specs.Calls.{is_answering, moved, pace_of, ticked, next_event, with_throttle_limit}
 use Rattle.enet_host.specs.Host.{named}
 use Rattle.enet_host.specs.Serving.{served_of}
 use Rattle.enet_host.specs.Ticking.{clock_after}
@@ -45,6 +45,7 @@ use Rattle.law_network.proofs.Submitting.{same-some}
 use Rattle.law_network.proofs.Telling.{turns, rests, passes-over, times, takes-one}
 use Rattle.law_network.proofs.Worlds.{IsHost, acts-of}
 use Rattle.law_progress.proofs.Exchanges.{put_out}
+use Rattle.law_progress.proofs.Moving.{moved-elsewhere}
 use Rattle.enet_world.specs.Calm.{most as at_most, datagram_in, refusals_in, Carries, PutsNone, PutsAllOut, TakesAll}
 use Rattle.enet_world.specs.Private.Worlds.{IsReached}
 use Rattle.enet_world.proofs.EndedIsSilent.{ended-puts-none}
@@ -264,7 +265,7 @@ take-near joined n P Q R w v x side (Ok answer) g r step k = absurd step.1
 -- time goes on there: it goes on, or is past
 pub tick-near : (joined : Bool) (P Q R : Peering → Type 0) (w v : World) (x ms : ℕ) (side : Side) (told : Result Answer Refusal) → Goes (clock_after (clock_at w side) ms) P Q R → IsReached joined w → Steps w (happen.Tick side ms) told v → Lone P w x side → Lone Q v x side ⊎ Past v x side
 tick-near joined P Q R w v x ms side (Err why) g r step k = absurd step.0
-tick-near joined P Q R w v x ms side (Ok answers.Done) g r step k = by (connected-or-past (ticked k.p now).state (begun-lasts.ticks k.p now (ap is_begun k.on)))
+tick-near joined P Q R w v x ms side (Ok answers.Done) g r step k = by (connected-or-past (ticked k.p now).state (begun-lasts.ticks false k.p now (ap is_begun k.on)))
   where
     h : HappensAt side (Calls (call.Tick ms)) w v
     h = subst (λ (e : Happening). HappensAt side e w v) step.1 step.2
@@ -276,7 +277,7 @@ tick-near joined P Q R w v x ms side (Ok answers.Done) g r step k = by (connecte
     shown = times (beside w.count (site_of w (other side))) (site_of w (other side)) (site_of w side) (site_of v side) ms h.here k.ends.e k.own k.far (is-end (from_start joined) w x side k.own k.far (sound joined w r) k.ends) (live k.own k.p k.is k.on)
 
     first : (end : End) → Happens k.own k.far (event.Tick now) end → end.peer ≡ Some (ticked k.p now)
-    first end t = ap (λ (e : End). e.peer) t.2 ∙ ap (λ (y : Peering). Some (ticked y now)) (same-some t.0 k.p (sym t.1 ∙ k.is))
+    first end t = ap (λ (e : End). e.peer) t.3 ∙ ap (λ (y : Peering). Some (moved t.2 y now)) (same-some t.0 k.p (sym t.1 ∙ k.is)) ∙ ap (λ (y : Peering). Some y) (moved-elsewhere t.2 k.p now (ap is_answering k.on))
 
     -- whatever holds of it then
     after : (Z : Peering → Type 0) → Z (ticked k.p now) → ((limit : ℕ) → Z (with_throttle_limit (ticked k.p now) limit)) → (end : End) → Ticks now k.own k.far end → Holds Z end

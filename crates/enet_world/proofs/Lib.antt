@@ -5,6 +5,7 @@ pub mod Playing
 pub mod Calming
 pub mod Delivering
 pub mod Lasting
+pub mod Unsent
 pub mod Offers
 pub mod Pings
 pub mod Modest

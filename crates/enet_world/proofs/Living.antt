@@ -34,7 +34,7 @@ use Rattle.law_network.proofs.Beginning.{each-beginning}
 use Rattle.law_network.proofs.Own.{of-the-host}
 use Rattle.law_network.proofs.Runs.{both}
 use Rattle.law_network.proofs.Submitting.{same-some}
-use Rattle.law_progress.proofs.Fitting.{Fits, fits-same, fits-obeyed, fits-takes, fits-went, fits-submitted, fits-left, fits-ticked, small-filled, room_of, joined-fits, asking-fits, answering-fits}
+use Rattle.law_progress.proofs.Fitting.{Fits, fits-same, fits-obeyed, fits-takes, fits-went, fits-submitted, fits-left, fits-moved, small-filled, room_of, joined-fits, asking-fits, answering-fits}
 use Rattle.law_progress.specs.Attempts.{after_take}
 use Rattle.law_progress.specs.Waits.{after_leave}
 use Rattle.enet_world.specs.Worlds.{first}
@@ -106,7 +106,7 @@ fits-lasts = record {
   emits = λ p now f. (let o = (filled (pace_of p now) p.outbox).outbox in
       fits-went (record p { outbox = o }) p.state (record { mtu = f.mtu; small = small-filled (room_of p.terms.mtu) (pace_of p now) p.outbox f.small }));
   comes = λ p now sent m f. fits-obeyed p now sent m f;
-  ticks = λ p now f. fits-ticked p now f;
+  ticks = λ short p now f. fits-moved short p now f;
   takes = λ p q e next f. subst (λ t. Fits (after_take p t)) next (fits-takes p f);
   leaves = λ p q way info e f. subst (λ (o : Option Peering). Fits (after_leave p o)) e (fits-left p (leave_by way p.state) info f);
   sets = λ p s may f. set p s f;

@@ -16,7 +16,7 @@ use Rattle.enet_sender.specs.CommandChoice.{Packet}
 use Rattle.enet_sender.specs.Due.{SendingEnd}
 use Rattle.enet_outbox.specs.declared.parts.Matched.{Matched}
 use Rattle.enet_outbox.specs.declared.parts.Matched.TheVariants as matched
-use Rattle.enet_outbox.specs.Outbox.{matched_by, with_control, has_nothing_reliable, has_no_reliable, lateness}
+use Rattle.enet_outbox.specs.Outbox.{matched_by, with_control, has_nothing_reliable, has_no_reliable}
 use Rattle.enet_outbox.specs.Outbox as outbox
 use Rattle.enet_outbox.specs.Emission.{filled}
 use Rattle.enet_peer.specs.declared.parts.PeerState.{PeerState}
@@ -24,11 +24,12 @@ use Rattle.enet_peer.specs.declared.parts.PeerState.TheVariants as state
 use Rattle.enet_peer.specs.Peering.{Peering}
 use Rattle.enet_peer.specs.Endings.{settled, disconnecting, freed, cut_off_in, is_later}
 use Rattle.enet_peer.specs.CommandEffect.{obeyed, answered, on_acknowledge, on_match, acknowledged, welcomed, on_last_disconnect}
-use Rattle.enet_peer.specs.Calls.{Leave, AtOnce, TellsOnce, Asks, AsksLater, Refused, left, is_connected, pace_of, pinged, is_pinged, after_timeouts_by, growth_bound, ticked, submitted, gone_on, gone_on_in}
+use Rattle.enet_peer.specs.Calls.{Leave, AtOnce, TellsOnce, Asks, AsksLater, Refused, left, expiry_of, is_connected, moved, pace_of, pinged, is_pinged, after_timeouts_by, growth_bound, ticked, submitted, gone_on, gone_on_in}
 use Rattle.law_progress.specs.Waits.{after_leave}
+use Rattle.law_progress.proofs.Moving.{by-moved}
 use Rattle.law_network.proofs.Runs.{both}
 use Rattle.enet_world.proofs.Lasting.{is_past, past-lasts}
-use Rattle.enet_world.proofs.Pings.{IsLone, Idle, is_ping, is_any, idle-lists, queued-lone, marked-lone, acknowledged-lone, answered-lone, filled-lone, connected, meets-connected, answered-holds, obeys-each, in_state, was-in}
+use Rattle.enet_world.proofs.Pings.{IsLone, Idle, is_ping, is_any, idle-lists, queued-lone, held_back-lone, marked-lone, acknowledged-lone, answered-lone, filled-lone, connected, meets-connected, answered-holds, obeys-each, in_state, was-in}
 use Rattle.enet_peer.proofs.Obeying.{unwelcomed-holds}
 
 abbrev pub Controlled : PeerState → Commands → Type 0
@@ -147,7 +148,7 @@ pinged-modest q now h = by (is_pinged q now) refl
         one q.state second.0 third.0
 
 pub modest-ticked : (p : Peering) (now : ℕ) → IsModest p → IsModest (ticked p now)
-modest-ticked p now h = pinged-modest (after_timeouts_by (lateness p.outbox now p.patience p.heard) p now) now (by (lateness p.outbox now p.patience p.heard))
+modest-ticked p now h = pinged-modest (after_timeouts_by (expiry_of p now) p now) now (by (expiry_of p now))
   where
     cut : (s : PeerState) → IsModest (cut_off_in s p)
     cut state.Answering = tt
@@ -157,6 +158,10 @@ modest-ticked p now h = pinged-modest (after_timeouts_by (lateness p.outbox now 
     by Ends = cut p.state
     by Resend = controlled-by p.state p.outbox.control (controlling.with_marked (growth_bound p) now p.outbox.control) (λ f. marked-lone f (growth_bound p) now p.outbox.control) h
     by No = h
+
+pub modest-moved : (short : Bool) (p : Peering) (now : ℕ) → IsModest p → IsModest (moved short p now)
+modest-moved short p now h = by-moved IsModest short p now (modest-ticked p now h)
+    (λ at lasts. controlled-by p.state p.outbox.control (controlling.with_held_back (growth_bound p) now p.outbox.control) (λ f. held_back-lone f (growth_bound p) now p.outbox.control) h)
 
 -- ---- a datagram goes, or none
 settled-modest : (p : Peering) → IsModest p → IsModest (settled p)

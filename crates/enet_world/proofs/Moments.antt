@@ -16,10 +16,10 @@ use Rattle.law_connection.specs.Steps.{Tick, Set, ThrottleLimit}
 use Rattle.enet_sender.specs.declared.sent.Sent.{Sent}
 use Rattle.enet_sender.specs.Sender as sender
 use Rattle.enet_sender.specs.Due.{SendingEnd}
-use Rattle.enet_outbox.specs.Outbox.{has_ended, has_late, marked_sender, with_control}
+use Rattle.enet_outbox.specs.Outbox.{has_ended, has_late, has_waited, marked_sender, with_control}
 use Rattle.enet_outbox.specs.Outbox as outbox
 use Rattle.enet_peer.specs.Peering.{Peering}
-use Rattle.enet_peer.specs.Calls.{ticked, pinged, is_pinged, after_timeouts_by, growth_bound, with_throttle_limit}
+use Rattle.enet_peer.specs.Calls.{answering_time, is_answering, is_over, ticked, pinged, is_pinged, after_timeouts_by, growth_bound, with_throttle_limit}
 use Rattle.law_connection.proofs.Runs.{get-map}
 use Rattle.law_progress.specs.Exchanges.{HasSent}
 use Rattle.law_progress.specs.InTurn.{Ticks}
@@ -73,16 +73,20 @@ sent-marked bound now xs channel t h =
 pub unmarked : (now : ℕ) (t : Transmission) → transmission.is_late now t ≡ false → transmission.marked 0 now t ≡ t
 unmarked now t e = ap (λ b. cond b (record t { timeout = transmission.grown_time 0 t.timeout; due = true }) t) e
 
-pub waited : (p : Peering) (now : ℕ) → has_ended p.outbox now p.patience p.heard ≡ false → Waited now p (ticked p now)
-waited p now lasts = subst (λ (x : Peering). Waited now p x) (sym is) (by (has_late p.outbox now) refl)
+-- only a client that was answered is waited for no longer
+pub not-over : (p : Peering) (now : ℕ) → is_answering p.state ≡ false → is_over p now ≡ false
+not-over p now e = ap (λ b. b && has_waited p.outbox answering_time now) e
+
+pub waited : (p : Peering) (now : ℕ) → is_answering p.state ≡ false → has_ended p.outbox now p.patience p.heard ≡ false → Waited now p (ticked p now)
+waited p now elsewhere lasts = subst (λ (x : Peering). Waited now p x) (sym is) (by (has_late p.outbox now) refl)
   where
-    after : Bool → Bool → Peering
-    after a b = pinged (after_timeouts_by (cond a Ends (cond b Resend No)) p now) now
+    after : Bool → Bool → Bool → Peering
+    after over a b = pinged (after_timeouts_by (cond over Ends (cond a Ends (cond b Resend No))) p now) now
 
-    is : ticked p now ≡ after false (has_late p.outbox now)
-    is = ap (λ a. after a (has_late p.outbox now)) lasts
+    is : ticked p now ≡ after false false (has_late p.outbox now)
+    is = (λ i. after (not-over p now elsewhere i) (lasts i) (has_late p.outbox now))
 
-    by : (b : Bool) → has_late p.outbox now ≡ b → Waited now p (after false b)
+    by : (b : Bool) → has_late p.outbox now ≡ b → Waited now p (after false false b)
     by true f = waited-pinged p (record p { outbox = outbox.marked p.outbox (growth_bound p) now }) now (record {
       state = refl;
       heard = refl;

@@ -32,6 +32,7 @@ use Rattle.law_connection.proofs.PeerChanges.{Core, Changes, is_offer}
 use Rattle.law_progress.proofs.Waiting.{Has-set, Has-removed}
 use Rattle.law_network.proofs.Submitting.{same-some}
 use Rattle.enet_world.proofs.Lasting.{Lasts, changes-last}
+use Rattle.enet_world.proofs.Pings.{held_back-same}
 
 -- no CONNECT is queued or sent of channel 0xFF
 pub record NoOffers (c : Commands) : Type 0 where
@@ -109,6 +110,15 @@ marked-plain bound now c a = record {
   sent = λ x h. (let r = Has-from_map (marked bound now) c.sent x h in subst (λ (y : SentControl). is_offer y.command.control ≡ false) r.2 (a.sent r.0 r.1));
 }
 
+held_back-plain : (bound now : ℕ) (c : Commands) → NoOffers c → NoOffers (controlling.with_held_back bound now c)
+held_back-plain bound now c a = record {
+  queued = a.queued;
+  sent = λ x h. (let r = Has-from_map (controlling.held_back bound now) c.sent x h in subst (λ (y : SentControl). is_offer y.command.control ≡ false) r.2 (stays r.0 (a.sent r.0 r.1)));
+}
+  where
+    stays : (x : SentControl) → is_offer x.command.control ≡ false → is_offer (controlling.held_back bound now x).command.control ≡ false
+    stays x plain = ap (λ (m : Numbered). is_offer m.control) (held_back-same bound now x) ∙ plain
+
 -- only a client that asks has one
 unfoldable pub AsksAlone : Peering → Type 0
 AsksAlone p = (p.state ≡ state.Connecting) ⊎ NoOffers p.outbox.control
@@ -129,6 +139,7 @@ asks-changes = record {
   welcomes = λ p v terms e big word h. inr (none-offered p.outbox.control.number);
   acknowledges = λ p j number here h. elim h [ inl e ↦ inl e | inr a ↦ inr (gone-plain p.outbox j number a) ];
   marks = λ p bound now h. elim h [ inl e ↦ inl e | inr a ↦ inr (marked-plain bound now p.outbox.control a) ];
+  holds_back = λ p bound now at h. elim h [ inl e ↦ inl e | inr a ↦ inr (held_back-plain bound now p.outbox.control a) ];
   gives_way = λ p on h. h;
   takes = λ p j r c on there h. h;
   takes_unsequenced = λ p j group payload on h. h;

@@ -9,6 +9,7 @@ use Rattle.enet_codec.specs.declared.stop.Stop.{Stop}
 use Rattle.enet_codec.specs.declared.stop.Stop.TheVariants as stop
 use Rattle.enet_codec.specs.declared.command.Verify.{Verify}
 use Rattle.enet_rtt.specs.Clock.{meant_time}
+use Rattle.enet_rtt.specs.Transmission as transmission
 use Rattle.enet_senders.specs.declared.control.Control.{Control}
 use Rattle.enet_senders.specs.declared.control.Control.TheVariants as control
 use Rattle.enet_senders.specs.declared.control.Numbered.{Numbered}
@@ -85,6 +86,20 @@ goes-lone f now wait c n (Repeats i p there due is) (Sent t ok a b) = subst (Goe
 
 pub next-lone : (f : Control → Bool) (now wait : ℕ) (c : Commands) (n : controlling.Next) → controlling.next now wait c ≡ Some n → IsLone f c → GoesLone f n
 next-lone f now wait c n e h = goes-lone f now wait c n (goes-control now wait c n e) h
+
+-- a command that is held back stays the same
+pub held_back-same : (bound now : ℕ) (t : SentControl) → (controlling.held_back bound now t).command ≡ t.command
+held_back-same bound now t = by (controlling.is_late now t)
+  where
+    by : (b : Bool) → (cond b (record t { transmission = transmission.again now (transmission.marked bound now t.transmission) }) t).command ≡ t.command
+    by true = refl
+    by false = refl
+
+pub held_back-lone : (f : Control → Bool) (bound now : ℕ) (c : Commands) → IsLone f c → IsLone f (controlling.with_held_back bound now c)
+held_back-lone f bound now c (Idle a b) = Idle a (ap (map (controlling.held_back bound now)) b)
+held_back-lone f bound now c (Queued m ok a b) = Queued m ok a (ap (map (controlling.held_back bound now)) b)
+held_back-lone f bound now c (Sent t ok a b) =
+    Sent (controlling.held_back bound now t) (ap (λ (m : Numbered). f m.control) (held_back-same bound now t) ∙ ok) a (ap (map (controlling.held_back bound now)) b)
 
 pub marked-lone : (f : Control → Bool) (bound now : ℕ) (c : Commands) → IsLone f c → IsLone f (controlling.with_marked bound now c)
 marked-lone f bound now c (Idle a b) = Idle a (ap (map (controlling.marked bound now)) b)

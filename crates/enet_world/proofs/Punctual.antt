@@ -1,30 +1,33 @@
 -- Whatever was sent is due to go again, or its timeout isn't over: at each peer, however long ago it was sent.
-use Rattle.std.proofs.Common.{◌≡◌, ℕ, ◌^◌, ◌<◌, ◌≤◌, ◌&&◌, not, leb, Bool, true, false, cond, List, map, refl, sym, ap, subst, ◌∙◌, inl, inr, ◌⊎◌, arith}
+use Rattle.std.proofs.Common.{◌≡◌, ℕ, ◌^◌, ◌<◌, ◌≤◌, ◌&&◌, not, leb, Bool, true, false, cond, List, [], map, Option, refl, sym, ap, subst, ◌∙◌, inl, inr, ◌⊎◌, arith}
 use Rattle.std.specs.List.{list_any}
 use Rattle.enet_rtt.specs.Clock.{elapsed_time}
 use Rattle.enet_rtt.specs.Timing.{timeout}
 use Rattle.enet_rtt.specs.Transmission as transmission
 use Rattle.enet_rtt.specs.declared.transmission.Transmission.{Transmission}
-use Rattle.enet_rtt.specs.declared.expiry.Expiry.TheVariants.{No, Resend, End}
 use Rattle.enet_senders.specs.Controlling as controlling
 use Rattle.enet_senders.specs.declared.control.Control.TheVariants as control
 use Rattle.enet_senders.specs.declared.control.SentControl.{SentControl}
+use Rattle.law_connection.specs.Linked.{sender_in}
 use Rattle.law_connection.specs.LinkSteps.{Has}
 use Rattle.enet_sender.specs.declared.sent.Sent.{Sent}
+use Rattle.enet_sender.specs.Sender.{Sender}
 use Rattle.enet_sender.specs.Sender as sender
 use Rattle.enet_sender.specs.Due.{SendingEnd}
-use Rattle.enet_outbox.specs.Outbox.{has_ended, has_late, marked_sender, cleared_sender}
+use Rattle.enet_outbox.specs.Outbox.{has_late, marked_sender, cleared_sender}
 use Rattle.enet_outbox.specs.Outbox as outbox
 use Rattle.enet_outbox.specs.Emission.{filled}
 use Rattle.enet_peer.specs.declared.parts.PeerState.{PeerState}
 use Rattle.enet_peer.specs.declared.parts.PeerState.TheVariants as state
 use Rattle.enet_peer.specs.Peering.{Peering}
 use Rattle.enet_peer.specs.Endings.{cut_off_in}
-use Rattle.enet_peer.specs.Calls.{pace_of, gone_on_in, ticked, pinged, is_pinged, after_timeouts_by, growth_bound}
+use Rattle.enet_peer.specs.Calls.{pace_of, gone_on_in, moved, ticked, pinged, is_pinged, after_timeouts_by, growth_bound}
 use Rattle.law_progress.proofs.Ageing.{most}
+use Rattle.law_progress.proofs.Moving.{by-expiry, by-moved}
 use Rattle.law_progress.proofs.Waiting.{Fair, Sends, each-filled, fair-went, none-of, or-both, Has-mapped}
 use Rattle.law_progress.proofs.Timed.{lt-of}
-use Rattle.enet_world.proofs.Moments.{unmarked}
+use Rattle.enet_world.proofs.Moments.{has-place, unmarked}
+use Rattle.enet_world.proofs.Unsent.{IsUnsent}
 
 -- at this moment a sent command is due to go again, or its timeout isn't over
 abbrev pub Rests : ℕ → Transmission → Type 0
@@ -59,8 +62,10 @@ dated now t (inr k) = inr k.0
 none-cleared : (R : Transmission → Type 0) (xs : List SendingEnd) → (s : SendingEnd) → Has (map cleared_sender xs) s → (t : Sent) → Has s.sender.sent t → R t.transmission
 none-cleared R xs s h t k = let c = Has-mapped cleared_sender xs s h in absurd (subst (λ (x : SendingEnd). Has x.sender.sent t) (sym c.2) k)
 
-pub rests-ticked : (now next : ℕ) (p : Peering) → Fair (Rests now) most p → Fair (Rests next) most (ticked p next)
-rests-ticked now next p h = go (has_ended p.outbox next p.patience p.heard) (has_late p.outbox next) refl
+rests-ticked : (now next : ℕ) (p : Peering) → Fair (Rests now) most p → Fair (Rests next) most (ticked p next)
+rests-ticked now next p h = by-expiry (λ e. Fair (Rests next) most (pinged (after_timeouts_by e p next) next)) p next (pings (cut_off_in p.state p) (cut p.state))
+    (λ lasts late. pings (record p { outbox = outbox.marked p.outbox (growth_bound p) next }) (marks (growth_bound p)))
+    (λ lasts none. pings p (stays none))
   where
     goes : (bound : ℕ) (t : Transmission) → Rests now t → Rests next (transmission.marked bound next t)
     goes bound t r = rests-marked bound next t (dated now t r)
@@ -101,10 +106,27 @@ rests-ticked now next p h = go (has_ended p.outbox next p.patience p.heard) (has
         by true = k
         by false = k
 
-    go : (e late : Bool) → has_late p.outbox next ≡ late → Fair (Rests next) most (pinged (after_timeouts_by (cond e End (cond late Resend No)) p next) next)
-    go true late f = pings (cut_off_in p.state p) (cut p.state)
-    go false true f = pings (record p { outbox = outbox.marked p.outbox (growth_bound p) next }) (marks (growth_bound p))
-    go false false f = pings p (stays f)
+-- or what is late counts as tried
+rests-held : (now next bound : ℕ) (t : SentControl) → next < 2 ^ 32 → Rests now t.transmission → Rests next (controlling.held_back bound next t).transmission
+rests-held now next bound t low r = by (controlling.is_late next t) refl
+  where
+    by : (b : Bool) → controlling.is_late next t ≡ b
+        → Rests next (cond b (record t { transmission = transmission.again next (transmission.marked bound next t.transmission) }) t).transmission
+    by true e = inr (rests-now next (transmission.marked bound next t.transmission).timeout low)
+    by false e = subst (λ (x : Transmission). Rests next x) (unmarked next t.transmission e) (rests-marked 0 next t.transmission (dated now t.transmission r))
+
+pub rests-moved : (now next : ℕ) (short : Bool) (p : Peering) → next < 2 ^ 32 → IsUnsent p → Fair (Rests now) most p → Fair (Rests next) most (moved short p next)
+rests-moved now next short p low unsent h = by-moved (Fair (Rests next) most) short p next (rests-ticked now next p h) (λ at lasts. (
+  (
+    (λ t k. (let c = Has-mapped (controlling.held_back (growth_bound p) next) p.outbox.control.sent t k in
+        subst (λ (x : SentControl). Rests next x.transmission) c.2 (rests-held now next (growth_bound p) c.0 low (h.0.0 c.0 c.1)))),
+    (λ s k t j. (let i = has-place p.outbox.senders s k in
+        let none : s.sender.sent ≡ [] = ap (λ (o : Option SendingEnd). (sender_in o).sent) (sym i.1) ∙ ap (λ (x : Sender). x.sent) (unsent at i.0) in
+        absurd (subst (λ (l : List Sent). Has l t) none j))),
+  ),
+  h.1,
+  h.2,
+))
 
 pub rests-emitted : (now : ℕ) (p : Peering) → now < 2 ^ 32 → Fair (Rests now) most p → Fair (Rests now) most (gone_on_in p.state (record p { outbox = (filled (pace_of p now) p.outbox).outbox }))
 rests-emitted now p low h =

@@ -15,7 +15,7 @@ use Rattle.enet_outbox.specs.Outbox.{has_ended}
 use Rattle.enet_peer.specs.declared.parts.PeerState.{PeerState}
 use Rattle.enet_peer.specs.declared.parts.PeerState.TheVariants as state
 use Rattle.enet_peer.specs.Peering.{Peering}
-use Rattle.enet_peer.specs.Calls.{pace_of, ticked, with_throttle_limit}
+use Rattle.enet_peer.specs.Calls.{is_answering, pace_of, ticked, with_throttle_limit}
 use Rattle.law_connection.specs.Connection.{End, Connection}
 use Rattle.law_connection.specs.Invariant.{Invariant}
 use Rattle.law_progress.specs.Exchanges.{HasSent}
@@ -81,8 +81,11 @@ record Timed (now : ℕ) (p : Peering) (new : End) : Type 0 where
 timed : (now : ℕ) (own other new : End) (p : Peering) → Ticks now own other new → own.peer ≡ Some p → IsPlain p → has_ended p.outbox now p.patience p.heard ≡ false → Timed now p new
 timed now own other new p ticks is plain lasts = by ticks
   where
+    elsewhere : is_answering p.state ≡ false
+    elsewhere = ap is_answering plain.on
+
     w : Waited now p (ticked p now)
-    w = waited p now lasts
+    w = waited p now elsewhere lasts
 
     on : (ticked p now).state ≡ state.Connected
     on = w.state ∙ plain.on
@@ -91,10 +94,10 @@ timed now own other new p ticks is plain lasts = by ticks
     lone = modest-pings (ticked p now) on (modest-ticked p now (subst (λ (s : PeerState). Controlled s p.outbox.control) (sym plain.on) plain.lone))
 
     by : Ticks now own other new → Timed now p new
-    by (inl h) = record { peer = ticked p now; is = tick-peer own other new now p h is; on = on; lone = lone; waited = w }
+    by (inl h) = record { peer = ticked p now; is = tick-peer own other new now p h is elsewhere; on = on; lone = lone; waited = w }
     by (inr h) = record {
       peer = with_throttle_limit (ticked p now) h.0;
-      is = ap (λ (e : End). e.peer) h.3.3 ∙ ap (λ (x : Peering). Some (with_throttle_limit x h.0)) (same-peer h.1 h.3.0 (ticked p now) h.3.1 (tick-peer own other h.1 now p h.2 is));
+      is = ap (λ (e : End). e.peer) h.3.3 ∙ ap (λ (x : Peering). Some (with_throttle_limit x h.0)) (same-peer h.1 h.3.0 (ticked p now) h.3.1 (tick-peer own other h.1 now p h.2 is elsewhere));
       on = on;
       lone = lone;
       waited = waited-limited p (ticked p now) now h.0 w;

@@ -24,7 +24,7 @@ use Rattle.enet_peer.specs.declared.parts.PeerState.{PeerState}
 use Rattle.enet_peer.specs.declared.parts.PeerState.TheVariants as state
 use Rattle.enet_peer.specs.Peering.{Peering}
 use Rattle.enet_peer.specs.Endings.{cut_off_in}
-use Rattle.enet_peer.specs.Calls.{is_connected, pace_of, ticked, pinged, is_pinged, after_timeouts_by, growth_bound, with_throttle_limit}
+use Rattle.enet_peer.specs.Calls.{is_answering, is_connected, is_over, pace_of, ticked, pinged, is_pinged, after_timeouts_by, growth_bound, with_throttle_limit}
 use Rattle.law_connection.proofs.Runs.{and-left, and-right}
 use Rattle.law_progress.specs.Outboxes.{NothingMayGo, WaitsForSome}
 use Rattle.law_progress.proofs.Ageing.{Aged}
@@ -38,7 +38,7 @@ use Rattle.law_progress.proofs.Timed.{elapsed-is, le-of, lt-of}
 use Rattle.law_progress.proofs.Waiting.{Each, Rests, none-of, or-both}
 use Rattle.enet_world.proofs.StillSent.{StillWaits, GoesAgain, still-filled, still-marked, still-so, still-with, none-waits, HasControl, has-queued, controlled-filled, not-idle}
 use Rattle.enet_world.proofs.Untouched.{pinged-state}
-use Rattle.enet_world.proofs.Moments.{has-place, unmarked}
+use Rattle.enet_world.proofs.Moments.{has-place, not-over, unmarked}
 
 -- ---- a connected peer puts out, and time goes on
 pinged-heard : (q : Peering) (n : ℕ) → (pinged q n).heard ≡ q.heard
@@ -55,6 +55,9 @@ pinged-still R q n h = by (is_pinged q n)
     by true = h
     by false = h
 
+waits-on : (p : Peering) (n : ℕ) → p.state ≡ state.Connected → is_over p n ≡ false
+waits-on p n on = not-over p n (ap is_answering on)
+
 -- where it stays connected, its patience wasn't over
 no-end : (p : Peering) (n : ℕ) → p.state ≡ state.Connected → (ticked p n).state ≡ state.Connected → has_ended p.outbox n p.patience p.heard ≡ false
 no-end p n on stays = by (has_ended p.outbox n p.patience p.heard) refl
@@ -62,15 +65,16 @@ no-end p n on stays = by (has_ended p.outbox n p.patience p.heard) refl
     by : (b : Bool) → has_ended p.outbox n p.patience p.heard ≡ b → has_ended p.outbox n p.patience p.heard ≡ false
     by false e = e
     by true e =
-        let cut : (ticked p n).state ≡ (pinged (cut_off_in p.state p) n).state = ap (λ b. (pinged (after_timeouts_by (cond b End (cond (has_late p.outbox n) Resend No)) p n) n).state) e in
+        let over = waits-on p n on in
+        let cut : (ticked p n).state ≡ (pinged (cut_off_in p.state p) n).state = (λ i. (pinged (after_timeouts_by (cond (over i) End (cond (e i) End (cond (has_late p.outbox n) Resend No))) p n) n).state) in
         let z : state.Connected ≡ state.Ended = sym stays ∙ cut ∙ pinged-state (cut_off_in p.state p) n ∙ ap (λ (s : PeerState). (cut_off_in s p).state) on in
         absurd (cc)
 
-after-tick : (p : Peering) (n : ℕ) → has_ended p.outbox n p.patience p.heard ≡ false → ticked p n ≡ pinged (after_timeouts_by (cond (has_late p.outbox n) Resend No) p n) n
-after-tick p n e = ap (λ b. pinged (after_timeouts_by (cond b End (cond (has_late p.outbox n) Resend No)) p n) n) e
+after-tick : (p : Peering) (n : ℕ) → p.state ≡ state.Connected → has_ended p.outbox n p.patience p.heard ≡ false → ticked p n ≡ pinged (after_timeouts_by (cond (has_late p.outbox n) Resend No) p n) n
+after-tick p n on e = (let over = waits-on p n on in (λ i. pinged (after_timeouts_by (cond (over i) End (cond (e i) End (cond (has_late p.outbox n) Resend No))) p n) n))
 
 heard-stays : (p : Peering) (n : ℕ) → p.state ≡ state.Connected → (ticked p n).state ≡ state.Connected → (ticked p n).heard ≡ p.heard
-heard-stays p n on stays = ap (λ (q : Peering). q.heard) (after-tick p n (no-end p n on stays)) ∙ pinged-heard (after_timeouts_by (cond (has_late p.outbox n) Resend No) p n) n ∙ by (has_late p.outbox n)
+heard-stays p n on stays = ap (λ (q : Peering). q.heard) (after-tick p n on (no-end p n on stays)) ∙ pinged-heard (after_timeouts_by (cond (has_late p.outbox n) Resend No) p n) n ∙ by (has_late p.outbox n)
   where
     by : (b : Bool) → (after_timeouts_by (cond b Resend No) p n).heard ≡ p.heard
     by true = refl
@@ -127,7 +131,7 @@ pings-now p n on stays done interval long = subst (λ (q : Peering). HasControl 
     due = ap (λ m. leb m (elapsed_time n p.heard)) interval ∙ le-leb 500 (elapsed_time n p.heard) long
 
     is : ticked p n ≡ record p { outbox = outbox.with_control p.outbox control.Ping }
-    is = after-tick p n (no-end p n on stays) ∙ ap (λ b. pinged (after_timeouts_by (cond b Resend No) p n) n) (nothing-late p.outbox n nothing)
+    is = after-tick p n on (no-end p n on stays) ∙ ap (λ b. pinged (after_timeouts_by (cond b Resend No) p n) n) (nothing-late p.outbox n nothing)
         ∙ (λ i. cond (connected i && nothing i && due i) (record p { outbox = outbox.with_control p.outbox control.Ping }) p)
 
 -- ---- a command that went by a moment, so that it has waited since, and its peer's patience is over by some time
@@ -151,7 +155,6 @@ old-again since now time t o due = record {
     by = omega arith;
     since = a.since;
     brief = a.brief;
-    waits = inr (omega arith);
   };
   early = o.early;
   soon = late o.waits;
@@ -235,8 +238,8 @@ old-marked since now time d bound pt heard t c = by (leb t.timeout (elapsed_time
     grows = record t { timeout = transmission.grown_time bound t.timeout; due = true }
 
     -- with another timeout, perhaps, and due to go again or not
-    later : (wait : ℕ) (due : Bool) → wait ≤ 60000 → (due ≡ true) ⊎ (now + d ≤ a.last + wait) → Aged (now + d) (time + d) (record t { timeout = wait; due = due })
-    later wait due brief waits = record {
+    later : (wait : ℕ) (due : Bool) → wait ≤ 60000 → Aged (now + d) (time + d) (record t { timeout = wait; due = due })
+    later wait due brief = record {
       first = a.first;
       last = a.last;
       first_is = a.first_is;
@@ -245,7 +248,6 @@ old-marked since now time d bound pt heard t c = by (leb t.timeout (elapsed_time
       by = low;
       since = (let y = a.since in omega arith);
       brief = brief;
-      waits = waits;
     }
 
     rests : t.due ≡ false
@@ -253,7 +255,7 @@ old-marked since now time d bound pt heard t c = by (leb t.timeout (elapsed_time
 
     by : (late : Bool) → leb t.timeout (elapsed_time n t.last) ≡ late → Old since (now + d) (time + d) (transmission.marked bound n t)
     by false f = subst (λ b. Old since (now + d) (time + d) (cond b grows t)) (sym not_late) (record {
-      aged = later t.timeout t.due a.brief (inr (let x = lt-of t.timeout (elapsed_time n t.last) f in let y = gone in let z = low in omega arith));
+      aged = later t.timeout t.due a.brief;
       early = o.early;
       soon = o.soon;
       waits = inl c.rests;
@@ -263,7 +265,7 @@ old-marked since now time d bound pt heard t c = by (leb t.timeout (elapsed_time
         not_late = (λ i. not (rests i) && f i)
     by true f = subst (λ b. Old since (now + d) (time + d) (cond b grows t)) (sym is_late) (record {
       aged = later (transmission.grown_time bound t.timeout) true
-          (let x = at-most-twice bound t.timeout in let y = le-of t.timeout (elapsed_time n t.last) f in let z = gone in let u = soon in let v = a.after in let w = low in omega arith) (inl refl);
+          (let x = at-most-twice bound t.timeout in let y = le-of t.timeout (elapsed_time n t.last) f in let z = gone in let u = soon in let v = a.after in let w = low in omega arith);
       early = o.early;
       soon = o.soon;
       waits = inr (let u = soon in let v = o.early in omega arith);
@@ -337,7 +339,7 @@ less-or a b never = by (leb b a) refl
 still-ticked : (since now time d : ℕ) (p : Peering) → p.state ≡ state.Connected → (ticked p ((now + d) % 2 ^ 32)).state ≡ state.Connected → p.patience.maximum ≡ 30000 → time + d < 2 ^ 32 → AllRest p → StillWaits (Old since now time) p.outbox
     → StillWaits (Old since (now + d) (time + d)) (ticked p ((now + d) % 2 ^ 32)).outbox × (now + d < since + 90000)
 still-ticked since now time d p on stays patient near rests waits = (
-  subst (λ (q : Peering). StillWaits Later q.outbox) (sym (after-tick p n (no-end p n on stays))) (pinged-still Later (after_timeouts_by (cond (has_late p.outbox n) Resend No) p n) n (by (has_late p.outbox n) refl)),
+  subst (λ (q : Peering). StillWaits Later q.outbox) (sym (after-tick p n on (no-end p n on stays))) (pinged-still Later (after_timeouts_by (cond (has_late p.outbox n) Resend No) p n) n (by (has_late p.outbox n) refl)),
   less-or (now + d) (since + 90000) (λ over. none-waits Now p.outbox (λ t c. old-over since now time d p.patience p.heard t c over) comes),
 )
   where

@@ -12,15 +12,16 @@ use Rattle.enet_senders.specs.declared.control.Control.{Control}
 use Rattle.enet_senders.specs.declared.control.Control.TheVariants as control
 use Rattle.enet_outbox.specs.declared.parts.Matched.{Matched}
 use Rattle.enet_outbox.specs.declared.parts.Matched.TheVariants as matched
-use Rattle.enet_outbox.specs.Outbox.{matched_by, after_acknowledgement, lateness}
+use Rattle.enet_outbox.specs.Outbox.{matched_by, after_acknowledgement}
 use Rattle.enet_outbox.specs.Outbox as outbox
 use Rattle.enet_peer.specs.declared.parts.PeerState.{PeerState}
 use Rattle.enet_peer.specs.declared.parts.PeerState.TheVariants as state
 use Rattle.enet_peer.specs.Peering.{Peering}
 use Rattle.enet_peer.specs.Endings.{settled, disconnecting, is_later, freed, cut_off_in}
 use Rattle.enet_peer.specs.CommandEffect.{obeyed, is_connecting, on_acknowledge, on_match, sampled, with_answer, on_verify_in, welcomed, on_disconnect_in, on_last_disconnect}
-use Rattle.enet_peer.specs.Calls.{Leave, AtOnce, TellsOnce, Asks, AsksLater, Refused, left, gone_on_in, ticked, pinged, is_pinged, after_timeouts_by, growth_bound}
+use Rattle.enet_peer.specs.Calls.{Leave, AtOnce, TellsOnce, Asks, AsksLater, Refused, left, expiry_of, gone_on_in, moved, ticked, pinged, is_pinged, after_timeouts_by, growth_bound}
 use Rattle.law_progress.specs.Waits.{after_leave}
+use Rattle.law_progress.proofs.Moving.{by-moved}
 use Rattle.enet_world.proofs.Pings.{answered-holds, obeys-each}
 use Rattle.enet_peer.proofs.Obeying.{unwelcomed-holds}
 
@@ -102,8 +103,8 @@ unset-left p Asks info h = h
 unset-left p AsksLater info h = unset-settled (record p { state = state.DisconnectLater; info = info }) h
 unset-left p Refused info h = h
 
-pub unset-ticked : (p : Peering) (n : ℕ) → IsUnset p → IsUnset (ticked p n)
-unset-ticked p n h = by (lateness p.outbox n p.patience p.heard)
+unset-ticked : (p : Peering) (n : ℕ) → IsUnset p → IsUnset (ticked p n)
+unset-ticked p n h = by (expiry_of p n)
   where
     cut : (s : PeerState) → IsUnset (cut_off_in s p)
     cut state.Answering = h
@@ -120,3 +121,6 @@ unset-ticked p n h = by (lateness p.outbox n p.patience p.heard)
     by End = pings (cut_off_in p.state p) (cut p.state)
     by Resend = pings (record p { outbox = outbox.marked p.outbox (growth_bound p) n }) h
     by No = pings p h
+
+pub unset-moved : (short : Bool) (p : Peering) (n : ℕ) → IsUnset p → IsUnset (moved short p n)
+unset-moved short p n h = by-moved IsUnset short p n (unset-ticked p n h) (λ at lasts. h)

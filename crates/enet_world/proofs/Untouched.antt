@@ -10,19 +10,20 @@ use Rattle.enet_rtt.specs.declared.expiry.Expiry.TheVariants.{No, Resend, End as
 use Rattle.enet_senders.specs.declared.control.Control.TheVariants as control
 use Rattle.enet_outbox.specs.declared.parts.Matched.{Matched}
 use Rattle.enet_outbox.specs.declared.parts.Matched.TheVariants as matched
-use Rattle.enet_outbox.specs.Outbox.{with_control, matched_by, lateness}
+use Rattle.enet_outbox.specs.Outbox.{with_control, matched_by}
 use Rattle.enet_peer.specs.declared.parts.PeerEvent.{PeerEvent}
 use Rattle.enet_peer.specs.declared.parts.PeerEvent.TheVariants as told
 use Rattle.enet_peer.specs.declared.parts.PeerState.{PeerState}
 use Rattle.enet_peer.specs.declared.parts.PeerState.TheVariants as state
 use Rattle.enet_peer.specs.Peering.{Peering}
 use Rattle.enet_peer.specs.CommandEffect.{on_match, on_last_disconnect, acknowledged, obeyed, wants_memory}
-use Rattle.enet_peer.specs.Calls.{after_timeouts, after_timeouts_by, is_pinged, pinged, ticked, next_event, event_after, packet_event, last_event}
+use Rattle.enet_peer.specs.Calls.{after_timeouts, after_timeouts_by, expiry_of, is_answering, is_pinged, moved, pinged, ticked, next_event, event_after, packet_event, last_event}
 use Rattle.law_connection.proofs.Events.{took}
 use Rattle.law_connection.specs.Steps as setting
 use Rattle.law_network.specs.Deeds.{Deed, Alone, emitted}
 use Rattle.law_network.specs.Deeds as deed
 use Rattle.law_network.proofs.Matching.{was-set, matches}
+use Rattle.law_progress.proofs.Moving.{moved-elsewhere}
 use Rattle.enet_world.proofs.Lasting.{obeys}
 use Rattle.enet_world.proofs.Pings.{answered-holds, meets-connected, obeys-each, in_state, was-in}
 
@@ -111,7 +112,14 @@ waited s r now No h = inl refl
 ticked-next : (p : Peering) (now : ℕ) → is_up p.state ≡ true → Next p.state (ticked p now).state
 ticked-next p now up = subst (Next p.state) (sym (pinged-state (after_timeouts p now) now))
     (each-up (λ s q. (x : Expiry) → Next s (after_timeouts_by x q now).state) (λ r x. waited state.Connected r now x (inr (inl refl))) (λ r x. waited state.AckDisconnect r now x (inr (inl refl))) (λ r x. waited state.Ended r now x (inr (inl refl))) p up
-    (lateness p.outbox now p.patience p.heard))
+    (expiry_of p now))
+
+up-elsewhere : (s : PeerState) → is_up s ≡ true → is_answering s ≡ false
+up-elsewhere state.Answering e = absurd (let z : false ≡ true = e in cc)
+up-elsewhere s e = refl
+
+moved-next : (short : Bool) (p : Peering) (now : ℕ) → is_up p.state ≡ true → Next p.state (moved short p now).state
+moved-next short p now up = subst (λ (q : Peering). Next p.state q.state) (sym (moved-elsewhere short p now (up-elsewhere p.state up))) (ticked-next p now up)
 
 -- ---- a datagram goes, or none
 -- by which an acknowledgement of DISCONNECT has gone
@@ -141,7 +149,7 @@ gone-rises f k s h = h
 abbrev pub IsQuiet : Deed → Type 0
 IsQuiet (deed.Emit now given) = Unit {0}
 IsQuiet (deed.Come now sent m answer) = Unit {0}
-IsQuiet (deed.Tick now) = Unit {0}
+IsQuiet (deed.Tick now short) = Unit {0}
 IsQuiet (deed.Set (setting.ThrottleLimit limit) answer) = Unit {0}
 IsQuiet d = ⊥
 
@@ -152,7 +160,7 @@ pub deed-rises : (f : PeerState → Bool) → Rises f → (d : Deed) (p q : Peer
 deed-rises f k (deed.Emit now given) p q quiet a h = subst (IsIn f) (sym a.1) (ap f (emitted-state p now (k.only p.state h)) ∙ gone-rises f k p.state h)
 deed-rises f k (deed.Come now sent m answer) p q quiet a h =
     obeys (IsIn f) answer (wants_memory p now sent m) (obeyed p now sent m) p q a h (next-rises f k p.state (obeyed p now sent m).after.state (obeyed-next p now sent m (k.only p.state h)) h)
-deed-rises f k (deed.Tick now) p q quiet a h = subst (IsIn f) (sym a) (next-rises f k p.state (ticked p now).state (ticked-next p now (k.only p.state h)) h)
+deed-rises f k (deed.Tick now short) p q quiet a h = subst (IsIn f) (sym a) (next-rises f k p.state (moved short p now).state (moved-next short p now (k.only p.state h)) h)
 deed-rises f k (deed.Set (setting.ThrottleLimit limit) (Ok done)) p q quiet a h = (let set = was-set (setting.ThrottleLimit limit) done p q a in subst (IsIn f) (sym set.1) h)
 deed-rises f k (deed.Set (setting.ThrottleLimit limit) (Err why)) p q quiet a h = subst (IsIn f) (sym (matches.refused (deed.Set (setting.ThrottleLimit limit) (Err why)) p q a refl)) h
 deed-rises f k d p q quiet a h = absurd quiet

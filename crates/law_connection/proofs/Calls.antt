@@ -4,14 +4,15 @@ use Rattle.std.specs.List.{slice_get}
 use Rattle.enet_rtt.specs.declared.expiry.Expiry.{Expiry}
 use Rattle.enet_rtt.specs.declared.expiry.Expiry.TheVariants.{No, Resend, End as Ends}
 use Rattle.enet_senders.specs.declared.control.Control.TheVariants as control
-use Rattle.enet_outbox.specs.Outbox.{Outbox, with_control, lateness}
+use Rattle.enet_outbox.specs.Outbox.{Outbox, with_control}
+use Rattle.enet_outbox.specs.Outbox as outbox
 use Rattle.enet_outbox.specs.Emission.{filled}
 use Rattle.enet_outbox.specs.declared.parts.Pace.{Pace}
 use Rattle.enet_peer.specs.Peering.{Peering}
 use Rattle.enet_peer.specs.declared.parts.PeerState.{PeerState}
 use Rattle.enet_peer.specs.declared.parts.PeerState.TheVariants as state
 use Rattle.enet_peer.specs.Endings.{ended, freed, disconnecting, parting, settled, cut_off_in}
-use Rattle.enet_peer.specs.Calls.{Leave, AtOnce, TellsOnce, Asks, AsksLater, Refused, left, leave_by_asking, leave_now, after_timeouts, after_timeouts_by, growth_bound, is_pinged, ticked, is_connected, pace_of, gone_on_in}
+use Rattle.enet_peer.specs.Calls.{Leave, AtOnce, TellsOnce, Asks, AsksLater, Refused, left, leave_by_asking, leave_now, after_timeouts, after_timeouts_by, expiry_of, growth_bound, held_back, is_held_back, is_pinged, moved, ticked, is_connected, pace_of, gone_on_in}
 use Rattle.law_connection.specs.WireLink.{WireLink}
 use Rattle.law_connection.specs.LinkSteps.{Has}
 use Rattle.law_connection.specs.Connection.{End}
@@ -41,11 +42,15 @@ holds-timeouts own other p now Ends h = holds-cut_off own other p p.state h
 holds-timeouts own other p now Resend h = both-marked (with_peer own p) other p (growth_bound p) now refl h
 holds-timeouts own other p now No h = h
 
-pub holds-ticked : (own other : End) (p : Peering) (now : ℕ) → Holds own other p → Holds own other (ticked p now)
+holds-ticked : (own other : End) (p : Peering) (now : ℕ) → Holds own other p → Holds own other (ticked p now)
 holds-ticked own other p now h =
     let q : Peering = after_timeouts p now in
-    let k : Holds own other q = holds-timeouts own other p now (lateness p.outbox now p.patience p.heard) h in
+    let k : Holds own other q = holds-timeouts own other p now (expiry_of p now) h in
     holds-if own other (is_pinged q now) (record q { outbox = with_control q.outbox control.Ping }) q (holds-outbox own other q (with_control q.outbox control.Ping) refl refl k) k
+
+pub holds-moved : (own other : End) (short : Bool) (p : Peering) (now : ℕ) → Holds own other p → Holds own other (moved short p now)
+holds-moved own other short p now h =
+    holds-if own other (is_held_back short p now) (held_back p now) (ticked p now) (holds-outbox own other p (outbox.held_back p.outbox (growth_bound p) now) refl refl h) (holds-ticked own other p now h)
 
 -- a disconnect
 

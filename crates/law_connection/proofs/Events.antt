@@ -17,7 +17,7 @@ use Rattle.law_connection.specs.Steps.{Event, Answer, Submit, Emit, Come, Tick, 
 use Rattle.law_connection.specs.Linked.{sends_in, dispatches_in, IsClean}
 use Rattle.law_connection.specs.Invariant.{IsTidy, is_agreed, AreLinked}
 use Rattle.law_connection.proofs.Moves.{both-taken}
-use Rattle.law_connection.proofs.Calls.{holds-ticked, holds-left, holds-set, both-emitted}
+use Rattle.law_connection.proofs.Calls.{holds-moved, holds-left, holds-set, both-emitted}
 use Rattle.law_connection.proofs.Submits.{both-submitted}
 use Rattle.law_connection.proofs.Beginnings.{both-answered}
 use Rattle.law_connection.proofs.Arrivals.{holds-coming}
@@ -125,7 +125,7 @@ both-happens own other new (Come put now sent) tidy clean b h =
     let p : Peering = h.0 in
     let i = h.2 in
     subst (λ x. AreLinked x other) (sym h.3) (holds-coming own other p put.message.head put.sent_then now sent put.message.body i.logged clean (tidy p h.1) i.of_data i.of_acknowledgement (named own other p h.1 b))
-both-happens own other new (Tick now) tidy clean b h = subst (λ x. AreLinked x other) (sym h.2) (holds-ticked own other h.0 now (named own other h.0 h.1 b))
+both-happens own other new (Tick now) tidy clean b h = subst (λ x. AreLinked x other) (sym h.3) (holds-moved own other h.2 h.0 now (named own other h.0 h.1 b))
 both-happens own other new Take tidy clean b h = subst (λ x. AreLinked x other) (sym h.5) (both-took own other h.0 h.1 h.2 h.3 h.4 b)
 both-happens own other new (Disconnect way info) tidy clean b h = subst (λ x. AreLinked x other) (sym h.4) (holds-left own other h.0 h.1 way info h.3 (named own other h.0 h.2 b))
 both-happens own other new (Set setting) tidy clean b h = subst (λ x. AreLinked x other) (sym h.3) (holds-set own other h.0 setting (named own other h.0 h.1 b))

@@ -14,12 +14,12 @@ use Rattle.enet_peer.specs.declared.parts.Offsets.{Offsets}
 use Rattle.enet_peer.specs.declared.parts.PeerEvent.{PeerEvent}
 use Rattle.enet_peer.specs.declared.parts.PeerEvent.TheVariants as told
 use Rattle.enet_peer.specs.declared.parts.PeerState.TheVariants as state
-use Rattle.enet_peer.specs.Calls.{next_event, is_connected, submitted, ticked}
+use Rattle.enet_peer.specs.Calls.{next_event, is_connected, submitted, moved}
 use Rattle.enet_peer.specs.CommandEffect.{obeyed}
 use Rattle.law_connection.specs.Connection.{End, packets_of, in_sequence}
 use Rattle.law_connection.specs.Steps.{Event, Answer, Submit, Emit, Come, Tick, Take, Disconnect, Set, Happens, with_peer, with_submission, with_setting}
 use Rattle.law_connection.specs.Invariant.{IsTidy, AreLow, IsLow, PeerFits, IsFit}
-use Rattle.law_connection.proofs.PeerChanges.{kept-ticked, kept-left, kept-set, kept-emitted, kept-obeyed}
+use Rattle.law_connection.proofs.PeerChanges.{kept-moved, kept-left, kept-set, kept-emitted, kept-obeyed}
 use Rattle.law_connection.proofs.TidyPeers.{tidies, tidy-submitted}
 use Rattle.law_connection.proofs.CleanLogs.{clean-same, clean-emitted}
 use Rattle.law_connection.proofs.LowChannels.{lows, low-append, low-new}
@@ -108,7 +108,7 @@ fit-happens own other new (Come put now sent) f h =
     subst IsFit (sym h.3) (fit-with own q f (kept-obeyed (IsTidy own.submitted) (tidies own.submitted) p put.message.head now sent put.message.body k.0) (kept-obeyed IsLow lows p put.message.head now sent put.message.body k.1))
 fit-happens own other new (Tick now) f h =
     let p : Peering = h.0 in let k = fit-peer own p h.1 f in
-    subst IsFit (sym h.2) (fit-with own (ticked p now) f (kept-ticked (IsTidy own.submitted) (tidies own.submitted) p now k.0) (kept-ticked IsLow lows p now k.1))
+    subst IsFit (sym h.3) (fit-with own (moved h.2 p now) f (kept-moved (IsTidy own.submitted) (tidies own.submitted) h.2 p now k.0) (kept-moved IsLow lows h.2 p now k.1))
 fit-happens own other new Take f h = subst IsFit (sym h.5) (fit-took own h.0 h.1 h.2 h.3 h.4 f)
 fit-happens own other new (Disconnect way info) f h =
     let p : Peering = h.0 in let k = fit-peer own p h.2 f in

@@ -30,7 +30,7 @@ use Rattle.enet_sender.specs.Due.{SendingEnd}
 use Rattle.enet_outbox.specs.declared.parts.Matched.{Matched}
 use Rattle.enet_outbox.specs.declared.parts.Matched.TheVariants as matched
 use Rattle.enet_outbox.specs.declared.parts.Pace.{Pace}
-use Rattle.enet_outbox.specs.Outbox.{with_control, after_acknowledgement, is_done, matched_by, has_ended, has_late, transit_of}
+use Rattle.enet_outbox.specs.Outbox.{with_control, after_acknowledgement, is_done, matched_by, has_ended, has_late, has_waited, lateness, transit_of}
 use Rattle.enet_outbox.specs.Outbox as outbox
 use Rattle.enet_outbox.specs.Emission.{Filling, transit_limit, filled}
 use Rattle.enet_codec.specs.declared.packet.Packet.{Packet}
@@ -40,10 +40,10 @@ use Rattle.enet_peer.specs.declared.parts.PeerState.TheVariants as state
 use Rattle.enet_peer.specs.Endings.{dropped, ended, freed, disconnecting, parting, settled, is_later, cut_off_in}
 use Rattle.enet_peer.specs.CommandEffect.{Outcome, answered, answered_at, is_answered_in, is_allowed, is_of_handshake, obeyed, unless_refused, by_body, by_answer, by_arrival, on_data, stopped, sampled, with_answer, on_match, accepted, is_connecting, on_acknowledge, welcomed, on_verify_in, on_last_disconnect, on_disconnect_in, on_bandwidth, on_throttle}
 use Rattle.enet_peer.proofs.Obeying.{unless-holds, unwelcomed-holds}
-use Rattle.enet_peer.specs.Calls.{left, after_timeouts, after_timeouts_by, growth_bound, is_pinged, ticked, is_connected, pace_of, gone_on, gone_on_in}
+use Rattle.enet_peer.specs.Calls.{left, after_timeouts, after_timeouts_by, answering_time, expiry_of, growth_bound, held_back, is_answering, is_held_back, is_over, is_pinged, is_resend, moved, ticked, is_connected, pace_of, gone_on, gone_on_in}
 use Rattle.law_connection.specs.Steps.{Way, Asking, Now, Later, leave_by, Setting, Bandwidth, Throttle, ThrottleLimit, PingInterval, Timeout, with_setting, MaySet}
 use Rattle.enet_outbox.proofs.Filled.{by-filling}
-use Rattle.law_connection.proofs.Runs.{either, and-left}
+use Rattle.law_connection.proofs.Runs.{either, and-left, and-right}
 
 -- what a property may speak of
 pub record Core : Type 0 where
@@ -93,6 +93,7 @@ pub record Changes (P : Peering → Type 0) : Type 0 where
   pub welcomes : (p : Peering) (v : Verify) (terms : Terms) → p.state ≡ state.Connecting → 28 < terms.mtu → terms.connect_id ≡ p.offer.connect_id → P p → P (welcomed p v (Some terms))
   pub acknowledges : (p : Peering) (channel number : ℕ) → is_gone p.state ≡ false → P p → P (record p { outbox = after_acknowledgement p.outbox channel number })
   pub marks : (p : Peering) (bound now : ℕ) → P p → P (record p { outbox = outbox.marked p.outbox bound now })
+  pub holds_back : (p : Peering) (bound now : ℕ) → p.state ≡ state.Answering → P p → P (record p { outbox = outbox.held_back p.outbox bound now })
   pub gives_way : (p : Peering) → is_connected p.state ≡ true → P p → P (record p { inbox = given_way p.inbox })
   pub takes : (p : Peering) (channel : ℕ) (r : ReceivingEnd) (c : DataCommand) → is_connected p.state ≡ true → slice_get p.inbox.receivers channel ≡ Some r → P p
       → P (record p { inbox = handed_over p.inbox channel (after_command r (Some c) (is_full_for p.inbox r c)) })
@@ -133,13 +134,36 @@ kept-cut_off : (P : Peering → Type 0) → Changes P → (p : Peering) (now : �
 kept-cut_off P k p now state.Answering e over h = k.frees p h
 kept-cut_off P k p now s e over h = elim (either (is_gone p.state)) [ inl gone ↦ k.cuts p now gone over h | inr here ↦ k.ends p 0 here h ]
 
+answering-is : (s : PeerState) → is_answering s ≡ true → s ≡ state.Answering
+answering-is state.Answering e = refl
+answering-is state.Connecting e = absurd (cc)
+answering-is state.Connected e = absurd (cc)
+answering-is state.DisconnectLater e = absurd (cc)
+answering-is state.Disconnecting e = absurd (cc)
+answering-is state.AckDisconnect e = absurd (cc)
+answering-is state.Ended e = absurd (cc)
+answering-is state.Parting e = absurd (cc)
+answering-is state.Free e = absurd (cc)
+
+-- only one that waits for its client waits too long
+pub over-answers : (p : Peering) (now : ℕ) → is_over p now ≡ true → p.state ≡ state.Answering
+over-answers p now e = answering-is p.state (and-left (is_answering p.state) (has_waited p.outbox answering_time now) e)
+
+-- only such a one is held back
+pub held_back-answers : (short : Bool) (p : Peering) (now : ℕ) → is_held_back short p now ≡ true → p.state ≡ state.Answering
+held_back-answers short p now e = answering-is p.state (and-right short (is_answering p.state) (and-left (short && is_answering p.state) (is_resend (expiry_of p now)) e))
+
 kept-timeouts : (P : Peering → Type 0) → Changes P → (p : Peering) (now : ℕ) → P p → P (after_timeouts p now)
-kept-timeouts P k p now h = by (has_ended p.outbox now p.patience p.heard) (has_late p.outbox now) refl
+kept-timeouts P k p now h = by-wait (is_over p now) refl
   where
     by : (a b : Bool) → has_ended p.outbox now p.patience p.heard ≡ a → P (after_timeouts_by (cond a Ends (cond b Resend No)) p now)
     by true b e = kept-cut_off P k p now p.state refl e h
     by false true e = k.marks p (growth_bound p) now h
     by false false e = h
+
+    by-wait : (w : Bool) → is_over p now ≡ w → P (after_timeouts_by (cond w Ends (lateness p.outbox now p.patience p.heard)) p now)
+    by-wait true e = subst (λ (s : PeerState). P (cut_off_in s p)) (sym (over-answers p now e)) (k.frees p h)
+    by-wait false e = by (has_ended p.outbox now p.patience p.heard) (has_late p.outbox now) refl
 
 pub kept-ticked : (P : Peering → Type 0) → Changes P → (p : Peering) (now : ℕ) → P p → P (ticked p now)
 kept-ticked P k p now h =
@@ -147,6 +171,13 @@ kept-ticked P k p now h =
     let a : P q = kept-timeouts P k p now h in
     if-peer P (is_pinged q now) (record q { outbox = with_control q.outbox control.Ping }) q
     (λ t. k.controls q control.Ping refl (and-left (is_connected q.state) (outbox.has_nothing_reliable q.outbox) (and-left (is_connected q.state && outbox.has_nothing_reliable q.outbox) (leb q.ping_interval (elapsed_time now q.heard)) t)) a) a
+
+pub kept-held_back : (P : Peering → Type 0) → Changes P → (p : Peering) (now : ℕ) → p.state ≡ state.Answering → P p → P (held_back p now)
+kept-held_back P k p now at h = k.holds_back p (growth_bound p) now at h
+
+pub kept-moved : (P : Peering → Type 0) → Changes P → (short : Bool) (p : Peering) (now : ℕ) → P p → P (moved short p now)
+kept-moved P k short p now h =
+    if-peer P (is_held_back short p now) (held_back p now) (ticked p now) (λ t. kept-held_back P k p now (held_back-answers short p now t) h) (kept-ticked P k p now h)
 
 -- the user ends the connection
 

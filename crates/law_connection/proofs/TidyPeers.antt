@@ -186,6 +186,7 @@ tidies qs = record {
     young = λ t. (let y = h.young t in (y.0, (λ i. marked-at bound now p.outbox.senders i ∙ ap (with_marked bound now) (y.1 i)), y.2));
     big = h.big;
   };
+  holds_back = λ p bound now at h. record { places = h.places; few = h.few; receivers = h.receivers; young = h.young; big = h.big };
   gives_way = λ p on h. record {
     places = h.places;
     few = h.few;

@@ -6,6 +6,7 @@ use Rattle.enet_codec.specs.declared.command.Offer.{Offer}
 use Rattle.enet_codec.specs.Message.{Message, connect}
 use Rattle.enet_connect.specs.declared.terms.Terms.{Terms}
 use Rattle.enet_connect.specs.Verification.{verification_of}
+use Rattle.enet_rtt.specs.Transmission as transmission
 use Rattle.enet_senders.specs.declared.control.Control.{Control}
 use Rattle.enet_senders.specs.declared.control.Control.TheVariants as control
 use Rattle.enet_senders.specs.declared.control.Numbered.{Numbered}
@@ -27,14 +28,14 @@ use Rattle.enet_peer.specs.declared.parts.PeerState.TheVariants as state
 use Rattle.enet_peer.specs.Peering.{Peering, joined, connecting, answering}
 use Rattle.enet_peer.specs.Endings.{dropped, ended, freed, disconnecting, parting}
 use Rattle.enet_peer.specs.CommandEffect.{obeyed}
-use Rattle.enet_peer.specs.Calls.{submitted, pace_of, gone_on, ticked, next_event}
+use Rattle.enet_peer.specs.Calls.{submitted, pace_of, gone_on, moved, next_event}
 use Rattle.law_connection.specs.LinkSteps.{Has}
 use Rattle.law_connection.proofs.Lists.{Has-push_cases, Has-append_cases, Has-slice_get}
 use Rattle.law_connection.specs.Connection.{Put, End, put_by}
 use Rattle.law_connection.specs.Steps.{Event, Answer, Submit, Emit, Come, Tick, Take, Disconnect, Set, Happens, with_peer, with_setting, with_emission, no_end}
 use Rattle.law_connection.proofs.Emits.{Has-from_map}
 use Rattle.law_connection.proofs.Events.{took}
-use Rattle.law_connection.proofs.PeerChanges.{Core, Changes, is_offer, kept-ticked, kept-left, kept-set, kept-emitted, kept-obeyed}
+use Rattle.law_connection.proofs.PeerChanges.{Core, Changes, is_offer, kept-moved, kept-left, kept-set, kept-emitted, kept-obeyed}
 
 -- a CONNECT has this connect id
 pub Says : ℕ → Control → Type 0
@@ -165,6 +166,19 @@ marked-all w bound now c a = record {
   sent = λ x h. (let r = Has-from_map (marked bound now) c.sent x h in subst (λ (y : SentControl). Says w y.command.control) r.2 (a.sent r.0 r.1));
 }
 
+held_back-says : (w bound now : ℕ) (x : SentControl) → Says w x.command.control → Says w (controlling.held_back bound now x).command.control
+held_back-says w bound now x says = by (controlling.is_late now x)
+  where
+    by : (b : Bool) → Says w (cond b (record x { transmission = transmission.again now (transmission.marked bound now x.transmission) }) x).command.control
+    by true = says
+    by false = says
+
+held_back-all : (w bound now : ℕ) (c : Commands) → AllSay w c → AllSay w (controlling.with_held_back bound now c)
+held_back-all w bound now c a = record {
+  queued = a.queued;
+  sent = λ x h. (let r = Has-from_map (controlling.held_back bound now) c.sent x h in subst (λ (y : SentControl). Says w y.command.control) r.2 (held_back-says w bound now r.0 (a.sent r.0 r.1)));
+}
+
 cleared-queued : (w number : ℕ) (what : Control) → Says w what → AllSay w (controlling.with_queued (record { number = number; queued = []; sent = [] }) what)
 cleared-queued w number what says = queued-say w (record { number = number; queued = []; sent = [] }) what says (none-say w number)
 
@@ -188,6 +202,7 @@ words w = record {
   welcomes = λ p v terms e big word h. record { terms = word ∙ h.offer e; offer = λ t. absurd (let y : state.Connected ≡ state.Connecting = t in cc); says = none-say w p.outbox.control.number };
   acknowledges = λ p j number here h. stays-of w p (record p { outbox = outbox.after_acknowledgement p.outbox j number }) refl refl refl (acknowledged-says w p.outbox j number h.says) h;
   marks = λ p bound now h. stays-of w p (record p { outbox = outbox.marked p.outbox bound now }) refl refl refl (marked-all w bound now p.outbox.control h.says) h;
+  holds_back = λ p bound now at h. stays-of w p (record p { outbox = outbox.held_back p.outbox bound now }) refl refl refl (held_back-all w bound now p.outbox.control h.says) h;
   gives_way = λ p on h. record { terms = h.terms; offer = h.offer; says = h.says };
   takes = λ p j r c on there h. record { terms = h.terms; offer = h.offer; says = h.says };
   takes_unsequenced = λ p j group payload on h. record { terms = h.terms; offer = h.offer; says = h.says };
@@ -311,7 +326,7 @@ word-happens w own far new (Submit q) f h x = subst (IsWord w) (sym x.3) (record
 word-happens w own far new (Emit now) f h x = subst (IsWord w) (sym x.2) (word-emitted w own far x.0 now x.1 h)
 word-happens w own far new (Come put now sent) f h x =
     subst (IsWord w) (sym x.3) (word-with w own (obeyed x.0 now sent put.message).after h (kept-obeyed (IsOf w) (words w) x.0 put.message.head now sent put.message.body (h.peer x.0 x.1)))
-word-happens w own far new (Tick now) f h x = subst (IsWord w) (sym x.2) (word-with w own (ticked x.0 now) h (kept-ticked (IsOf w) (words w) x.0 now (h.peer x.0 x.1)))
+word-happens w own far new (Tick now) f h x = subst (IsWord w) (sym x.3) (word-with w own (moved x.2 x.0 now) h (kept-moved (IsOf w) (words w) x.2 x.0 now (h.peer x.0 x.1)))
 word-happens w own far new Take f h x = subst (IsWord w) (sym x.5) (word-took w own x.0 x.1 x.2 x.3 x.4 h)
 word-happens w own far new (Disconnect way info) f h x = subst (IsWord w) (sym x.4) (word-with w own x.1 h (kept-left (IsOf w) (words w) x.0 x.1 way info x.3 (h.peer x.0 x.2)))
 word-happens w own far new (Set setting) f h x = subst (IsWord w) (sym x.3) (word-with w own (with_setting setting x.0) h (kept-set (IsOf w) (words w) x.0 setting x.2 (h.peer x.0 x.1)))

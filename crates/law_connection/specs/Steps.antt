@@ -1,5 +1,5 @@
 -- What can happen to a connection, one thing after another. Each happens at one end; where memory is wanting nothing happens.
-use Rattle.std.specs.Prelude.{◌≡◌, ℕ, ◌<◌, true, false, List, [], ◌∷◌, ◌++◌, length, map, Option, Some, None, IsTrue}
+use Rattle.std.specs.Prelude.{◌≡◌, Bool, ℕ, ◌<◌, true, false, List, [], ◌∷◌, ◌++◌, length, map, Option, Some, None, IsTrue}
 use Rattle.enet_codec.specs.declared.packet.Packet.{Packet}
 use Rattle.enet_codec.specs.declared.command.Offer.{Offer}
 use Rattle.enet_codec.specs.Message.{Message, acknowledge, connect}
@@ -17,7 +17,7 @@ use Rattle.enet_peer.specs.declared.parts.PeerEvent.{PeerEvent}
 use Rattle.enet_peer.specs.declared.parts.PeerState.{PeerState}
 use Rattle.enet_peer.specs.Peering.{Peering, joined, connecting, answering}
 use Rattle.enet_peer.specs.CommandEffect.{obeyed}
-use Rattle.enet_peer.specs.Calls.{Leave, submission_refusal, submitted, pace_of, gone_on, left, leave_by_asking, leave_now, leave_later, ticked, next_event, is_connected, with_bandwidth, with_throttle, with_throttle_limit, with_ping_interval, with_timeout}
+use Rattle.enet_peer.specs.Calls.{Leave, submission_refusal, submitted, pace_of, gone_on, left, leave_by_asking, leave_now, leave_later, moved, next_event, is_connected, with_bandwidth, with_throttle, with_throttle_limit, with_ping_interval, with_timeout}
 use Rattle.law_connection.specs.Connection.{Put, End, Connection, sent_on, put_by}
 
 -- how the user ends a connection
@@ -94,7 +94,7 @@ Happens own other (Submit q) new =
 Happens own other (Emit now) new = (p : Peering) × has_peer own p × (new ≡ with_emission own other p now)
 Happens own other (Come put now sent) new =
     (p : Peering) × has_peer own p × InTime own other put × (new ≡ with_peer own (obeyed p now sent put.message).after)
-Happens own other (Tick now) new = (p : Peering) × has_peer own p × (new ≡ with_peer own (ticked p now))
+Happens own other (Tick now) new = (p : Peering) × has_peer own p × (short : Bool) × (new ≡ with_peer own (moved short p now))
 Happens own other Take new =
     (p q : Peering) × (e : PeerEvent) × has_peer own p × (next_event p ≡ Some (record { event = e; after = q })) × (new ≡ record own { peer = Some q; events = own.events ++ e ∷ [] })
 Happens own other (Disconnect way info) new =

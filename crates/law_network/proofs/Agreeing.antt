@@ -61,8 +61,9 @@ fell-same (call.Receive from bytes answer) g h i s p ds e fell = subst (λ (now 
 fell-same (call.Service answer buf) g h i s p ds e fell = fell ∙ asked-same g h i answer buf e
 fell-same (call.Tick ms) g h i s p ds e fell =
     let now : ℕ = clock_after g.clock ms in
-    fell ∙ ap (λ (xs : List Deed). Tick now ∷ xs) (share-same g h now s.emitted (peers.ticked p now) e.1)
-    ∙ ap (λ (clock : ℕ). Tick (clock_after clock ms) ∷ share_of h (clock_after clock ms) s.emitted (peers.ticked p (clock_after clock ms))) e.0
+    fell ∙ ap (λ (xs : List Deed). Tick now (g.short i) ∷ xs) (share-same g h now s.emitted (peers.moved (g.short i) p now) e.2)
+    ∙ ap (λ (short : Bool). Tick now short ∷ share_of h now s.emitted (peers.moved short p now)) e.1
+    ∙ ap (λ (clock : ℕ). Tick (clock_after clock ms) (h.short i) ∷ share_of h (clock_after clock ms) s.emitted (peers.moved (h.short i) p (clock_after clock ms))) e.0
 fell-same (call.NextEvent answer) g h i s p ds e fell = fell ∙ taken-same g h i answer e
 fell-same (call.SetBandwidth incoming outgoing (Ok done)) g h i s p ds e fell = fell
 fell-same (call.SetBandwidth incoming outgoing (Err why)) g h i s p ds e fell = fell
@@ -75,7 +76,7 @@ stays-same c g h i s p e stays = record { deeds = stays.deeds; fell = fell-same 
 pub counts-same : (c : Call) (g h : Common) (i : ℕ) (s : SlotState) (o : Option Peering) → Agree c i o g h → counted c g i s ≡ counted c h i s
 counts-same (call.Tick ms) g h i s None e = ap (λ (b : Bool). cond b 0 s.emitted) e
 counts-same (call.Tick ms) g h i s (Some p) e =
-    ap (λ (b : Bool). cond b 0 s.emitted) e.1.0 ∙ ap (λ (clock : ℕ). cond (h.is_due (clock_after clock ms)) 0 s.emitted) e.0
+    ap (λ (b : Bool). cond b 0 s.emitted) e.2.0 ∙ ap (λ (clock : ℕ). cond (h.is_due (clock_after clock ms)) 0 s.emitted) e.0
 counts-same (call.Service None buf) g h i s o e = refl
 counts-same (call.Service (Some gave) buf) g h i s o e = refl
 counts-same c g h i s o e = refl

@@ -78,7 +78,7 @@ alone-once (deed.Submit packet (Ok done)) p q r a b = a.1 ∙ sym b.1
 alone-once (deed.Submit packet (Err e)) p q r a b = a.1 ∙ sym b.1
 alone-once (deed.Emit now given) p q r a b = a.1 ∙ sym b.1
 alone-once (deed.Come now sent m answer) p q r a b = obeys-once answer (obeyed p now sent m) p q r (wants_memory p now sent m) a b
-alone-once (deed.Tick now) p q r a b = a ∙ sym b
+alone-once (deed.Tick now short) p q r a b = a ∙ sym b
 alone-once (deed.Take None) p q r a b = a.1 ∙ sym b.1
 alone-once (deed.Take (Some e)) p q r a b = ap (λ (x : Taken). x.after) (same-some (record { event = e; after = q }) (record { event = e; after = r }) (sym a ∙ b))
 alone-once (deed.Disconnect way info (Ok done)) p q r a b = same-some q r (sym a ∙ b)
@@ -180,7 +180,7 @@ same-deed (deed.Come now sent message a) (deed.Come now' sent' message' b) p r t
     let whole : ◌≡◌ {A = ℕ × Option ℕ × Message} (now, sent, message) (now', sent', message') = (λ i. (s i, k i, g i)) in
     let same : a ≡ b = same-obeys a b now sent message p r t n m x (subst (λ (z : ℕ × Option ℕ × Message). Alone (deed.Come z.0 z.1 z.2 b) p t) (sym whole) y) in
     λ i. deed.Come (s i) (k i) (g i) (same i)
-same-deed (deed.Tick now) (deed.Tick now') p r t is n m x y = is
+same-deed (deed.Tick now short) (deed.Tick now' short') p r t is n m x y = is
 same-deed (deed.Take a) (deed.Take b) p r t is n m x y = ap (λ (z : Option PeerEvent). deed.Take z) (same-takes a b p r t x y)
 same-deed (deed.Disconnect way info a) (deed.Disconnect way' info' b) p r t is n m x y =
     let s : way ≡ way' = cc in

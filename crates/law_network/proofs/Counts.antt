@@ -14,12 +14,14 @@ use Rattle.enet_slot.specs.Slot.{SlotState, with_peer, changed}
 use Rattle.enet_slot.specs.Calls.{DoesWithMemory, submission, leaving, throttling, pinging, waiting, Does as DoesCall}
 use Rattle.enet_slot.specs.Giving.{asking, answering}
 use Rattle.enet_slot.specs.Sharing.{is_standing, shared}
+use Rattle.enet_host.specs.Crediting.{is_short_at}
 use Rattle.enet_host.specs.Host.{Host}
 use Rattle.enet_host.specs.Calls.{on_named}
 use Rattle.enet_host.specs.Opening.{host_basis, Connects, no_channel, no_slot, no_memory, asks}
 use Rattle.enet_host.specs.Receiving.{Offers, Arrives}
 use Rattle.enet_host.specs.Receiving as receiving
 use Rattle.enet_host.specs.Ticking.{clock_after, with_time, is_due, ticked}
+use Rattle.enet_host.proofs.Moving.{length-moved}
 use Rattle.law_network.specs.Calls.{Call, Done, Acts}
 use Rattle.law_network.specs.Calls as call
 use Rattle.law_network.specs.Common.{common_of}
@@ -66,7 +68,7 @@ count-if false f slots = refl
 count-ticked : (h : Host) (ms : ℕ) → length (ticked h ms).slots ≡ length h.slots
 count-ticked h ms =
     let timed : Host = with_time h (clock_after h.clock ms) in
-    count-if (is_due timed) (shared timed.config.outgoing (count_by is_standing timed.slots)) timed.slots ∙ length-map h.slots (changed (λ (p : Peering). peers.ticked p (clock_after h.clock ms)))
+    count-if (is_due timed) (shared timed.config.outgoing (count_by is_standing timed.slots)) timed.slots ∙ length-moved (clock_after h.clock ms) (is_short_at h.credits) h.slots
 
 pub same-count : (c : Call) (old new : Host) → Acts c old new → length new.slots ≡ length old.slots
 same-count (call.Connect address channels info word answer) old new acts = count-connects old address channels info word answer old.slots new.slots acts.0

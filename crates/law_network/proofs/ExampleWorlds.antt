@@ -18,6 +18,7 @@ use Rattle.enet_peer.specs.Calls.{submission_refusal, next_event}
 use Rattle.enet_sender.specs.CommandChoice.{Packet}
 use Rattle.law_connection.specs.Examples.{example_packet, example_terms, example_limits}
 use Rattle.law_connection.proofs.FirstPacket.{first_message, with_untaken, rest, first-comes}
+use Rattle.enet_host.specs.Crediting.{came, no_credit}
 use Rattle.enet_host.specs.Opening.{no_totals}
 use Rattle.enet_host.specs.Receiving.{with_datagram_in}
 use Rattle.enet_slot.specs.Giving.{unused_slot, server_from}
@@ -107,7 +108,7 @@ crosses x y k q u c = (
 -- between two hosts that are connected from the start
 
 abbrev idle : Lone
-idle = record { totals = no_totals; emitted = 0; peer = joined 0 example_terms example_limits; log = []; mtu = 0; numbers = joined_greatest; channels = fresh_channels; events = [] }
+idle = record { totals = no_totals; credit = no_credit; emitted = 0; peer = joined 0 example_terms example_limits; log = []; mtu = 0; numbers = joined_greatest; channels = fresh_channels; events = [] }
 
 puts-packet : PutsOne (submitting idle).peer first_message
 unfolding cutting.piece_count
@@ -152,7 +153,7 @@ abbrev pub confirming_message : Message
 confirming_message = record { head = record { acknowledge = false; unsequenced = false; channel = 0xFF; number = 1 }; body = acknowledge 1 0 }
 
 abbrev pub asking : Lone
-asking = beginning no_totals (asking_peer offer)
+asking = beginning no_totals no_credit (asking_peer offer)
 
 abbrev pub asked : Lone
 asked = after_putting B (free_site A) asking asking_message
@@ -161,7 +162,7 @@ abbrev pub ask : Logged
 ask = logged B (free_site A) asking asking_message
 
 abbrev pub answering : Lone
-answering = beginning (with_datagram_in no_totals (length ask.text)) (answering_peer offer)
+answering = beginning (with_datagram_in no_totals (length ask.text)) (came (length ask.text) no_credit) (answering_peer offer)
 
 abbrev pub verified : Lone
 verified = after_putting A (site B asked) answering verifying_message

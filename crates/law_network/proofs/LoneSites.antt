@@ -1,10 +1,11 @@
 -- A host of one slot, which a peer holds that is of connection 0: what its calls come to.
-use Rattle.std.proofs.Common.{◌≡◌, ◌≢◌, ◌≤◌, ℕ, zero, suc, ◌+◌, min, Bool, false, true, inl, inr, List, [], ◌∷◌, ◌++◌, length, map, take, refl, sym, ap, subst, ◌∙◌, arith, Option, Some, None, Ok, slice_get}
+use Rattle.std.proofs.Common.{◌≡◌, ◌≢◌, ◌≤◌, ℕ, zero, suc, ◌+◌, min, Bool, false, true, cond, not, ◌&&◌, inl, inr, List, [], ◌∷◌, ◌++◌, length, map, take, refl, sym, ap, subst, ◌∙◌, arith, Option, Some, None, Ok, slice_get}
 use Rattle.std.proofs.lemmas.List.{append-nil}
 use Rattle.std.specs.Option.{is_some}
 use Rattle.enet_codec.specs.declared.address.Addr.{Addr}
 use Rattle.enet_codec.specs.declared.event.Event.{Event}
 use Rattle.enet_codec.specs.declared.refusal.Refusal.{Refusal}
+use Rattle.enet_codec.specs.declared.stop.Stop.TheVariants as stop
 use Rattle.enet_codec.specs.declared.stop.Stop.TheVariants.{Short}
 use Rattle.enet_codec.specs.declared.command.Head.{Head}
 use Rattle.enet_codec.specs.declared.command.Offer.{Offer}
@@ -28,13 +29,17 @@ use Rattle.enet_peer.specs.Calls.{Taken, submission_refusal, submitted, pace_of,
 use Rattle.enet_slot.specs.Slot.{SlotState, greatest}
 use Rattle.enet_slot.specs.Calls.{event_of, submitted_unless, kept}
 use Rattle.enet_slot.specs.Giving.{no_address, unused_slot, limits_of, offer_from, server_from}
-use Rattle.enet_slot.specs.Receiving.{refused_by_slot, no_peer, stopped, PeerReceives}
+use Rattle.enet_slot.specs.Receiving.{is_deaf, is_same_address, fits_session, refused_by_slot, no_peer, stopped, PeerReceives}
+use Rattle.enet_slot.specs.Receiving as receiving
 use Rattle.enet_slot.specs.Emitting.{with_emitted, PeerEmits}
+use Rattle.enet_host.specs.declared.credits.Credit.{Credit}
 use Rattle.enet_host.specs.declared.totals.Totals.{Totals}
+use Rattle.enet_host.specs.Crediting.{came, no_credit, went}
 use Rattle.enet_host.specs.Host.{Host}
 use Rattle.enet_host.specs.Calls.{put_back}
 use Rattle.enet_host.specs.Opening.{no_totals, asks}
-use Rattle.enet_host.specs.Receiving.{Arrives, unreadable, heard, offered, answers, offer_refused, handled_one, with_datagram_in}
+use Rattle.enet_host.specs.Receiving.{Arrives, unreadable, heard, offered, answers, Listener, Nowhere, More, First, answered, Credits, offer_refused, handled_one, with_datagram_in}
+use Rattle.enet_host.specs.Receiving as counting
 use Rattle.enet_host.specs.Turns.{turn_of}
 use Rattle.enet_host.specs.Serving.{served_of, InTurn, with_datagram_out}
 use Rattle.law_network.specs.Calls as call
@@ -53,9 +58,11 @@ use Rattle.law_network.specs.World.{World, other, address_of, Steps, open_site, 
 use Rattle.law_network.proofs.Marked.{marks_of}
 use Rattle.law_network.proofs.Submitting.{same-some}
 
--- all of it that changes: its totals, how many bytes its peer put out, the peer, the log, and what is kept of its end
+-- all of it that changes: its totals, what its peer's address sent and got, how many bytes the peer put out, the peer, the log, and what
+-- is kept of its end
 pub record Lone : Type 0 where
   pub totals : Totals
+  pub credit : Credit
   pub emitted : ℕ
   pub peer : Peering
   pub log : List Logged
@@ -70,11 +77,11 @@ slot_of side x = record { generation = 0; address = address_of (other side); inc
 abbrev pub end_of : Lone → HostEnd
 end_of x = record { connection = 0; name = first_name; mtu = x.mtu; greatest = x.numbers; channels = x.channels; events = x.events }
 
-abbrev pub host_with : Totals → SlotState → Host
-host_with t s = record { config = example_config; clock = 0; shared_at = 0; service_from = 0; event_from = 0; totals = t; slots = s ∷ [] }
+abbrev pub host_with : Totals → Credit → SlotState → Host
+host_with t c s = record { config = example_config; clock = 0; shared_at = 0; service_from = 0; event_from = 0; totals = t; slots = s ∷ []; credits = c ∷ [] }
 
 abbrev pub site : Side → Lone → Site
-site side x = record { address = address_of side; host = host_with x.totals (slot_of side x); log = x.log; ends = end_of x ∷ [] }
+site side x = record { address = address_of side; host = host_with x.totals x.credit (slot_of side x); log = x.log; ends = end_of x ∷ [] }
 
 -- its end stands
 pub stands : (side : Side) (x : Lone) → Stands (site side x) 0
@@ -161,6 +168,7 @@ pub record PutsOne (p : Peering) (m : Message) : Type 0 where
 abbrev pub after_putting : Side → Site → Lone → Message → Lone
 after_putting side far x m = record x {
   totals = with_datagram_out x.totals (length (text_of x.peer m));
+  credit = went (length (text_of x.peer m)) x.credit;
   emitted = min (x.emitted + length (text_of x.peer m)) greatest;
   peer = put_out x.peer;
   log = x.log ++ logged side far x m ∷ [];
@@ -279,7 +287,7 @@ read-of from to side k peer session sent d m b = record { front = b.spelled.fron
 
 -- it comes to the peer
 abbrev pub after_hearing : Lone → List ℕ → Peering → Lone
-after_hearing x text q = record x { totals = with_datagram_in x.totals (length text); peer = q }
+after_hearing x text q = record x { totals = with_datagram_in x.totals (length text); credit = came (length text) x.credit; peer = q }
 
 -- which the command leaves as q
 pub record Obeys (side : Side) (x : Lone) (session : ℕ) (sent : Option ℕ) (m : Message) (q : Peering) : Type 0 where
@@ -288,10 +296,16 @@ pub record Obeys (side : Side) (x : Lone) (session : ℕ) (sent : Option ℕ) (m
   pub after : q ≡ (obeyed x.peer 0 sent m).after
   pub live : q.state ≢ state.Free
 
+-- a slot that takes a datagram in holds a peer at its address
+let-in : (deaf near fits : Bool) → cond deaf (Some stop.UnknownPeer) (cond (not near) (Some stop.WrongAddress) (cond (not fits) (Some stop.WrongSession) None)) ≡ None → (not deaf && near) ≡ true
+let-in true near fits e = absurd (cc)
+let-in false false fits e = absurd (cc)
+let-in false true fits e = refl
+
 pub hears : (next : ℕ) (side : Side) (from : Site) (x : Lone) (k session : ℕ) (sent : Option ℕ) (d : Logged) (m : Message) (q : Peering) → Brings from (site side x) side k 0 session sent d m → Obeys side x session sent m q
     → Happens next from (HearsIt k handled_one) (site side x) (site side (after_hearing x d.text q))
 hears next side from x k session sent d m q b o =
-    subst (λ (found : Option Logged). BringsOne from found handled_one (site side x) (site side (after_hearing x d.text q))) (sym b.there) (b.in_time, (record { arrives = arrives; rest = refl }, refl))
+    subst (λ (found : Option Logged). BringsOne from found handled_one (site side x) (site side (after_hearing x d.text q))) (sym b.there) (b.in_time, (record { arrives = arrives; credits = credits; rest = refl }, refl))
   where
     old : SlotState
     old = slot_of side x
@@ -309,21 +323,37 @@ hears next side from x k session sent d m q b o =
     hears-it : PeerReceives (record { now = 0; sent = sent }) s.commands old handled_one new
     hears-it = record { peer = x.peer; after = q; held = refl; handled = handles; left = sym (held old q o.live) }
 
-    arrives : Arrives (record { basis = record { config = example_config; clock = 0 }; slots = old ∷ [] }) from.address d.text handled_one (new ∷ [])
-    arrives = subst (λ (a : Addr). Arrives (record { basis = record { config = example_config; clock = 0 }; slots = old ∷ [] }) a d.text handled_one (new ∷ [])) (sym b.at)
+    h : Listener
+    h = record { basis = record { config = example_config; clock = 0 }; slots = old ∷ [] }
+
+    arrives : Arrives h from.address d.text handled_one (new ∷ [])
+    arrives = subst (λ (a : Addr). Arrives h a d.text handled_one (new ∷ [])) (sym b.at)
         (heard (record { peer = 0; session = session; compressed = false; sent = sent }) s.commands old new handled_one (read-of from (site side x) side k 0 session sent d m b) (λ e. omega arith) o.let_in refl hears-it)
 
+    its : receiving.hears (address_of (other side)) old ≡ true
+    its = let-in (is_deaf x.peer.state) (is_same_address (address_of (other side)) (address_of (other side))) (fits_session x.peer session) o.let_in
+
+    credits : Credits h from.address d.text handled_one (x.credit ∷ []) (came (length d.text) x.credit ∷ [])
+    credits = subst (λ (a : Addr). Credits h a d.text handled_one (x.credit ∷ []) (came (length d.text) x.credit ∷ [])) (sym b.at)
+        (record { counted = More 0; counts = counting.here (record { peer = 0; session = session; compressed = false; sent = sent }) s.commands (read-of from (site side x) side k 0 session sent d m b) (λ e. omega arith) its handled_one; after = refl })
+
 -- a stranger's datagram without a byte
-pub hears-nothing : (next : ℕ) (side : Side) (x : Lone) (from : Addr) → Called next (call.Receive from [] (stopped Short)) (site side x) (site side (after_hearing x [] x.peer))
-hears-nothing next side x from = (record { arrives = unreadable Short (too_short (omega arith)); rest = refl }, refl)
+abbrev pub after_nothing : Lone → Lone
+after_nothing x = record x { totals = with_datagram_in x.totals 0 }
+
+pub hears-nothing : (next : ℕ) (side : Side) (x : Lone) (from : Addr) → Called next (call.Receive from [] (stopped Short)) (site side x) (site side (after_nothing x))
+hears-nothing next side x from = (
+  record { arrives = unreadable Short (too_short (omega arith)); credits = record { counted = Nowhere; counts = unreadable Short (too_short (omega arith)) (stopped Short); after = refl }; rest = refl },
+  refl,
+)
 
 -- an end begins, where the user asks for a connection or an offer comes
 
 abbrev pub free_site : Side → Site
 free_site side = open_site side example_config
 
-abbrev pub beginning : Totals → Peering → Lone
-beginning t p = record { totals = t; emitted = 0; peer = p; log = []; mtu = 0; numbers = fresh_greatest; channels = fresh_channels; events = [] }
+abbrev pub beginning : Totals → Credit → Peering → Lone
+beginning t c p = record { totals = t; credit = c; emitted = 0; peer = p; log = []; mtu = 0; numbers = fresh_greatest; channels = fresh_channels; events = [] }
 
 -- the offer with this word for the other's user and this connect id
 abbrev pub offer_with : (info word : ℕ) → Offer
@@ -336,18 +366,18 @@ abbrev pub answering_peer : Offer → Peering
 answering_peer o = peers.answering 0 (record { time = 0; number = 0 }) o (server_from example_config 0 unused_slot o) (limits_of example_config)
 
 pub asks-first : (side : Side) (far : Site) (info word : ℕ) → far.address ≡ address_of (other side)
-    → Happens 0 far (Calls (call.Connect (address_of (other side)) 1 info word (Ok first_name))) (free_site side) (site side (beginning no_totals (asking_peer (offer_with info word))))
+    → Happens 0 far (Calls (call.Connect (address_of (other side)) 1 info word (Ok first_name))) (free_site side) (site side (beginning no_totals no_credit (asking_peer (offer_with info word))))
 asks-first side far info word at = (sym at, ((asks 0 unused_slot (λ e. omega arith) refl refl, refl), refl))
 
 pub answers-first : (side : Side) (from : Site) (k session : ℕ) (sent : Option ℕ) (d : Logged) (head : Head) (o : Offer) → offer_refused o ≡ None
     → Brings from (free_site side) side k no_peer session sent d (record { head = head; body = connect o })
-    → Happens 1 from (HearsIt k handled_one) (free_site side) (site side (beginning (with_datagram_in no_totals (length d.text)) (answering_peer o)))
+    → Happens 1 from (HearsIt k handled_one) (free_site side) (site side (beginning (with_datagram_in no_totals (length d.text)) (came (length d.text) no_credit) (answering_peer o)))
 answers-first side from k session sent d head o fits b =
     subst (λ (found : Option Logged). BringsOne from found handled_one (free_site side) (site side new)) (sym b.there)
-    (b.in_time, (record { arrives = arrives; rest = refl }, ap (λ (x : ℕ). record (site side new) { ends = fresh_end x first_name ∷ [] }) (sym b.of)))
+    (b.in_time, (record { arrives = arrives; credits = credits; rest = refl }, ap (λ (x : ℕ). record (site side new) { ends = fresh_end x first_name ∷ [] }) (sym b.of)))
   where
     new : Lone
-    new = beginning (with_datagram_in no_totals (length d.text)) (answering_peer o)
+    new = beginning (with_datagram_in no_totals (length d.text)) (came (length d.text) no_credit) (answering_peer o)
 
     s : SpellsDatagram d.text (record { peer = no_peer; session = session; compressed = false; sent = sent }) ((record { head = head; body = connect o }) ∷ [])
     s = b.spelled
@@ -358,10 +388,21 @@ answers-first side from k session sent d head o fits b =
     offer : IsOffer s.commands o
     offer = (head, subst (λ (l : List ℕ). Spells l (record { head = head; body = connect o })) (sym alone) s.messages.3)
 
-    arrives : Arrives (record { basis = record { config = example_config; clock = 0 }; slots = unused_slot ∷ [] }) from.address d.text handled_one (slot_of side new ∷ [])
-    arrives = subst (λ (a : Addr). Arrives (record { basis = record { config = example_config; clock = 0 }; slots = unused_slot ∷ [] }) a d.text handled_one (slot_of side new ∷ [])) (sym b.at)
-        (offered (record { peer = no_peer; session = session; compressed = false; sent = sent }) s.commands o handled_one (slot_of side new ∷ [])
-        (read-of from (free_site side) side k no_peer session sent d (record { head = head; body = connect o }) b) refl offer (answers 0 unused_slot fits refl refl refl))
+    h : Listener
+    h = record { basis = record { config = example_config; clock = 0 }; slots = unused_slot ∷ [] }
+
+    header : Header
+    header = record { peer = no_peer; session = session; compressed = false; sent = sent }
+
+    read : IsRead d.text header s.commands
+    read = read-of from (free_site side) side k no_peer session sent d (record { head = head; body = connect o }) b
+
+    credits : Credits h from.address d.text handled_one (no_credit ∷ []) (came (length d.text) no_credit ∷ [])
+    credits = record { counted = First 0; counts = answered header s.commands o 0 read refl offer refl refl; after = refl }
+
+    arrives : Arrives h from.address d.text handled_one (slot_of side new ∷ [])
+    arrives = subst (λ (a : Addr). Arrives h a d.text handled_one (slot_of side new ∷ [])) (sym b.at)
+        (offered header s.commands o handled_one (slot_of side new ∷ []) read refl offer (answers 0 unused_slot fits refl refl refl))
 
 -- so in a world that has connection 0
 
@@ -401,9 +442,9 @@ take_event B far x q e tells live = (Calls (call.NextEvent (Some (event_of first
 -- and where B asks for it, and its CONNECT comes to A
 
 pub connect_event : (info word : ℕ)
-    → Steps (open_world example_config example_config) (happen.Connect B 1 info word) (Ok (answer.Peer first_name)) (between B (site B (beginning no_totals (asking_peer (offer_with info word)))) (free_site A))
+    → Steps (open_world example_config example_config) (happen.Connect B 1 info word) (Ok (answer.Peer first_name)) (between B (site B (beginning no_totals no_credit (asking_peer (offer_with info word)))) (free_site A))
 connect_event info word = (Calls (call.Connect (address_of A) 1 info word (Ok first_name)), refl, record { here = asks-first B (free_site A) info word refl; there = refl; count = refl })
 
 pub deliver_offer : (from : Site) (k session : ℕ) (sent : Option ℕ) (d : Logged) (head : Head) (o : Offer) → offer_refused o ≡ None → Brings from (free_site A) A k no_peer session sent d (record { head = head; body = connect o })
-    → Steps (between A (free_site A) from) (happen.Deliver A k) (Ok (answer.Received handled_one)) (between A (site A (beginning (with_datagram_in no_totals (length d.text)) (answering_peer o))) from)
+    → Steps (between A (free_site A) from) (happen.Deliver A k) (Ok (answer.Received handled_one)) (between A (site A (beginning (with_datagram_in no_totals (length d.text)) (came (length d.text) no_credit) (answering_peer o))) from)
 deliver_offer from k session sent d head o fits b = (HearsIt k handled_one, refl, record { here = answers-first A from k session sent d head o fits b; there = refl; count = refl })

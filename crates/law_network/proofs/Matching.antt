@@ -76,7 +76,7 @@ matches-done own other (deed.Come now sent m answer) old new put e alone effect 
   ),
   refl,
 )
-matches-done own other (deed.Tick now) old new put e alone effect brings = ((old, e, ap (λ (x : Peering). with_peer own x) alone), refl)
+matches-done own other (deed.Tick now short) old new put e alone effect brings = ((old, e, short, ap (λ (x : Peering). with_peer own x) alone), refl)
 matches-done own other (deed.Take None) old new put e alone effect brings = absurd (cc)
 matches-done own other (deed.Take (Some t)) old new put e alone effect brings = ((old, new, t, e, alone, refl), refl)
 matches-done own other (deed.Disconnect way info (Ok done)) old new put e alone effect brings = ((old, new, e, alone, refl), refl)
@@ -90,7 +90,7 @@ matches-refused (deed.Submit q (Ok done)) old new alone none = absurd (cc)
 matches-refused (deed.Submit q (Err e)) old new alone none = alone.1
 matches-refused (deed.Emit now given) old new alone none = absurd (cc)
 matches-refused (deed.Come now sent m answer) old new alone none = stopped answer (wants_memory old now sent m) (obeyed old now sent m) old new (keeps-obeyed old now sent m) none alone
-matches-refused (deed.Tick now) old new alone none = absurd (cc)
+matches-refused (deed.Tick now short) old new alone none = absurd (cc)
 matches-refused (deed.Take None) old new alone none = alone.1
 matches-refused (deed.Take (Some t)) old new alone none = absurd (cc)
 matches-refused (deed.Disconnect way info (Ok done)) old new alone none = absurd (cc)

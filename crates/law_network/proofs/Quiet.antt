@@ -55,7 +55,7 @@ goes-still old new e own far k same shows = record {
 
 -- deeds that change the peer alone, or nothing
 is_quiet : Deed → Bool
-is_quiet (Tick now) = true
+is_quiet (Tick now short) = true
 is_quiet (Disconnect way info answer) = true
 is_quiet (Set setting answer) = true
 is_quiet d = not (takes_effect d)
@@ -77,7 +77,7 @@ no-effect false h = refl
 
 quiet-one : (d : Deed) (own far : End) (p q : Peering) → is_quiet d ≡ true → own.peer ≡ Some p → Alone d p q → QuietOne own far p q
 unfolding is_quiet
-quiet-one (Tick now) own far p q quiet is alone = inl (event.Tick now, (p, is, ap (with_peer own) alone))
+quiet-one (Tick now short) own far p q quiet is alone = inl (event.Tick now, (p, is, short, ap (with_peer own) alone))
 quiet-one (Disconnect way info (Ok done)) own far p q quiet is alone = inl (event.Disconnect way info, (p, q, is, alone, refl))
 quiet-one (Disconnect way info (Err why)) own far p q quiet is alone = refused-one (Disconnect way info (Err why)) own far p q refl alone
 quiet-one (Set setting (Ok done)) own far p q quiet is alone = let set = was-set setting done p q alone in inl (event.Set setting, (p, is, set.0, ap (with_peer own) set.1))

@@ -12,7 +12,8 @@ use Rattle.enet_codec.specs.Message.{Message}
 use Rattle.enet_peer.specs.declared.parts.PeerState.TheVariants as state
 use Rattle.enet_peer.specs.Peering.{Peering}
 use Rattle.enet_peer.specs.CommandEffect.{obeyed}
-use Rattle.enet_peer.specs.Calls.{ticked, is_connected}
+use Rattle.enet_peer.specs.Calls as peers
+use Rattle.enet_peer.specs.Calls.{is_connected}
 use Rattle.enet_peer.specs.Handling.{HandlesEach, Handles, one_more}
 use Rattle.enet_peer.specs.Heading.{IsRead}
 use Rattle.enet_peer.proofs.Each.{handles-each}
@@ -257,11 +258,11 @@ runs-ticks : (now : ℕ) (own far new : End) → Ticks now own far new → (es :
 runs-ticks now own far new (inl t) = (event.Tick now ∷ [], (new, t, refl))
 runs-ticks now own far new (inr t) = (event.Tick now ∷ event.Set (event.ThrottleLimit t.0) ∷ [], (t.1, t.2, (new, t.3, refl)))
 
-ticks-so : (now limit : ℕ) (b : Bool) (own far : End) (p q : Peering) → own.peer ≡ Some p → AllAlone (Tick now ∷ deeds_if b (Set (event.ThrottleLimit limit) (Ok tt))) p q → Ticks now own far (with_peer own q)
-ticks-so now limit false own far p q is a = inl (p, is, ap (with_peer own) (sym a.2 ∙ a.1))
-ticks-so now limit true own far p q is a =
+ticks-so : (now limit : ℕ) (short b : Bool) (own far : End) (p q : Peering) → own.peer ≡ Some p → AllAlone (Tick now short ∷ deeds_if b (Set (event.ThrottleLimit limit) (Ok tt))) p q → Ticks now own far (with_peer own q)
+ticks-so now limit short false own far p q is a = inl (p, is, short, ap (with_peer own) (sym a.2 ∙ a.1))
+ticks-so now limit short true own far p q is a =
     let set = was-set (event.ThrottleLimit limit) tt a.0 a.2.0 a.2.1 in
-    inr (limit, with_peer own a.0, (p, is, ap (with_peer own) a.1), (a.0, refl, set.0, ap (with_peer own) (sym a.2.2 ∙ set.1)))
+    inr (limit, with_peer own a.0, (p, is, short, ap (with_peer own) a.1), (a.0, refl, set.0, ap (with_peer own) (sym a.2.2 ∙ set.1)))
 
 pub times : Times
 times w from old new ms x e own far at live = by (moved (call.Tick ms) old.host new.host e.name k.peer at.few x.0 k.shows) (there-or old.host e.name k.peer k.shows)
@@ -280,8 +281,9 @@ times w from old new ms x e own far at live = by (moved (call.Tick ms) old.host 
     by (is_gone shows never) (inl lives) = absurd (never k.peer lives.1)
     by (goes y ds q fell alone shows) (inl lives) =
         let a = subst (λ (l : List Deed). AllAlone l k.peer q) fell alone in
-        let t : Ticks (clock_after old.host.clock ms) own far (with_peer own q) = ticks-so (clock_after old.host.clock ms) (limit_for h.config.outgoing (h.standing (clock_after old.host.clock ms)) y.slot.emitted (ticked k.peer (clock_after old.host.clock ms)))
-        (h.is_due (clock_after old.host.clock ms) && is_connected (ticked k.peer (clock_after old.host.clock ms)).state) own far k.peer q k.has a in
+        let now : ℕ = clock_after old.host.clock ms in
+        let short : Bool = h.short e.name.slot in
+        let t : Ticks now own far (with_peer own q) = ticks-so now (limit_for h.config.outgoing (h.standing now) y.slot.emitted (peers.moved short k.peer now)) short (h.is_due now && is_connected (peers.moved short k.peer now).state) own far k.peer q k.has a in
         let run = runs-ticks (clock_after old.host.clock ms) own far (with_peer own q) t in
         seen-same R new e old.ends (ap (λ (z : Site). z.ends) x.1) at.there
         (with_peer own q, shows-with old new e own far q run.0 run.1 (same-log old new e.connection (ap (λ (z : Site). z.log) x.1)) k shows, t)

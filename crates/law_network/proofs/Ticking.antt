@@ -7,9 +7,11 @@ use Rattle.enet_peer.specs.Peering.{Peering}
 use Rattle.enet_peer.specs.Calls.{is_connected, with_throttle_limit}
 use Rattle.enet_peer.specs.Calls as peers
 use Rattle.enet_slot.specs.Slot.{SlotState, with_peer, with_changed, changed}
-use Rattle.enet_host.specs.Host.{Host}
 use Rattle.enet_slot.specs.Sharing.{is_standing, limit_for, with_limit, shared}
+use Rattle.enet_host.specs.Crediting.{is_short_at}
+use Rattle.enet_host.specs.Host.{Host}
 use Rattle.enet_host.specs.Ticking.{clock_after, with_time, is_due, ticked}
+use Rattle.enet_host.proofs.Moving.{get-moved}
 use Rattle.law_connection.specs.Steps as setting
 use Rattle.law_network.specs.Calls.{Call}
 use Rattle.law_network.specs.Calls as call
@@ -89,7 +91,7 @@ slots-if true f xs i x e = get-map f xs i x e
 slots-if false f xs i x e = e
 
 pub each-ticked : (h : Host) (ms : ℕ) → Each (call.Tick ms) h (ticked h ms).slots
-each-ticked h ms i s e = (t s, slots-if (is_due timed) (shared outgoing standing) timed.slots i (changed tick s) (get-map (changed tick) h.slots i s e), by s.peer refl)
+each-ticked h ms i s e = (t s, slots-if (is_due timed) (shared outgoing standing) timed.slots i (changed tick s) (get-moved now (is_short_at h.credits) h.slots i s e), by s.peer refl)
   where
     now : ℕ
     now = clock_after h.clock ms
@@ -103,8 +105,11 @@ each-ticked h ms i s e = (t s, slots-if (is_due timed) (shared outgoing standing
     standing : ℕ
     standing = count_by is_standing timed.slots
 
+    short : Bool
+    short = is_short_at h.credits i
+
     tick : Peering → Peering
-    tick p = peers.ticked p now
+    tick p = peers.moved short p now
 
     t : SlotState → SlotState
     t x = cond (is_due timed) (shared outgoing standing (changed tick x)) (changed tick x)
@@ -119,5 +124,5 @@ each-ticked h ms i s e = (t s, slots-if (is_due timed) (shared outgoing standing
         (ap (λ (o : Option Peering). cond (is_due timed) (shared outgoing standing (with_changed tick s o)) (with_changed tick s o)) g ∙ none-if (is_due timed) g)
     by (Some p) g =
         let x : Shares outgoing standing (is_due timed) s (tick p) = shares outgoing standing (is_due timed) s (tick p) in
-        goes_on p x.after (Tick now ∷ share_of (common_of h) now s.emitted (tick p)) g refl (tick p, refl, x.alone)
+        goes_on p x.after (Tick now short ∷ share_of (common_of h) now s.emitted (tick p)) g refl (tick p, refl, x.alone)
         (ap (λ (o : Option Peering). cond (is_due timed) (shared outgoing standing (with_changed tick s o)) (with_changed tick s o)) g ∙ x.left)

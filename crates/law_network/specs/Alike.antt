@@ -24,7 +24,7 @@ abbrev pub asked : Deed → Deed
 asked (deed.Submit q answer) = deed.Submit q (Ok tt)
 asked (deed.Emit now given) = deed.Emit now None
 asked (deed.Come now sent m answer) = deed.Come now sent m (Ok tt)
-asked (deed.Tick now) = deed.Tick now
+asked (deed.Tick now short) = deed.Tick now short
 asked (deed.Take given) = deed.Take None
 asked (deed.Disconnect way info answer) = deed.Disconnect way info (Ok tt)
 asked (deed.Set setting answer) = deed.Set setting (Ok tt)
@@ -75,7 +75,7 @@ abbrev pub AgreeOnPeer : Call → ℕ → Common → Common → Type 0
 AgreeOnPeer (Receive from bytes answer) i g h = g.clock ≡ h.clock
 AgreeOnPeer (Service answer buf) i g h = (g.clock ≡ h.clock) × AgreeInTurn (giving (Service answer buf)) i g.turn h.turn
 AgreeOnPeer (NextEvent answer) i g h = AgreeInTurn (giving (NextEvent answer)) i g.event_turn h.event_turn
-AgreeOnPeer (Tick ms) i g h = (g.clock ≡ h.clock) × AgreeOnShares (clock_after g.clock ms) g h
+AgreeOnPeer (Tick ms) i g h = (g.clock ≡ h.clock) × (g.short i ≡ h.short i) × AgreeOnShares (clock_after g.clock ms) g h
 AgreeOnPeer c i g h = Unit {0}
 
 -- whether slot i is the lowest that is free and has a generation left

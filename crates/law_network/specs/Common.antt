@@ -7,6 +7,7 @@ use Rattle.enet_codec.specs.declared.config.Config.{Config}
 use Rattle.enet_slot.specs.Giving.{Basis}
 use Rattle.enet_slot.specs.Receiving.{is_connection}
 use Rattle.enet_slot.specs.Sharing.{is_standing}
+use Rattle.enet_host.specs.Crediting.{is_short_at}
 use Rattle.enet_host.specs.Host.{Host}
 use Rattle.enet_host.specs.Opening as opening
 use Rattle.enet_host.specs.Ticking as ticking
@@ -21,6 +22,7 @@ pub record Common : Type 0 where
   pub event_turn : ℕ → ℕ  -- how many are asked for an event before this one
   pub is_due : ℕ → Bool  -- whether the bandwidth is shared out anew once time has come to this moment
   pub standing : ℕ → ℕ  -- and among how many connected peers
+  pub short : ℕ → Bool  -- whether the address of a slot's peer sent too little for another answer
 
 abbrev pub common_of : Host → Common
 common_of h = record {
@@ -32,6 +34,7 @@ common_of h = record {
   event_turn = turn_of (length h.slots) h.event_from;
   is_due = λ now. ticking.is_due (ticking.with_time h now);
   standing = λ now. count_by is_standing (ticking.with_time h now).slots;
+  short = is_short_at h.credits;
 }
 
 -- what a host goes by, of what is shared

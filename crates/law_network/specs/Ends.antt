@@ -20,7 +20,7 @@ abbrev pub takes_effect : Deed → Bool
 takes_effect (deed.Submit q answer) = is_ok answer
 takes_effect (deed.Emit now given) = true
 takes_effect (deed.Come now sent m answer) = is_heeded answer
-takes_effect (deed.Tick now) = true
+takes_effect (deed.Tick now short) = true
 takes_effect (deed.Take given) = is_some given
 takes_effect (deed.Disconnect way info answer) = is_ok answer
 takes_effect (deed.Set setting answer) = is_ok answer
@@ -30,7 +30,7 @@ abbrev pub event_of : Deed → Put → Event
 event_of (deed.Submit q answer) put = event.Submit q
 event_of (deed.Emit now given) put = event.Emit now
 event_of (deed.Come now sent m answer) put = event.Come put now sent
-event_of (deed.Tick now) put = event.Tick now
+event_of (deed.Tick now short) put = event.Tick now
 event_of (deed.Take given) put = event.Take
 event_of (deed.Disconnect way info answer) put = event.Disconnect way info
 event_of (deed.Set setting answer) put = event.Set setting

@@ -114,7 +114,8 @@ Fell h x (call.Receive from bytes answer) ds =
     Reaches x.number x.slot (record { now = h.clock; from = from; bytes = bytes; answer = answer }) ds
 Fell h x (call.Service answer buf) ds = ds ≡ asked_for h x.number answer buf
 Fell h x (call.Tick ms) ds =
-    ds ≡ Tick (clock_after h.clock ms) ∷ share_of h (clock_after h.clock ms) x.slot.emitted (peers.ticked x.peer (clock_after h.clock ms))
+    ds ≡ Tick (clock_after h.clock ms) (h.short x.number)
+    ∷ share_of h (clock_after h.clock ms) x.slot.emitted (peers.moved (h.short x.number) x.peer (clock_after h.clock ms))
 Fell h x (call.Disconnect mode name info answer) ds = ds ≡ deeds_if (is_meant name x.number x.slot) (Disconnect (way_of mode) info answer)
 Fell h x (call.SetBandwidth incoming outgoing (Ok done)) ds = ds ≡ Set (setting.Bandwidth incoming outgoing) (Ok done) ∷ []
 Fell h x (call.SetBandwidth incoming outgoing (Err why)) ds = ds ≡ []

@@ -338,7 +338,7 @@ adds (call.Service (Some gave) buf) old new name p x a ds at acts fell =
 adds (call.Tick ms) old new name p x a ds at acts fell =
     subst (Adds name a (call.Tick ms)) (sym fell) (adds-silent name a (call.Tick ms) _ (record { told = refl; accepted = refl; given = refl }) (ticks _ (silent-if a _ _ (record { told = refl; accepted = refl; given = refl; brought = refl }))))
   where
-    ticks : {now : ℕ} (es : List Deed) → Silent a es → Silent a (Tick now ∷ es)
+    ticks : {now : ℕ} {short : Bool} (es : List Deed) → Silent a es → Silent a (Tick now short ∷ es)
     ticks es s = record { told = s.told; accepted = s.accepted; given = s.given; brought = s.brought }
 adds (call.Disconnect mode n info answer) old new name p x a ds at acts fell =
     subst (Adds name a (call.Disconnect mode n info answer)) (sym fell) (adds-silent name a (call.Disconnect mode n info answer) _ (record { told = refl; accepted = refl; given = refl })

@@ -37,7 +37,7 @@ came-once (Come m now sent) e new k h there =
       | inl old ↦ inl old
       | inr more ↦ (let i = heard-is m.head.channel (e.fronts m.head.channel) (data_of m) h more in inr (m, inl refl, i.0, i.1))
     ]
-came-once (Tick now) e new k h there = inl (subst (λ (x : OneEnd). Has x.came h) k there)
+came-once (Tick now) e new k h there = inl (subst (λ (x : OneEnd). Has x.came h) k.1 there)
 came-once Take e new k h there = inl (subst (λ (x : OneEnd). Has x.came h) k.3 there)
 came-once (Disconnect way info) e new k h there = inl (subst (λ (x : OneEnd). Has x.came h) k.2 there)
 came-once (Set setting) e new k h there = inl (subst (λ (x : OneEnd). Has x.came h) k.1 there)
@@ -71,7 +71,7 @@ of-deed (deed.Come now sent x (Err stop.BadFragment)) m there = there
 of-deed (deed.Come now sent x (Err stop.Waiting)) m there = there
 of-deed (deed.Come now sent x (Err stop.NoSentTime)) m there = there
 of-deed (deed.Come now sent x (Err stop.NoSlot)) m there = there
-of-deed (deed.Tick now) m there = there
+of-deed (deed.Tick now short) m there = there
 of-deed (deed.Take None) m there = there
 of-deed (deed.Take (Some e)) m there = there
 of-deed (deed.Disconnect way info (Ok done)) m there = there

@@ -1,5 +1,5 @@
 -- A server's user is told of a connection only once the client confirmed the server's answer.
-use Rattle.std.proofs.Common.{◌≡◌, ℕ, leb, ltb, length, zero, suc, ◌+◌, ◌-◌, ◌%◌, ◌^◌, ◌<◌, ◌≤◌, ◌==◌, ◌&&◌, ◌||◌, min, Bool, true, false, cond, List, [], ◌∷◌, ◌++◌, take, slice_set, refl, sym, ap, subst, ◌∙◌, append_assoc, append-nil, inl, inr, ◌⊎◌, arith, Option, Some, None}
+use Rattle.std.proofs.Common.{◌≡◌, ℕ, leb, ltb, length, zero, suc, ◌+◌, ◌%◌, ◌^◌, ◌<◌, ◌≤◌, ◌==◌, ◌&&◌, ◌||◌, min, Bool, true, false, cond, List, [], ◌∷◌, ◌++◌, take, slice_set, refl, sym, ap, subst, ◌∙◌, append_assoc, append-nil, inl, inr, ◌⊎◌, arith, Option, Some, None}
 use Rattle.std.proofs.lemmas.Bool.Decides.{nat_tests}
 use Rattle.std.proofs.lemmas.List.Quantifiers.{position-Some}
 use Rattle.std.proofs.lemmas.Option.{get_or_from_slice_get}
@@ -10,6 +10,7 @@ use Rattle.enet_codec.specs.Message.{Message, Body, IsMessage, acknowledge, veri
 use Rattle.enet_rtt.specs.Clock.{told_time, meant_time}
 use Rattle.enet_rtt.specs.SendTimes.{no_sends, with_send, has_time}
 use Rattle.enet_rtt.specs.declared.send_times.SendTimes.{SendTimes}
+use Rattle.enet_rtt.specs.Transmission.{again, marked}
 use Rattle.enet_rtt.specs.declared.expiry.Expiry.{Expiry}
 use Rattle.enet_rtt.specs.declared.expiry.Expiry.TheVariants.{No, Resend, End as Ends}
 use Rattle.enet_fragment.specs.Cutting.{piece_count}
@@ -35,7 +36,7 @@ use Rattle.enet_peer.specs.declared.parts.PeerEvent.TheVariants as told
 use Rattle.enet_peer.specs.declared.parts.PeerState.{PeerState}
 use Rattle.enet_peer.specs.declared.parts.PeerState.TheVariants as state
 use Rattle.enet_peer.specs.Peering.{Peering, answering}
-use Rattle.enet_peer.specs.Calls.{pace_of, gone_on, left, after_timeouts_by, ticked, pinged, is_connected}
+use Rattle.enet_peer.specs.Calls.{pace_of, gone_on, left, after_timeouts_by, expiry_of, held_back, is_held_back, moved, ticked, pinged, is_connected}
 use Rattle.enet_peer.specs.CommandEffect.{obeyed, unless_refused, answered, answered_at, is_answered_in, acknowledged, on_match, accepted as accepted_by}
 use Rattle.enet_peer.specs.Endings.{freed, parting}
 use Rattle.enet_peer.proofs.Obeying.{unless-holds}
@@ -44,7 +45,7 @@ use Rattle.law_connection.specs.Steps.{Way, Asking, Now, Later, leave_by, Settin
 use Rattle.law_connection.proofs.Emits.{Has-from_map}
 use Rattle.law_connection.proofs.Events.{accepted, took}
 use Rattle.law_connection.proofs.Lists.{Has-push_cases, Has-push_left, Has-push, Has-slice_get}
-use Rattle.law_connection.proofs.PeerChanges.{Core, Changes, kept-ticked, kept-left, kept-set, kept-emitted, kept-obeyed}
+use Rattle.law_connection.proofs.PeerChanges.{Core, Changes, kept-moved, kept-left, kept-set, kept-emitted, kept-obeyed}
 use Rattle.law_one_end.specs.OneEnd.{OneEnd, Event, Submit, Emit, Come, Tick, Take, Disconnect, Set, Happens, Runs, beginning, with_emission}
 use Rattle.law_one_end.specs.Confirmed.{IsConfirmed, IsToldConfirmed, AnsweringIsConfirmed}
 use Rattle.law_one_end.specs.Refuted.{GuessIsRefused}
@@ -114,6 +115,27 @@ awaits-marked S answer c bound now k = record {
   queued = k.queued;
   sent = λ t h a. (let r = Has-from_map (controlling.marked bound now) c.sent t h in
       subst (λ (y : SentControl). (y.command ≡ answer) × ((time : ℕ) → has_time time y.times ≡ true → S time)) r.2 (k.sent r.0 r.1 (ap (λ (y : SentControl). is_answer y.command.control) r.2 ∙ a)));
+}
+
+-- what is held back waits longer, and the times of its sends stay
+if-sent : {A : Type 0} (f : SentControl → A) (b : Bool) (x y : SentControl) → f x ≡ f y → f (cond b x y) ≡ f y
+if-sent f true x y e = e
+if-sent f false x y e = refl
+
+held_back-command : (bound now : ℕ) (x : SentControl) → (controlling.held_back bound now x).command ≡ x.command
+held_back-command bound now x = if-sent (λ (y : SentControl). y.command) (controlling.is_late now x) (record x { transmission = again now (marked bound now x.transmission) }) x refl
+
+held_back-times : (bound now : ℕ) (x : SentControl) → (controlling.held_back bound now x).times ≡ x.times
+held_back-times bound now x = if-sent (λ (y : SentControl). y.times) (controlling.is_late now x) (record x { transmission = again now (marked bound now x.transmission) }) x refl
+
+awaits-held_back : (S : ℕ → Type 0) (answer : Numbered) (c : Commands) (bound now : ℕ) → Awaits S answer c → Awaits S answer (controlling.with_held_back bound now c)
+awaits-held_back S answer c bound now k = record {
+  queued = k.queued;
+  sent = λ t h a. (let r = Has-from_map (controlling.held_back bound now) c.sent t h in
+      let command : r.0.command ≡ t.command = sym (held_back-command bound now r.0) ∙ ap (λ (y : SentControl). y.command) r.2 in
+      let times : r.0.times ≡ t.times = sym (held_back-times bound now r.0) ∙ ap (λ (y : SentControl). y.times) r.2 in
+      let z = k.sent r.0 r.1 (ap (λ (y : Numbered). is_answer y.control) command ∙ a) in
+      (sym command ∙ z.0, λ time e. z.1 time (ap (has_time time) times ∙ e)));
 }
 
 -- what is acknowledged is gone
@@ -268,6 +290,7 @@ pasts = record {
   welcomes = λ p v terms e big word h. absurd (let z : true ≡ false = sym (ap is_young e) ∙ h.past in cc);
   acknowledges = λ p j number here h. record { past = h.past; none = h.none };
   marks = λ p bound now h. record { past = h.past; none = h.none };
+  holds_back = λ p bound now at h. record { past = h.past; none = h.none };
   gives_way = λ p on h. record { past = h.past; none = h.none };
   takes = λ p j r c on there h. record { past = h.past; none = h.none };
   takes_unsequenced = λ p j group payload on h. record { past = h.past; none = h.none };
@@ -292,12 +315,19 @@ young-more S T answer offset p f (inr h) = inr h
 
 -- ---- time goes on
 young-ticked : (S : ℕ → Type 0) (answer : Numbered) (offset : ℕ) (p : Peering) (now : ℕ) → Young S answer offset p → Stage S answer offset (ticked p now)
-young-ticked S answer offset p now h = subst (λ (x : Peering). Stage S answer offset (ticked x now)) (is-waiting p h.on h.none) (by (outbox.lateness p.outbox now p.patience p.heard))
+young-ticked S answer offset p now h = subst (λ (x : Peering). Stage S answer offset (ticked x now)) (is-waiting p h.on h.none) (by (expiry_of (waiting p) now))
   where
     by : (x : Expiry) → Stage S answer offset (pinged (after_timeouts_by x (waiting p) now) now)
     by Ends = inr (record { past = refl; none = refl })
     by Resend = inl (record { on = refl; none = refl; same = h.same; awaits = awaits-marked S answer p.outbox.control _ now h.awaits })
     by No = inl (record { on = refl; none = refl; same = h.same; awaits = h.awaits })
+
+young-moved : (S : ℕ → Type 0) (answer : Numbered) (offset : ℕ) (short : Bool) (p : Peering) (now : ℕ) → Young S answer offset p → Stage S answer offset (moved short p now)
+young-moved S answer offset short p now h = by (is_held_back short p now)
+  where
+    by : (b : Bool) → Stage S answer offset (cond b (held_back p now) (ticked p now))
+    by true = inl (record { on = h.on; none = h.none; same = h.same; awaits = awaits-held_back S answer p.outbox.control _ now h.awaits })
+    by false = young-ticked S answer offset p now h
 
 -- the user sets something
 young-set : (S : ℕ → Type 0) (answer : Numbered) (offset : ℕ) (p : Peering) (s : Setting) → MaySet s p → Young S answer offset p → Young S answer offset (with_setting s p)
@@ -568,10 +598,10 @@ stands-next first answer events (Come m now sent) e new runs h (inl y) none = by
     by (inr k) = inr (confirms first events answer m now sent h.0 k)
 stands-next first answer events (Come m now sent) e new runs h (inr p) none = inl (subst (λ (z : OneEnd). Stage (WentAt first (events ++ Come m now sent ∷ []) answer) answer first.peer.offset z.peer × NoConnect z.taken) (sym h.1)
     (inr (kept-obeyed Past pasts e.peer m.head now sent m.body p), none))
-stands-next first answer events (Tick now) e new runs h (inl y) none = inl (subst (λ (z : OneEnd). Stage (WentAt first (events ++ Tick now ∷ []) answer) answer first.peer.offset z.peer × NoConnect z.taken) (sym h)
-    (goes-on first answer events (Tick now) (ticked e.peer now) (young-ticked (WentAt first events answer) answer first.peer.offset e.peer now y), none))
-stands-next first answer events (Tick now) e new runs h (inr p) none = inl (subst (λ (z : OneEnd). Stage (WentAt first (events ++ Tick now ∷ []) answer) answer first.peer.offset z.peer × NoConnect z.taken) (sym h)
-    (inr (kept-ticked Past pasts e.peer now p), none))
+stands-next first answer events (Tick now) e new runs h (inl y) none = inl (subst (λ (z : OneEnd). Stage (WentAt first (events ++ Tick now ∷ []) answer) answer first.peer.offset z.peer × NoConnect z.taken) (sym h.1)
+    (goes-on first answer events (Tick now) (moved h.0 e.peer now) (young-moved (WentAt first events answer) answer first.peer.offset h.0 e.peer now y), none))
+stands-next first answer events (Tick now) e new runs h (inr p) none = inl (subst (λ (z : OneEnd). Stage (WentAt first (events ++ Tick now ∷ []) answer) answer first.peer.offset z.peer × NoConnect z.taken) (sym h.1)
+    (inr (kept-moved Past pasts h.0 e.peer now p), none))
 stands-next first answer events Take e new runs h s none = inl (subst (λ (z : OneEnd). Stage (WentAt first (events ++ Take ∷ []) answer) answer first.peer.offset z.peer × NoConnect z.taken) (sym h.3)
     (goes-on first answer events Take h.1 k.0, not-told e.taken h.0 none k.1))
   where

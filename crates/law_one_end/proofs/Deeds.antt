@@ -186,7 +186,7 @@ led-deed a e (deed.Emit now (Some bytes)) q alone is =
       put = refl;
     }
 led-deed a e (deed.Come now sent m answer) q alone is = led-answered a e now sent m q (is m (inl refl)) answer alone
-led-deed a e (deed.Tick now) q alone is = one-event a e (Tick now) q (with_peer e q, ap (λ (x : Peering). with_peer e x) alone, refl)
+led-deed a e (deed.Tick now short) q alone is = one-event a e (Tick now) q (with_peer e q, (short, ap (λ (x : Peering). with_peer e x) alone), refl)
 led-deed a e (deed.Take None) q alone is = led-nothing a e q alone.1
 led-deed a e (deed.Take (Some t)) q alone is = record {
   end = record e { peer = q; taken = e.taken ++ t ∷ [] };

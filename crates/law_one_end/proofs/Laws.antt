@@ -20,7 +20,7 @@ use Rattle.enet_peer.specs.declared.parts.PeerEvent.TheVariants as told
 use Rattle.enet_peer.specs.declared.parts.PeerState.TheVariants as state
 use Rattle.enet_peer.specs.Peering.{Peering, joined, connecting, answering}
 use Rattle.enet_peer.specs.CommandEffect.{obeyed}
-use Rattle.enet_peer.specs.Calls.{ticked, next_event, pace_of}
+use Rattle.enet_peer.specs.Calls.{moved, next_event, pace_of}
 use Rattle.law_connection.specs.Connection.{packets_of, in_sequence}
 use Rattle.law_connection.specs.Follows.{FollowsCarried}
 use Rattle.law_connection.specs.Linked.{dispatches_in}
@@ -41,7 +41,7 @@ use Rattle.law_one_end.specs.Law.{taken_on, IsHeard, OfEachRun, OfEachAnswering,
 use Rattle.law_one_end.proofs.Rows.{carried-front}
 use Rattle.law_one_end.proofs.Gathering.{hears-nothing}
 use Rattle.law_one_end.proofs.Following.{all-cut, ready-nothing}
-use Rattle.law_one_end.proofs.Turns.{core, StaysAt, stays, ticked-stays, left-stays, set-stays, gone_on-stays, obeyed-becomes}
+use Rattle.law_one_end.proofs.Turns.{core, StaysAt, stays, moved-stays, left-stays, set-stays, gone_on-stays, obeyed-becomes}
 use Rattle.law_one_end.proofs.Loose.{arrival-loose}
 use Rattle.law_one_end.proofs.Ears.{Told, IsEar, AllHear, told-stays, told-taken, told-arrival, told-passed, after}
 
@@ -124,7 +124,7 @@ kept-told e q event opens receivers all each k = record {
 kept-took : (e : OneEnd) (q : Peering) (event : PeerEvent) → next_event e.peer ≡ Some (record { event = event; after = q }) → Kept e → Kept (record e { peer = q; taken = e.taken ++ event ∷ [] })
 kept-took e q event next k = took (λ q event. Kept (record e { peer = q; taken = e.taken ++ event ∷ [] })) e.peer q event next
     (λ info g. kept-told e (record e.peer { greeting = None }) (told.Connect info) refl refl (same (told.Connect info) refl) (λ channel. quiet (told.Connect info) refl channel) k)
-    (λ x rest g u. kept-told e (record e.peer { inbox = record e.peer.inbox { untaken = rest } }) (told.Receive x) refl refl (moved x rest u) (λ channel. packet x rest u channel) k)
+    (λ x rest g u. kept-told e (record e.peer { inbox = record e.peer.inbox { untaken = rest } }) (told.Receive x) refl refl (handed x rest u) (λ channel. packet x rest u channel) k)
     (λ g u at. kept-told e (record e.peer { state = state.Free }) (told.Disconnect e.peer.info) (sym (ap dispatches_in at)) refl (same (told.Disconnect e.peer.info) refl) (λ channel. quiet (told.Disconnect e.peer.info) refl channel) k)
   where
     untaken : List Packet
@@ -141,19 +141,19 @@ kept-took e q event next k = took (λ q event. Kept (record e { peer = q; taken 
     quiet event e' channel = ap (λ qs. in_sequence channel qs ++ in_sequence channel untaken) (none event e')
 
     -- a packet
-    moved : (x : Packet) (rest : List Packet) → untaken ≡ x ∷ rest → packets_of (e.taken ++ told.Receive x ∷ []) ++ rest ≡ packets_of e.taken ++ untaken
-    moved x rest is = ap (λ qs. qs ++ rest) (packets-push e.taken (told.Receive x)) ∙ append_assoc (packets_of e.taken) (x ∷ []) rest ∙ ap (λ qs. packets_of e.taken ++ qs) (sym is)
+    handed : (x : Packet) (rest : List Packet) → untaken ≡ x ∷ rest → packets_of (e.taken ++ told.Receive x ∷ []) ++ rest ≡ packets_of e.taken ++ untaken
+    handed x rest is = ap (λ qs. qs ++ rest) (packets-push e.taken (told.Receive x)) ∙ append_assoc (packets_of e.taken) (x ∷ []) rest ∙ ap (λ qs. packets_of e.taken ++ qs) (sym is)
 
     packet : (x : Packet) (rest : List Packet) → untaken ≡ x ∷ rest → (channel : ℕ)
         → in_sequence channel (packets_of (e.taken ++ told.Receive x ∷ [])) ++ in_sequence channel rest ≡ in_sequence channel (packets_of e.taken) ++ in_sequence channel untaken
     packet x rest is channel =
-        sym (in_sequence-append channel (packets_of (e.taken ++ told.Receive x ∷ [])) rest) ∙ ap (in_sequence channel) (moved x rest is) ∙ in_sequence-append channel (packets_of e.taken) untaken
+        sym (in_sequence-append channel (packets_of (e.taken ++ told.Receive x ∷ [])) rest) ∙ ap (in_sequence channel) (handed x rest is) ∙ in_sequence-append channel (packets_of e.taken) untaken
 
 kept-happens : (e new : OneEnd) (event : Event) → Happens e event new → Kept e → Kept new
 kept-happens e new (Submit q) h k = subst Kept (sym h.1) (kept-stays e (with_submission e q) refl refl refl refl (stays (core e.peer)) k)
 kept-happens e new (Emit now) h k = subst Kept (sym h) (kept-stays e (with_emission e now) refl refl refl refl (gone_on-stays (record e.peer { outbox = (filled (pace_of e.peer now) e.peer.outbox).outbox })) k)
 kept-happens e new (Come m now sent) h k = subst Kept (sym h.1) (kept-come e m now sent h.0 k)
-kept-happens e new (Tick now) h k = subst Kept (sym h) (kept-stays e (with_peer e (ticked e.peer now)) refl refl refl refl (ticked-stays e.peer now) k)
+kept-happens e new (Tick now) h k = subst Kept (sym h.1) (kept-stays e (with_peer e (moved h.0 e.peer now)) refl refl refl refl (moved-stays h.0 e.peer now) k)
 kept-happens e new Take h k = subst Kept (sym h.3) (kept-took e h.1 h.0 h.2 k)
 kept-happens e new (Disconnect way info) h k = subst Kept (sym h.2) (kept-stays e (with_peer e h.0) refl refl refl refl (left-stays e.peer h.0 way info h.1) k)
 kept-happens e new (Set setting) h k = subst Kept (sym h.1) (kept-stays e (with_peer e (with_setting setting e.peer)) refl refl refl refl (set-stays e.peer setting) k)

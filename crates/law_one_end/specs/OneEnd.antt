@@ -1,6 +1,6 @@
 -- One end of a connection, ours, whatever stands at the other: what came to it and what its user took, what its user submitted and what it
 -- put out.
-use Rattle.std.specs.Prelude.{◌≡◌, ℕ, ◌+◌, ◌%◌, List, [], ◌∷◌, ◌++◌, length, Option, Some, None, slice_get}
+use Rattle.std.specs.Prelude.{◌≡◌, Bool, ℕ, ◌+◌, ◌%◌, List, [], ◌∷◌, ◌++◌, length, Option, Some, None, slice_get}
 use Rattle.enet_codec.specs.declared.packet.Packet.{Packet}
 use Rattle.enet_codec.specs.Message.{Message, Body, IsMessage, send_unsequenced}
 use Rattle.enet_seq.specs.Windows.{ahead}
@@ -10,7 +10,7 @@ use Rattle.enet_outbox.specs.Emission.{filled}
 use Rattle.enet_peer.specs.declared.parts.PeerEvent.{PeerEvent}
 use Rattle.enet_peer.specs.Peering.{Peering}
 use Rattle.enet_peer.specs.CommandEffect.{obeyed}
-use Rattle.enet_peer.specs.Calls.{submission_refusal, submitted, pace_of, gone_on, left, ticked, next_event}
+use Rattle.enet_peer.specs.Calls.{submission_refusal, submitted, pace_of, gone_on, left, moved, next_event}
 use Rattle.law_connection.specs.Linked.{receiver_in}
 use Rattle.law_connection.specs.Steps.{Way, leave_by, Setting, MaySet, with_setting}
 
@@ -82,7 +82,7 @@ abbrev pub Happens : OneEnd → Event → OneEnd → Type 0
 Happens e (Submit q) new = (submission_refusal e.peer q.channel (length q.body) ≡ None) × (new ≡ with_submission e q)
 Happens e (Emit now) new = new ≡ with_emission e now
 Happens e (Come m now sent) new = IsMessage m × (new ≡ with_come e m (obeyed e.peer now sent m).after)
-Happens e (Tick now) new = new ≡ with_peer e (ticked e.peer now)
+Happens e (Tick now) new = (short : Bool) × (new ≡ with_peer e (moved short e.peer now))
 Happens e Take new = (told : PeerEvent) × (q : Peering) × (next_event e.peer ≡ Some (record { event = told; after = q })) × (new ≡ record e { peer = q; taken = e.taken ++ told ∷ [] })
 Happens e (Disconnect way info) new = (q : Peering) × (left (leave_by way e.peer.state) e.peer info ≡ Some q) × (new ≡ with_peer e q)
 Happens e (Set setting) new = MaySet setting e.peer × (new ≡ with_peer e (with_setting setting e.peer))

@@ -1,13 +1,13 @@
 -- A peer that has to acknowledge the other end's DISCONNECT does so at once, and has ended.
-use Rattle.std.proofs.Common.{◌≡◌, ℕ, ◌%◌, ◌^◌, List, [], ◌∷◌, refl, sym, ap, subst, ◌∙◌, arith}
+use Rattle.std.proofs.Common.{◌≡◌, ℕ, ◌%◌, ◌^◌, Bool, List, [], ◌∷◌, refl, sym, ap, subst, ◌∙◌, arith}
 use Rattle.enet_rtt.specs.declared.expiry.Expiry.{Expiry}
 use Rattle.enet_rtt.specs.declared.expiry.Expiry.TheVariants.{No, Resend, End}
-use Rattle.enet_outbox.specs.Outbox.{lateness}
 use Rattle.enet_outbox.specs.Emission.{filled}
 use Rattle.enet_peer.specs.declared.parts.PeerState.TheVariants as state
 use Rattle.enet_peer.specs.Peering.{Peering}
-use Rattle.enet_peer.specs.Calls.{pace_of, gone_on_in, ticked, pinged, after_timeouts_by}
+use Rattle.enet_peer.specs.Calls.{pace_of, expiry_of, gone_on_in, moved, pinged, after_timeouts_by}
 use Rattle.law_progress.specs.Attempts.{Step, Stays, Turn, Turns, LastsAtMost}
+use Rattle.law_progress.proofs.Moving.{moved-elsewhere}
 
 at-end : (moment : ℕ) (steps : List Step) (p q : Peering) → Stays state.AckDisconnect moment steps p q → q.state ≡ state.AckDisconnect
 at-end moment [] p q h = ap (λ (x : Peering). x.state) (sym h.1) ∙ h.0
@@ -22,10 +22,10 @@ turn-ends : (now : ℕ) (p q : Peering) → Turn state.AckDisconnect now p q →
 turn-ends now p q turn =
     let last = turn.last in
     let r : Peering = record last { outbox = (filled (pace_of last (now % 2 ^ 32)) last.outbox).outbox } in
-    ap (λ (x : Peering). x.state) turn.after ∙ ap (λ s. (gone_on_in s r).state) (at-end (now % 2 ^ 32) turn.steps (ticked p (now % 2 ^ 32)) last turn.stays)
+    ap (λ (x : Peering). x.state) turn.after ∙ ap (λ s. (gone_on_in s r).state) (at-end (now % 2 ^ 32) turn.steps (moved turn.short p (now % 2 ^ 32)) last turn.stays)
 
-ended-stays : (p : Peering) (n : ℕ) → p.state ≡ state.Ended → (ticked p n).state ≡ state.Ended
-ended-stays p n e = subst (λ (x : Peering). (ticked x n).state ≡ state.Ended) at (by (lateness p.outbox n p.patience p.heard))
+ended-stays : (short : Bool) (p : Peering) (n : ℕ) → p.state ≡ state.Ended → (moved short p n).state ≡ state.Ended
+ended-stays short p n e = subst (λ (x : Peering). (moved short x n).state ≡ state.Ended) at (subst (λ (x : Peering). x.state ≡ state.Ended) (sym (moved-elsewhere short old n refl)) (by (expiry_of old n)))
   where
     old : Peering
     old = record p { state = state.Ended }
@@ -40,7 +40,7 @@ ended-stays p n e = subst (λ (x : Peering). (ticked x n).state ≡ state.Ended)
 
 no-turn : (now : ℕ) (p q : Peering) → p.state ≡ state.Ended → Turn state.AckDisconnect now p q → ⊥
 no-turn now p q e turn =
-    let f : state.Ended ≡ state.AckDisconnect = sym (ended-stays p (now % 2 ^ 32) e) ∙ at-first (now % 2 ^ 32) turn.steps (ticked p (now % 2 ^ 32)) turn.last turn.stays in
+    let f : state.Ended ≡ state.AckDisconnect = sym (ended-stays turn.short p (now % 2 ^ 32) e) ∙ at-first (now % 2 ^ 32) turn.steps (moved turn.short p (now % 2 ^ 32)) turn.last turn.stays in
     cc
 
 no-turns : (gap now : ℕ) (later : List ℕ) (p q : Peering) → p.state ≡ state.Ended → Turns state.AckDisconnect gap now p later q → ⊥

@@ -1,6 +1,6 @@
--- What was sent, however rarely time comes and datagrams go: nothing waits for longer than its timeout but what is due to go again, and no
--- timeout is above 60,000 ms, as long as the clock hasn't wrapped since the first send: it is 5,000 at most at first, and later at most twice
--- what had passed since the first send, less than the greatest patience. Of a peer with ENet's patience.
+-- What was sent, however rarely time comes and datagrams go: no timeout is above 60,000 ms, as long as the clock hasn't wrapped since the
+-- first send: it is 5,000 at most at first, and later at most twice what had passed since the first send, less than the greatest patience.
+-- Of a peer with ENet's patience.
 use Rattle.std.proofs.Common.{◌≡◌, ℕ, ◌+◌, ◌-◌, ◌*◌, ◌%◌, ◌^◌, ◌<◌, ◌≤◌, ◌&&◌, not, leb, Bool, true, false, cond, List, map, refl, sym, ap, subst, ◌∙◌, inl, inr, ◌⊎◌, arith}
 use Rattle.std.proofs.lemmas.Bool.Decides.{nat_tests}
 use Rattle.std.specs.List.{list_any}
@@ -10,7 +10,7 @@ use Rattle.enet_rtt.specs.Transmission as transmission
 use Rattle.enet_rtt.specs.Expiry.{gives_up}
 use Rattle.enet_rtt.specs.declared.transmission.Transmission.{Transmission}
 use Rattle.enet_rtt.specs.declared.expiry.Patience.{Patience}
-use Rattle.enet_rtt.specs.declared.expiry.Expiry.TheVariants.{No, Resend, End}
+use Rattle.enet_rtt.specs.declared.expiry.Expiry.{Expiry}
 use Rattle.enet_senders.specs.Controlling as controlling
 use Rattle.enet_senders.specs.declared.control.Control.TheVariants as control
 use Rattle.enet_senders.specs.declared.control.SentControl.{SentControl}
@@ -18,15 +18,16 @@ use Rattle.enet_receiver.specs.Members.{Has}
 use Rattle.enet_sender.specs.declared.sent.Sent.{Sent}
 use Rattle.enet_sender.specs.Sender as sender
 use Rattle.enet_sender.specs.Due.{SendingEnd}
-use Rattle.enet_outbox.specs.Outbox.{has_ended, has_late, marked_sender, cleared_sender}
+use Rattle.enet_outbox.specs.Outbox.{marked_sender, cleared_sender}
 use Rattle.enet_outbox.specs.Outbox as outbox
 use Rattle.enet_outbox.specs.Emission.{filled}
 use Rattle.enet_peer.specs.declared.parts.PeerState.{PeerState}
 use Rattle.enet_peer.specs.declared.parts.PeerState.TheVariants as state
 use Rattle.enet_peer.specs.Peering.{Peering}
 use Rattle.enet_peer.specs.Endings.{cut_off_in}
-use Rattle.enet_peer.specs.Calls.{pace_of, gone_on_in, ticked, pinged, is_pinged, after_timeouts_by, growth_bound}
+use Rattle.enet_peer.specs.Calls.{pace_of, gone_on_in, held_back, moved, ticked, pinged, is_pinged, after_timeouts_by, growth_bound}
 use Rattle.law_progress.specs.Exchanges.{AllOver}
+use Rattle.law_progress.proofs.Moving.{Lasting, by-expiry, by-moved}
 use Rattle.law_progress.proofs.Timed.{elapsed-is, le-of, lt-of}
 use Rattle.law_progress.proofs.Waiting.{Fair, Sends, each-filled, fair-went, timeout-low, none-of, or-both, Has-mapped}
 
@@ -40,7 +41,6 @@ pub record Aged (now time : ℕ) (t : Transmission) : Type 0 where
   pub by : last ≤ now
   pub since : now ≤ first + time
   pub brief : t.timeout ≤ 60000
-  pub waits : (t.due ≡ true) ⊎ (now ≤ last + t.timeout)
 
 -- the greatest patience is ENet's
 abbrev pub most : ℕ
@@ -50,21 +50,28 @@ abbrev pub Ages : ℕ → ℕ → Peering → Type 0
 Ages now time p = Fair (Aged now time) most p
 
 aged-begun : (now time wait : ℕ) → wait ≤ 60000 → Aged now time (transmission.begun (now % 2 ^ 32) wait)
-aged-begun now time wait low = record { first = now; last = now; first_is = refl; last_is = refl; after = omega arith; by = omega arith; since = omega arith; brief = low; waits = inr (omega arith) }
+aged-begun now time wait low = record { first = now; last = now; first_is = refl; last_is = refl; after = omega arith; by = omega arith; since = omega arith; brief = low }
 
 aged-again : (now time : ℕ) (t : Transmission) → Aged now time t → Aged now time (transmission.again (now % 2 ^ 32) t)
 aged-again now time t a =
     let after = a.after in
     let by = a.by in
-    record { first = a.first; last = now; first_is = a.first_is; last_is = refl; after = omega arith; by = omega arith; since = a.since; brief = a.brief; waits = inr (omega arith) }
+    record { first = a.first; last = now; first_is = a.first_is; last_is = refl; after = omega arith; by = omega arith; since = a.since; brief = a.brief }
 
 at-most-twice : (bound t : ℕ) → transmission.grown_time bound t ≤ 2 * t
 at-most-twice bound t = grind arith
 
--- so many milliseconds later, patience lasting where it is late
+-- so many milliseconds later, as it is
+aged-on : (now time d : ℕ) (t : Transmission) → Aged now time t → Aged (now + d) (time + d) t
+aged-on now time d t a =
+    let by = a.by in
+    let since = a.since in
+    record { first = a.first; last = a.last; first_is = a.first_is; last_is = a.last_is; after = a.after; by = omega arith; since = omega arith; brief = a.brief }
+
+-- or due to go again where it is late, patience lasting then
 aged-marked : (now time d bound : ℕ) (t : Transmission) → Aged now time t → time + d < 2 ^ 32 → (transmission.is_late ((now + d) % 2 ^ 32) t ≡ true → leb most (elapsed_time ((now + d) % 2 ^ 32) t.first) ≡ false)
     → Aged (now + d) (time + d) (transmission.marked bound ((now + d) % 2 ^ 32) t)
-aged-marked now time d bound t a near patient = by t.due refl (leb t.timeout (elapsed_time n t.last)) refl
+aged-marked now time d bound t a near patient = by (transmission.is_late n t) refl
   where
     n : ℕ
     n = (now + d) % 2 ^ 32
@@ -78,33 +85,31 @@ aged-marked now time d bound t a near patient = by t.due refl (leb t.timeout (el
     grows : Transmission
     grows = record t { timeout = transmission.grown_time bound t.timeout; due = true }
 
-    same : transmission.is_late n t ≡ false → ((t.due ≡ true) ⊎ (now + d ≤ a.last + t.timeout)) → Aged (now + d) (time + d) (transmission.marked bound n t)
-    same e w = subst (λ b. Aged (now + d) (time + d) (cond b grows t)) (sym e) (let y = a.since in
-        record { first = a.first; last = a.last; first_is = a.first_is; last_is = a.last_is; after = a.after; by = low; since = omega arith; brief = a.brief; waits = w })
-
-    by : (due : Bool) → t.due ≡ due → (late : Bool) → leb t.timeout (elapsed_time n t.last) ≡ late → Aged (now + d) (time + d) (transmission.marked bound n t)
-    by true e late f = same (ap (λ b. not b && leb t.timeout (elapsed_time n t.last)) e) (inl e)
-    by false e false f = same ((λ i. not (e i) && f i)) (inr (let x = lt-of t.timeout (elapsed_time n t.last) f in let y = gone in let z = low in omega arith))
-    by false e true f = subst (λ b. Aged (now + d) (time + d) (cond b grows t)) (sym is_late) (record {
+    by : (b : Bool) → transmission.is_late n t ≡ b → Aged (now + d) (time + d) (cond b grows t)
+    by false e = aged-on now time d t a
+    by true e = record {
       first = a.first;
       last = a.last;
       first_is = a.first_is;
       last_is = a.last_is;
       after = a.after;
       by = low;
-      since = let y = a.since in omega arith;
+      since = (let y = a.since in omega arith);
       brief = (let x = at-most-twice bound t.timeout in let y = brief in omega arith);
-      waits = inl refl;
-    })
+    }
       where
-        is_late : transmission.is_late n t ≡ true
-        is_late = (λ i. not (e i) && f i)
+        late : leb t.timeout (elapsed_time n t.last) ≡ true
+        late = right (not t.due) _ e
+          where
+            right : (x y : Bool) → (x && y) ≡ true → y ≡ true
+            right true y e = e
+            right false y e = absurd (cc)
 
         since : elapsed_time n t.first ≡ now + d - a.first
         since = ap (elapsed_time n) a.first_is ∙ elapsed-is a.first (now + d) (let x = a.after in let y = low in omega arith) (let y = a.since in omega arith)
 
         brief : t.timeout < 30000
-        brief = (let x = le-of t.timeout (elapsed_time n t.last) f in let y = gone in let z = lt-of most (elapsed_time n t.first) (patient is_late) in let u = since in let v = a.after in let w = low in omega arith)
+        brief = (let x = le-of t.timeout (elapsed_time n t.last) late in let y = gone in let z = lt-of most (elapsed_time n t.first) (patient e) in let u = since in let v = a.after in let w = low in omega arith)
 
 -- time comes to a peer
 no-end : (n heard : ℕ) (pt : Patience) (t : Transmission) → pt.maximum ≡ most → transmission.ends n pt heard t ≡ false → transmission.is_late n t ≡ true → leb most (elapsed_time n t.first) ≡ false
@@ -114,8 +119,8 @@ no-end n heard pt t same e late =
 none-cleared : (R : Transmission → Type 0) (xs : List SendingEnd) → (s : SendingEnd) → Has (map cleared_sender xs) s → (t : Sent) → Has s.sender.sent t → R t.transmission
 none-cleared R xs s h t k = let c = Has-mapped cleared_sender xs s h in absurd (subst (λ (x : SendingEnd). Has x.sender.sent t) (sym c.2) k)
 
-pub ages-ticked : (now time d : ℕ) (p : Peering) → Ages now time p → time + d < 2 ^ 32 → Ages (now + d) (time + d) (ticked p ((now + d) % 2 ^ 32))
-ages-ticked now time d p h near = go (has_ended p.outbox n p.patience p.heard) refl (has_late p.outbox n) refl
+pub ages-moved : (now time d : ℕ) (short : Bool) (p : Peering) → Ages now time p → time + d < 2 ^ 32 → Ages (now + d) (time + d) (moved short p ((now + d) % 2 ^ 32))
+ages-moved now time d short p h near = by-moved (λ (x : Peering). Fair R most x) short p n tick held
   where
     n : ℕ
     n = (now + d) % 2 ^ 32
@@ -126,15 +131,15 @@ ages-ticked now time d p h near = go (has_ended p.outbox n p.patience p.heard) r
     goes : (bound : ℕ) (t : Transmission) → Aged now time t → transmission.ends n p.patience p.heard t ≡ false → R (transmission.marked bound n t)
     goes bound t a e = aged-marked now time d bound t a near (λ late. no-end n p.heard p.patience t h.2 e late)
 
-    ends-controls : has_ended p.outbox n p.patience p.heard ≡ false → (t : SentControl) → Has p.outbox.control.sent t → transmission.ends n p.patience p.heard t.transmission ≡ false
-    ends-controls e t k = none-of (controlling.ends n p.patience p.heard) p.outbox.control.sent t (or-both (list_any (controlling.ends n p.patience p.heard) p.outbox.control.sent) _ e).0 k
+    ends-controls : Lasting p n → (t : SentControl) → Has p.outbox.control.sent t → transmission.ends n p.patience p.heard t.transmission ≡ false
+    ends-controls e t k = none-of (controlling.ends n p.patience p.heard) p.outbox.control.sent t (or-both (list_any (controlling.ends n p.patience p.heard) p.outbox.control.sent) _ e.0).0 k
 
-    ends-channels : has_ended p.outbox n p.patience p.heard ≡ false → (s : SendingEnd) → Has p.outbox.senders s → (t : Sent) → Has s.sender.sent t → transmission.ends n p.patience p.heard t.transmission ≡ false
+    ends-channels : Lasting p n → (s : SendingEnd) → Has p.outbox.senders s → (t : Sent) → Has s.sender.sent t → transmission.ends n p.patience p.heard t.transmission ≡ false
     ends-channels e s k t j =
         none-of (sender.ends n p.patience p.heard) s.sender.sent t
-        (none-of (λ (x : SendingEnd). list_any (sender.ends n p.patience p.heard) x.sender.sent) p.outbox.senders s (or-both (list_any (controlling.ends n p.patience p.heard) p.outbox.control.sent) _ e).1 k) j
+        (none-of (λ (x : SendingEnd). list_any (sender.ends n p.patience p.heard) x.sender.sent) p.outbox.senders s (or-both (list_any (controlling.ends n p.patience p.heard) p.outbox.control.sent) _ e.0).1 k) j
 
-    marks : (bound : ℕ) → has_ended p.outbox n p.patience p.heard ≡ false → Fair R most (record p { outbox = outbox.marked p.outbox bound n })
+    marks : (bound : ℕ) → Lasting p n → Fair R most (record p { outbox = outbox.marked p.outbox bound n })
     marks bound e = (
       (
         (λ t k. (let c = Has-mapped (controlling.marked bound n) p.outbox.control.sent t k in
@@ -147,21 +152,27 @@ ages-ticked now time d p h near = go (has_ended p.outbox n p.patience p.heard) r
       h.2,
     )
 
-    -- nothing is late: all stays as it was
-    same : (t : Transmission) → transmission.is_late n t ≡ false → transmission.marked 0 n t ≡ t
-    same t e = ap (λ b. cond b (record t { timeout = transmission.grown_time 0 t.timeout; due = true }) t) e
+    -- nothing is marked: all stays as it was
+    still : Fair R most p
+    still = (((λ t k. aged-on now time d t.transmission (h.0.0 t k)), (λ s k t j. aged-on now time d t.transmission (h.0.1 s k t j))), h.1, h.2)
 
-    stays : has_ended p.outbox n p.patience p.heard ≡ false → has_late p.outbox n ≡ false → Fair R most p
-    stays e f = (let both = or-both (list_any (controlling.is_late n) p.outbox.control.sent) _ f in (
+    -- an answer that is late counts as tried
+    one-held : (bound : ℕ) (t : SentControl) (b : Bool) → Aged now time t.transmission → R (transmission.marked bound n t.transmission)
+        → R (cond b (record t { transmission = transmission.again n (transmission.marked bound n t.transmission) }) t).transmission
+    one-held bound t false a m = aged-on now time d t.transmission a
+    one-held bound t true a m = aged-again (now + d) (time + d) (transmission.marked bound n t.transmission) m
+
+    held : p.state ≡ state.Answering → Lasting p n → Fair R most (held_back p n)
+    held answers e = (
       (
-        (λ t k. subst (λ (x : Transmission). R x) (same t.transmission (none-of (controlling.is_late n) p.outbox.control.sent t both.0 k)) (goes 0 t.transmission (h.0.0 t k) (ends-controls e t k))),
-        (λ s k t j. subst (λ (x : Transmission). R x)
-            (same t.transmission (none-of (sender.is_late n) s.sender.sent t (none-of (λ (x : SendingEnd). list_any (sender.is_late n) x.sender.sent) p.outbox.senders s both.1 k) j))
-            (goes 0 t.transmission (h.0.1 s k t j) (ends-channels e s k t j))),
+        (λ t k. (let c = Has-mapped (controlling.held_back (growth_bound p) n) p.outbox.control.sent t k in
+            let a = h.0.0 c.0 c.1 in
+            subst (λ (x : SentControl). R x.transmission) c.2 (one-held (growth_bound p) c.0 (transmission.is_late n c.0.transmission) a (goes (growth_bound p) c.0.transmission a (ends-controls e c.0 c.1))))),
+        still.0.1,
       ),
       h.1,
       h.2,
-    ))
+    )
 
     cut : (s : PeerState) → Fair R most (cut_off_in s p)
     cut state.Answering = (((λ t k. absurd k), none-cleared R p.outbox.senders), h.1, h.2)
@@ -174,10 +185,9 @@ ages-ticked now time d p h near = go (has_ended p.outbox n p.patience p.heard) r
         by true = k
         by false = k
 
-    go : (e : Bool) → has_ended p.outbox n p.patience p.heard ≡ e → (late : Bool) → has_late p.outbox n ≡ late → Fair R most (pinged (after_timeouts_by (cond e End (cond late Resend No)) p n) n)
-    go true e late f = pings (cut_off_in p.state p) (cut p.state)
-    go false e true f = pings (record p { outbox = outbox.marked p.outbox (growth_bound p) n }) (marks (growth_bound p) e)
-    go false e false f = pings p (stays e f)
+    tick : Fair R most (ticked p n)
+    tick = by-expiry (λ (e : Expiry). Fair R most (pinged (after_timeouts_by e p n) n)) p n
+        (pings (cut_off_in p.state p) (cut p.state)) (λ e f. pings (record p { outbox = outbox.marked p.outbox (growth_bound p) n }) (marks (growth_bound p) e)) (λ e f. pings p still)
 
 brief-timeout : (n : ℕ) → n ≤ 5000 → n ≤ 60000
 brief-timeout n low = omega arith
@@ -193,7 +203,7 @@ ages-emitted now time p h =
 aged-more : (now time more : ℕ) (t : Transmission) → time ≤ more → Aged now time t → Aged now more t
 aged-more now time more t low a =
     let since = a.since in
-    record { first = a.first; last = a.last; first_is = a.first_is; last_is = a.last_is; after = a.after; by = a.by; since = omega arith; brief = a.brief; waits = a.waits }
+    record { first = a.first; last = a.last; first_is = a.first_is; last_is = a.last_is; after = a.after; by = a.by; since = omega arith; brief = a.brief }
 
 pub ages-more : (now time more : ℕ) (p : Peering) → time ≤ more → Ages now time p → Ages now more p
 ages-more now time more p low h = (((λ t k. aged-more now time more t.transmission low (h.0.0 t k)), (λ s k t j. aged-more now time more t.transmission low (h.0.1 s k t j))), h.1, h.2)

@@ -12,7 +12,7 @@ use Rattle.enet_rtt.specs.Transmission as transmission
 use Rattle.enet_rtt.specs.Expiry.{gives_up}
 use Rattle.enet_rtt.specs.declared.transmission.Transmission.{Transmission}
 use Rattle.enet_rtt.specs.declared.expiry.Patience.{Patience}
-use Rattle.enet_rtt.specs.declared.expiry.Expiry.TheVariants.{No, Resend, End}
+use Rattle.enet_rtt.specs.declared.expiry.Expiry.{Expiry}
 use Rattle.enet_connect.specs.declared.terms.Terms.{Terms}
 use Rattle.enet_connect.specs.declared.server.Server.{Server}
 use Rattle.enet_connect.specs.Verification.{confirmed}
@@ -27,7 +27,7 @@ use Rattle.enet_sender.specs.Sender as sender
 use Rattle.enet_sender.specs.Due.{SendingEnd, new_end}
 use Rattle.enet_outbox.specs.declared.parts.Matched.TheVariants as matched
 use Rattle.enet_outbox.specs.declared.parts.Pace.{Pace}
-use Rattle.enet_outbox.specs.Outbox.{Outbox, matched_by, matched_on, as_data, has_ended, has_late, marked_sender, cleared_sender}
+use Rattle.enet_outbox.specs.Outbox.{Outbox, matched_by, matched_on, as_data, has_late, marked_sender, cleared_sender}
 use Rattle.enet_outbox.specs.Outbox as outbox
 use Rattle.enet_outbox.specs.Emission.{Filling, filled}
 use Rattle.enet_outbox.proofs.Filled.{by-filling}
@@ -39,8 +39,9 @@ use Rattle.enet_peer.specs.Peering.{Peering, connecting, answering}
 use Rattle.enet_peer.specs.Endings.{settled, disconnecting, cut_off_in, is_later}
 use Rattle.enet_peer.proofs.Obeying.{unless-holds, unwelcomed-holds}
 use Rattle.enet_peer.specs.CommandEffect.{Outcome, obeyed, unless_refused, stopped, is_allowed, is_of_handshake, is_connect, by_body, answered, answered_at, is_answered_in, on_acknowledge, on_match, acknowledged, with_answer, on_verify_in, welcomed, on_disconnect_in}
-use Rattle.enet_peer.specs.Calls.{pace_of, gone_on, gone_on_in, ticked, pinged, after_timeouts_by, growth_bound, is_connected, is_answering, next_event, event_after, packet_event, last_event}
+use Rattle.enet_peer.specs.Calls.{pace_of, gone_on, gone_on_in, held_back, moved, ticked, pinged, after_timeouts_by, growth_bound, is_connected, is_answering, next_event, event_after, packet_event, last_event}
 use Rattle.law_progress.specs.Attempts.{Step, Hears, PutsOut, Takes, after_step, after_take, Stays, Turn, Turns, last_of, LastsAtMost}
+use Rattle.law_progress.proofs.Moving.{Lasting, by-expiry, by-moved}
 use Rattle.law_progress.proofs.Timed.{Timed, timed-begun, timed-again, timed-marked}
 use Rattle.law_progress.proofs.NothingLeft.{nothing-left}
 use Rattle.law_progress.proofs.SomethingGoes.{none-due}
@@ -113,12 +114,16 @@ wait_of a = timeout a.estimate
 abbrev pub bound_of : Attempt → ℕ
 bound_of a = cond (a.estimate.sampled || is_answering (state_of a.kind)) 1000 4294967295
 
+-- a server's wait for its client is over
+abbrev pub is_past : Kind → ℕ → Transmission → Bool
+is_past k n t = is_answering (state_of k) && leb 7500 (elapsed_time n t.first)
+
 -- what is said of how a command goes again and again, from its first send on, moment by moment
 pub record Course (G : ℕ → Transmission → Type 0) (a : Attempt) (gap : ℕ) : Type 0 where
   pub begins : G a.first (transmission.begun (a.first % 2 ^ 32) (wait_of a))
   pub again : (now : ℕ) (t : Transmission) → G now t → t.due ≡ true → G now (transmission.again (now % 2 ^ 32) t)
   pub marks : (before now : ℕ) (t : Transmission) → G before t → t.due ≡ false → before ≤ now → now ≤ before + gap → transmission.ends (now % 2 ^ 32) a.patience a.heard t ≡ false
-      → G now (transmission.marked (bound_of a) (now % 2 ^ 32) t)
+      → is_past a.kind (now % 2 ^ 32) t ≡ false → G now (transmission.marked (bound_of a) (now % 2 ^ 32) t)
 
 -- by now the command went, and goes on so
 abbrev Went : (ℕ → Transmission → Type 0) → Attempt → ℕ → SentControl → Type 0
@@ -473,39 +478,47 @@ unpinged k q n e = by k e
 
 -- what is to be shown of channel 0xFF for it
 record Marked (G : ℕ → Transmission → Type 0) (a : Attempt) (now : ℕ) (p : Peering) : Type 0 where
-  resent : has_ended p.outbox (now % 2 ^ 32) p.patience p.heard ≡ false → Shape G a now (controlling.with_marked (bound_of a) (now % 2 ^ 32) p.outbox.control)
-  rests : has_ended p.outbox (now % 2 ^ 32) p.patience p.heard ≡ false → has_late p.outbox (now % 2 ^ 32) ≡ false → Shape G a now p.outbox.control
+  resent : Lasting p (now % 2 ^ 32) → Shape G a now (controlling.with_marked (bound_of a) (now % 2 ^ 32) p.outbox.control)
+  held : Lasting p (now % 2 ^ 32) → Shape G a now (controlling.with_held_back (bound_of a) (now % 2 ^ 32) p.outbox.control)
+  rests : Lasting p (now % 2 ^ 32) → has_late p.outbox (now % 2 ^ 32) ≡ false → Shape G a now p.outbox.control
 
-tick-lasts : (G : ℕ → Transmission → Type 0) (a : Attempt) (now : ℕ) (p : Peering) → p.state ≡ state_of a.kind → AreEmpty p.outbox.senders → p.patience ≡ a.patience → p.estimate ≡ a.estimate → p.heard ≡ a.heard → Marked G a now p
-    → (ticked p (now % 2 ^ 32)).state ≡ state_of a.kind → Lasts G a now (ticked p (now % 2 ^ 32))
-tick-lasts G a now p at empty patience estimate heard k = go (has_ended p.outbox n p.patience p.heard) refl (has_late p.outbox n) refl
+moved-lasts : (G : ℕ → Transmission → Type 0) (a : Attempt) (now : ℕ) (short : Bool) (p : Peering) → p.state ≡ state_of a.kind → AreEmpty p.outbox.senders → p.patience ≡ a.patience → p.estimate ≡ a.estimate → p.heard ≡ a.heard → Marked G a now p
+    → (moved short p (now % 2 ^ 32)).state ≡ state_of a.kind → Lasts G a now (moved short p (now % 2 ^ 32))
+moved-lasts G a now short p at empty patience estimate heard k = by-moved Keeps short p n tick held
   where
     n : ℕ
     n = now % 2 ^ 32
 
+    Keeps : Peering → Type 0
+    Keeps q = q.state ≡ state_of a.kind → Lasts G a now q
+
     bound : growth_bound p ≡ bound_of a
     bound = ap (λ (x : Estimate). cond (x.sampled || is_answering p.state) 1000 4294967295) estimate ∙ ap (λ s. cond (a.estimate.sampled || is_answering s) 1000 4294967295) at
 
-    go : (e : Bool) → has_ended p.outbox n p.patience p.heard ≡ e → (late : Bool) → has_late p.outbox n ≡ late → (pinged (after_timeouts_by (cond e End (cond late Resend No)) p n) n).state ≡ state_of a.kind
-        → Lasts G a now (pinged (after_timeouts_by (cond e End (cond late Resend No)) p n) n)
-    go true e late f h = absurd (cut-ends a.kind p n (subst (λ s. (pinged (cut_off_in s p) n).state ≡ state_of a.kind) at h))
-    go false e true f h =
-        let q : Peering = record p { outbox = outbox.marked p.outbox (growth_bound p) n } in
+    tick : Keeps (ticked p n)
+    tick = by-expiry (λ (e : Expiry). Keeps (pinged (after_timeouts_by e p n) n)) p n
+        (λ h. absurd (cut-ends a.kind p n (subst (λ s. (pinged (cut_off_in s p) n).state ≡ state_of a.kind) at h)))
+        (λ e f h. (let q : Peering = record p { outbox = outbox.marked p.outbox (growth_bound p) n } in
         subst (λ (x : Peering). Lasts G a now x) (sym (unpinged a.kind q n at))
-        (record { state = at; empty = empty-marked (growth_bound p) n p.outbox.senders empty; patience = patience; estimate = estimate; heard = heard; shape = subst (λ b. Shape G a now (controlling.with_marked b n p.outbox.control)) (sym bound) (k.resent e) })
-    go false e false f h = subst (λ (x : Peering). Lasts G a now x) (sym (unpinged a.kind p n at)) (record { state = at; empty = empty; patience = patience; estimate = estimate; heard = heard; shape = k.rests e f })
+        (record { state = at; empty = empty-marked (growth_bound p) n p.outbox.senders empty; patience = patience; estimate = estimate; heard = heard; shape = subst (λ b. Shape G a now (controlling.with_marked b n p.outbox.control)) (sym bound) (k.resent e) })))
+        (λ e f h. subst (λ (x : Peering). Lasts G a now x) (sym (unpinged a.kind p n at)) (record { state = at; empty = empty; patience = patience; estimate = estimate; heard = heard; shape = k.rests e f }))
+
+    held : p.state ≡ state.Answering → Lasting p n → Keeps (held_back p n)
+    held answers e h = record { state = at; empty = empty; patience = patience; estimate = estimate; heard = heard; shape = subst (λ b. Shape G a now (controlling.with_held_back b n p.outbox.control)) (sym bound) (k.held e) }
 
 -- before the first turn it is queued
 first-marked : (G : ℕ → Transmission → Type 0) (a : Attempt) (p : Peering) → p.outbox.control.queued ≡ a.command ∷ [] → p.outbox.control.sent ≡ [] → Marked G a a.first p
 first-marked G a p queued none = record {
   resent = λ e. inl (queued, ap (map (controlling.marked (bound_of a) (a.first % 2 ^ 32))) none, refl);
+  held = λ e. inl (queued, ap (map (controlling.held_back (bound_of a) (a.first % 2 ^ 32))) none, refl);
   rests = λ e f. inl (queued, none, refl);
 }
 
--- later it waits, and where it waited out its timeout it is due to go again, or patience is over
-later-marked : (G : ℕ → Transmission → Type 0) (a : Attempt) (before now gap : ℕ) (p : Peering) → Course G a gap → Rests G a before p.outbox.control → p.patience ≡ a.patience → p.heard ≡ a.heard → before ≤ now → now ≤ before + gap → Marked G a now p
-later-marked G a before now gap p k0 r patience heard up down = record {
+-- later it waits, and where it waited out its timeout it is due to go again, or held back, or patience is over
+later-marked : (G : ℕ → Transmission → Type 0) (a : Attempt) (before now gap : ℕ) (p : Peering) → Course G a gap → Rests G a before p.outbox.control → p.state ≡ state_of a.kind → p.patience ≡ a.patience → p.heard ≡ a.heard → before ≤ now → now ≤ before + gap → Marked G a now p
+later-marked G a before now gap p k0 r at patience heard up down = record {
   resent = λ e. inr (controlling.marked (bound_of a) n t, r.queued, ap (map (controlling.marked (bound_of a) n)) r.alone, (r.went.0, goes e));
+  held = λ e. inr (controlling.held_back (bound_of a) n t, r.queued, ap (map (controlling.held_back (bound_of a) n)) r.alone, holds e (transmission.is_late n t.transmission) refl);
   rests = λ e f. inr (t, r.queued, r.alone, (r.went.0, subst (λ (x : Transmission). G now x) (stays f) (goes e)));
 }
   where
@@ -515,20 +528,36 @@ later-marked G a before now gap p k0 r patience heard up down = record {
     t : SentControl
     t = r.sent
 
+    grows : Bool → Transmission
+    grows b = cond b (record t.transmission { timeout = transmission.grown_time (bound_of a) t.transmission.timeout; due = true }) t.transmission
+
     -- nothing is late: it stays as it was
     stays : has_late p.outbox n ≡ false → transmission.marked (bound_of a) n t.transmission ≡ t.transmission
     stays f =
         let first : (transmission.is_late n t.transmission || false) ≡ false = ap (list_any (controlling.is_late n)) (sym r.alone) ∙ or-left (list_any (controlling.is_late n) p.outbox.control.sent) _ f in
-        ap (λ b. cond b (record t.transmission { timeout = transmission.grown_time (bound_of a) t.transmission.timeout; due = true }) t.transmission) (or-left (transmission.is_late n t.transmission) false first)
+        ap grows (or-left (transmission.is_late n t.transmission) false first)
 
-    not_ended : has_ended p.outbox n p.patience p.heard ≡ false → transmission.ends n a.patience a.heard t.transmission ≡ false
+    not_ended : Lasting p n → transmission.ends n a.patience a.heard t.transmission ≡ false
     not_ended e =
-        let first : (transmission.ends n p.patience p.heard t.transmission || false) ≡ false = ap (list_any (controlling.ends n p.patience p.heard)) (sym r.alone) ∙ or-left (list_any (controlling.ends n p.patience p.heard) p.outbox.control.sent) _ e in
+        let first : (transmission.ends n p.patience p.heard t.transmission || false) ≡ false = ap (list_any (controlling.ends n p.patience p.heard)) (sym r.alone) ∙ or-left (list_any (controlling.ends n p.patience p.heard) p.outbox.control.sent) _ e.0 in
         ap (λ x. transmission.ends n x a.heard t.transmission) (sym patience) ∙ ap (λ x. transmission.ends n p.patience x t.transmission) (sym heard)
         ∙ or-left (transmission.ends n p.patience p.heard t.transmission) false first
 
-    goes : has_ended p.outbox n p.patience p.heard ≡ false → G now (transmission.marked (bound_of a) n t.transmission)
-    goes e = k0.marks before now t.transmission r.went.1 r.waits up down (not_ended e)
+    not_past : Lasting p n → is_past a.kind n t.transmission ≡ false
+    not_past e = alone (is_answering (state_of a.kind)) (leb 7500 (elapsed_time n t.transmission.first))
+        (ap (λ s. is_answering s && list_any (controlling.has_waited 7500 n) (t ∷ [])) (sym at) ∙ ap (λ l. is_answering p.state && list_any (controlling.has_waited 7500 n) l) (sym r.alone) ∙ e.1)
+      where
+        alone : (x y : Bool) → (x && (y || false)) ≡ false → (x && y) ≡ false
+        alone false y f = refl
+        alone true y f = or-left y false f
+
+    goes : Lasting p n → G now (transmission.marked (bound_of a) n t.transmission)
+    goes e = k0.marks before now t.transmission r.went.1 r.waits up down (not_ended e) (not_past e)
+
+    -- it counts as tried, as if it had gone
+    holds : Lasting p n → (b : Bool) → transmission.is_late n t.transmission ≡ b → Went G a now (cond b (record t { transmission = transmission.again n (transmission.marked (bound_of a) n t.transmission) }) t)
+    holds e true late = (r.went.0, k0.again now (transmission.marked (bound_of a) n t.transmission) (goes e) (ap (λ b. (grows b).due) late))
+    holds e false late = (r.went.0, subst (λ (x : Transmission). G now x) (ap grows late) (goes e))
 
 -- at the end of a turn nothing is left to be put out, so the command waits
 record Rested (G : ℕ → Transmission → Type 0) (a : Attempt) (now : ℕ) (p : Peering) : Type 0 where
@@ -544,7 +573,7 @@ rests-left G a now c none (inr (t, queued, sent, w)) = by t.transmission.due ref
     by false k = record { sent = t; queued = queued; alone = sent; went = w; waits = k }
     by true k = absurd (let f : None ≡ Some _ = sym none ∙ next-again (now % 2 ^ 32) (wait_of a) c t sent k in cc)
 
-turn-rests : (G : ℕ → Transmission → Type 0) (a : Attempt) {gap : ℕ} (k0 : Course G a gap) (now : ℕ) (p q : Peering) → ((ticked p (now % 2 ^ 32)).state ≡ state_of a.kind → Lasts G a now (ticked p (now % 2 ^ 32))) → Turn (state_of a.kind) now p q → Rested G a now q
+turn-rests : (G : ℕ → Transmission → Type 0) (a : Attempt) {gap : ℕ} (k0 : Course G a gap) (now : ℕ) (p q : Peering) → ((short : Bool) → (moved short p (now % 2 ^ 32)).state ≡ state_of a.kind → Lasts G a now (moved short p (now % 2 ^ 32))) → Turn (state_of a.kind) now p q → Rested G a now q
 turn-rests G a k0 now p q first turn = subst (λ (x : Peering). Rested G a now x) (sym turn.after) (subst (λ (x : Peering). Rested G a now x) (sym (waits-on a.kind r l.state)) (record {
   lasts = record { state = l.state; empty = kept.0; patience = l.patience; estimate = l.estimate; heard = l.heard; shape = (let k = kept.1 in inr (k.sent, k.queued, k.alone, k.went)) };
   rests = kept.1;
@@ -554,7 +583,7 @@ turn-rests G a k0 now p q first turn = subst (λ (x : Peering). Rested G a now x
     n = now % 2 ^ 32
 
     l : Lasts G a now turn.last
-    l = stays-lasts G a k0 now turn.steps (ticked p n) turn.last (first (stays-state (state_of a.kind) n turn.steps (ticked p n) turn.last turn.stays)) turn.stays
+    l = stays-lasts G a k0 now turn.steps (moved turn.short p n) turn.last (first turn.short (stays-state (state_of a.kind) n turn.steps (moved turn.short p n) turn.last turn.stays)) turn.stays
 
     r : Peering
     r = record turn.last { outbox = (filled (pace_of turn.last n) turn.last.outbox).outbox }
@@ -575,7 +604,7 @@ turns-last G a gap k0 [] now p q first turn = first q turn
 turns-last G a gap k0 (next ∷ later) now p q first (r, turn, up, down, rest) =
     let k = first r turn in
     turns-last G a gap k0 later next r q
-    (λ x t. turn-rests G a k0 next r x (λ e. tick-lasts G a next r k.lasts.state k.lasts.empty k.lasts.patience k.lasts.estimate k.lasts.heard (later-marked G a now next gap r k0 k.rests k.lasts.patience k.lasts.heard up down) e) t)
+    (λ x t. turn-rests G a k0 next r x (λ short e. moved-lasts G a next short r k.lasts.state k.lasts.empty k.lasts.patience k.lasts.estimate k.lasts.heard (later-marked G a now next gap r k0 k.rests k.lasts.state k.lasts.patience k.lasts.heard up down) e) t)
     rest
 
 -- a peer of which channel 0xFF has its command queued, alone, and no channel anything
@@ -595,7 +624,7 @@ pub begun-goes : (G : ℕ → Transmission → Type 0) (k : Kind) (p : Peering) 
     → (t : Transmission) × (t.due ≡ false) × G (last_of now moments) t
 begun-goes G k p b gap now moments q k0 turns =
     let a : Attempt = attempt_of k p b now in
-    let last = turns-last G a gap k0 moments now p q (λ r t. turn-rests G a k0 now p r (λ e. tick-lasts G a now p b.state b.empty refl refl refl (first-marked G a p b.queued b.none) e) t) turns in
+    let last = turns-last G a gap k0 moments now p q (λ r t. turn-rests G a k0 now p r (λ short e. moved-lasts G a now short p b.state b.empty refl refl refl (first-marked G a p b.queued b.none) e) t) turns in
     let r = last.rests in
     (r.sent.transmission, r.waits, r.went.1)
 
@@ -604,7 +633,7 @@ timed-course : (a : Attempt) (gap : ℕ) → wait_of a + 2 * a.patience.maximum 
 timed-course a gap near = record {
   begins = timed-begun a.first (wait_of a) (wait_of a) a.patience.maximum (omega arith);
   again = λ now t w due. timed-again a.first (wait_of a) a.patience.maximum now t w due;
-  marks = λ before now t w waits up down not_ended. timed-marked a.first (wait_of a) a.patience.maximum before now (bound_of a) t w waits up (let x = w.in_time in omega arith)
+  marks = λ before now t w waits up down not_ended not_past. timed-marked a.first (wait_of a) a.patience.maximum before now (bound_of a) t w waits up (let x = w.in_time in omega arith)
       (λ late. or-left (leb a.patience.maximum (elapsed_time (now % 2 ^ 32) t.first)) _ (ap (λ b. b && gives_up a.patience (now % 2 ^ 32) a.heard t) (sym late) ∙ not_ended));
 }
 
@@ -624,9 +653,6 @@ replying start offsets offer server limits = record { state = refl; empty = empt
 
 pub asking-ends : (start offset : ℕ) (offer : Offer) (limits : Limits) → LastsAtMost state.Connecting (connecting start offset offer limits) 60500
 asking-ends start offset offer limits = begun-lasts Asks (connecting start offset offer limits) (asking start offset offer limits)
-
-pub answering-ends : (start : ℕ) (offsets : Offsets) (offer : Offer) (server : Server) (limits : Limits) → LastsAtMost state.Answering (answering start offsets offer server limits) 60500
-answering-ends start offsets offer server limits = begun-lasts Answers (answering start offsets offer server limits) (replying start offsets offer server limits)
 
 pub leaving-ends : (p : Peering) (info : ℕ) → LastsAtMost state.Disconnecting (disconnecting p info) (timeout p.estimate + 2 * p.patience.maximum)
 leaving-ends p info = begun-lasts Leaves (disconnecting p info) (record { state = refl; empty = empty-cleared p.outbox.senders; command = _; queued = refl; none = refl; about = refl })

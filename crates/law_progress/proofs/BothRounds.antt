@@ -12,19 +12,20 @@ use Rattle.enet_rtt.specs.Clock.{told_time, meant_time}
 use Rattle.enet_rtt.specs.Transmission as transmission
 use Rattle.enet_rtt.specs.Transmission.{went_at}
 use Rattle.enet_rtt.specs.declared.transmission.Transmission.{Transmission}
+use Rattle.enet_rtt.specs.declared.expiry.Expiry.{Expiry}
 use Rattle.enet_rtt.specs.declared.expiry.Expiry.TheVariants.{No, Resend, End as Ends}
 use Rattle.enet_sender.specs.Sender.{left, marked, is_late as has_waited_out}
 use Rattle.enet_sender.specs.declared.sent.Sent.{Sent}
 use Rattle.enet_sender.specs.Due.{SendingEnd}
 use Rattle.enet_senders.specs.declared.control.Control.TheVariants as control
 use Rattle.enet_outbox.specs.declared.parts.Acknowledgement.{Acknowledgement}
-use Rattle.enet_outbox.specs.Outbox.{marked_sender, has_ended, has_late, with_control}
+use Rattle.enet_outbox.specs.Outbox.{marked_sender, with_control}
 use Rattle.enet_outbox.specs.Emission.{filled, acknowledgement_of, occasion}
 use Rattle.enet_peer.specs.declared.parts.PeerState.{PeerState}
 use Rattle.enet_peer.specs.declared.parts.PeerState.TheVariants as state
 use Rattle.enet_peer.specs.Endings.{cut_off_in}
 use Rattle.enet_peer.specs.Peering.{Peering}
-use Rattle.enet_peer.specs.Calls.{pace_of, ticked, pinged, is_pinged, after_timeouts_by, growth_bound}
+use Rattle.enet_peer.specs.Calls.{pace_of, is_answering, moved, ticked, pinged, is_pinged, after_timeouts_by, growth_bound}
 use Rattle.law_connection.specs.Connection.{End, Connection, is_acknowledgement}
 use Rattle.law_connection.specs.Steps.{Emit, Tick, Happens}
 use Rattle.law_connection.specs.Invariant.{Invariant}
@@ -39,6 +40,7 @@ use Rattle.law_progress.proofs.Carried.{nums, Has-nums}
 use Rattle.law_progress.proofs.Exchanges.{Joint, joint-swap, joint-event, same-peer, sound-of, low-channel, as_read, reads-itself, same-message, no-acknowledgement, put_out, Gone, gone, Came, all-came, all-joint, came-answers, came-less, came-none, IsToldTime, told-still, waits-of, one-sent, then-came, took-all, takes-joint}
 use Rattle.law_progress.proofs.Found.{sender-rests}
 use Rattle.law_progress.proofs.Kept.{go-or-stay}
+use Rattle.law_progress.proofs.Moving.{by-expiry, by-moved, moved-elsewhere}
 use Rattle.law_progress.proofs.Obeyed.{Kept, kept-self, kept-least, kept-then}
 use Rattle.law_progress.proofs.Rounds.{from-marked}
 use Rattle.law_progress.proofs.Waiting.{or-both, none-of, Has-at, Has-mapped}
@@ -534,39 +536,36 @@ cut-state state.Answering p e = cc
 cut-state s p e = cc
 
 pub ticked-so : (p : Peering) (now : ℕ) → (ticked p now).state ≡ state.Connected → Ticked now p (ticked p now)
-ticked-so p now stays = by (has_ended p.outbox now p.patience p.heard) (has_late p.outbox now) refl refl
+ticked-so p now = by-expiry (λ (e : Expiry). (pinged (after e) now).state ≡ state.Connected → Ticked now p (pinged (after e) now)) p now
+    (λ stays. absurd (cut-state p.state p (sym (state-pinged (after Ends) now) ∙ stays)))
+    (λ e f stays. ticked-pinged p (after Resend) now (record {
+      over = over-marked (growth_bound p) now p.outbox.senders;
+      mtu = refl;
+      offset = refl;
+      idle = λ h. all-marks-none (growth_bound p) now p.outbox.senders h;
+      from = λ channel t h due. (let m = sent-marked (growth_bound p) now p.outbox.senders channel t h in let k = from-marked (growth_bound p) now m.0.sender.sent t m.2 due in ((m.0, m.1, k.0), k.1));
+      was = λ channel t h. (let m = sent-marked (growth_bound p) now p.outbox.senders channel t h in let k = Has-mapped (marked (growth_bound p) now) m.0.sender.sent t m.2 in (k.0, (m.0, m.1, k.1), ap (λ (y : Sent). y.command.number) k.2, λ time. sym (went-marked (growth_bound p) now k.0.transmission time) ∙ ap (λ (y : Sent). went_at time y.transmission) k.2));
+      still = waits-marked (growth_bound p) now p.outbox.senders;
+      acknowledgements = refl;
+    }))
+    (λ e f stays. ticked-pinged p (after No) now (record {
+      over = refl;
+      mtu = refl;
+      offset = refl;
+      idle = λ h. (refl, λ s k t m. none-of (has_waited_out now) s.sender.sent t (none-of (λ (y : SendingEnd). list_any (has_waited_out now) y.sender.sent) p.outbox.senders s (or-both _ _ f).1 k) m);
+      from = λ channel t h due. (h, none-of (has_waited_out now) h.0.sender.sent t (none-of (λ (y : SendingEnd). list_any (has_waited_out now) y.sender.sent) p.outbox.senders h.0 (or-both _ _ f).1 (Has-at p.outbox.senders channel h.0 h.1)) h.2);
+      was = λ channel t h. (t, h, refl, λ time. refl);
+      still = λ channel number w. w;
+      acknowledgements = refl;
+    }))
   where
-    after : Bool → Bool → Peering
-    after a b = after_timeouts_by (cond a Ends (cond b Resend No)) p now
+    after : Expiry → Peering
+    after e = after_timeouts_by e p now
 
-    by : (a b : Bool) → has_ended p.outbox now p.patience p.heard ≡ a → has_late p.outbox now ≡ b → Ticked now p (ticked p now)
-    by true b e f =
-        let is : ticked p now ≡ pinged (after true b) now = (λ i. pinged (after_timeouts_by (cond (e i) Ends (cond (f i) Resend No)) p now) now) in
-        absurd (cut-state p.state p (sym (state-pinged (after true b) now) ∙ ap (λ (x : Peering). x.state) (sym is) ∙ stays))
-    by false true e f =
-        let is : ticked p now ≡ pinged (after false true) now = (λ i. pinged (after_timeouts_by (cond (e i) Ends (cond (f i) Resend No)) p now) now) in
-        subst (λ (x : Peering). Ticked now p x) (sym is) (ticked-pinged p (after false true) now (record {
-          over = over-marked (growth_bound p) now p.outbox.senders;
-          mtu = refl;
-          offset = refl;
-          idle = λ h. all-marks-none (growth_bound p) now p.outbox.senders h;
-          from = λ channel t h due. (let m = sent-marked (growth_bound p) now p.outbox.senders channel t h in let k = from-marked (growth_bound p) now m.0.sender.sent t m.2 due in ((m.0, m.1, k.0), k.1));
-          was = λ channel t h. (let m = sent-marked (growth_bound p) now p.outbox.senders channel t h in let k = Has-mapped (marked (growth_bound p) now) m.0.sender.sent t m.2 in (k.0, (m.0, m.1, k.1), ap (λ (y : Sent). y.command.number) k.2, λ time. sym (went-marked (growth_bound p) now k.0.transmission time) ∙ ap (λ (y : Sent). went_at time y.transmission) k.2));
-          still = waits-marked (growth_bound p) now p.outbox.senders;
-          acknowledgements = refl;
-        }))
-    by false false e f =
-        let is : ticked p now ≡ pinged (after false false) now = (λ i. pinged (after_timeouts_by (cond (e i) Ends (cond (f i) Resend No)) p now) now) in
-        subst (λ (x : Peering). Ticked now p x) (sym is) (ticked-pinged p (after false false) now (record {
-          over = refl;
-          mtu = refl;
-          offset = refl;
-          idle = λ h. (refl, λ s k t m. none-of (has_waited_out now) s.sender.sent t (none-of (λ (y : SendingEnd). list_any (has_waited_out now) y.sender.sent) p.outbox.senders s (or-both _ _ f).1 k) m);
-          from = λ channel t h due. (h, none-of (has_waited_out now) h.0.sender.sent t (none-of (λ (y : SendingEnd). list_any (has_waited_out now) y.sender.sent) p.outbox.senders h.0 (or-both _ _ f).1 (Has-at p.outbox.senders channel h.0 h.1)) h.2);
-          was = λ channel t h. (t, h, refl, λ time. refl);
-          still = λ channel number w. w;
-          acknowledgements = refl;
-        }))
+-- where a peer stands connected after a moment, nothing was held back
+pub connected-moves : (short : Bool) (p : Peering) (now : ℕ) → (moved short p now).state ≡ state.Connected → moved short p now ≡ ticked p now
+connected-moves short p now =
+    by-moved (λ (x : Peering). x.state ≡ state.Connected → x ≡ ticked p now) short p now (λ on. refl) (λ answers lasts on. absurd (let f : state.Answering ≡ state.Connected = sym answers ∙ on in cc))
 
 -- ---- nothing went
 has-place : (xs : List SendingEnd) (s : SendingEnd) → Has xs s → (i : ℕ) × (slice_get xs i ≡ Some s)
@@ -623,15 +622,18 @@ only-waits now p p0 v u t fit at_v mtu at_u rests = record {
         }
 
 -- ---- a round
-pub tick-peer : (own other new : End) (now : ℕ) (p : Peering) → Happens own other (Tick now) new → own.peer ≡ Some p → new.peer ≡ Some (ticked p now)
-tick-peer own other new now p h is = ap (λ (e : End). e.peer) h.2 ∙ ap (λ (x : Peering). Some (ticked x now)) (same-peer own h.0 p h.1 is)
+pub tick-moves : (own other new : End) (now : ℕ) (p : Peering) → Happens own other (Tick now) new → own.peer ≡ Some p → (short : Bool) × (new.peer ≡ Some (moved short p now))
+tick-moves own other new now p h is = (h.2, ap (λ (e : End). e.peer) h.3 ∙ ap (λ (x : Peering). Some (moved h.2 x now)) (same-peer own h.0 p h.1 is))
+
+pub tick-peer : (own other new : End) (now : ℕ) (p : Peering) → Happens own other (Tick now) new → own.peer ≡ Some p → is_answering p.state ≡ false → new.peer ≡ Some (ticked p now)
+tick-peer own other new now p h is quiet = (let m = tick-moves own other new now p h is in m.1 ∙ ap (λ (x : Peering). Some x) (moved-elsewhere m.0 p now quiet))
 
 -- by a round's moments no patience is over
 one-ticks : (now there : ℕ) (c d : Connection) (p : Peering) → IsOpen c.one p → RoundOfBoth now there c d → Ticked now p (ticked p now)
-one-ticks now there c d p o r = ticked-so p now (r.patient_one (ticked p now) (tick-peer c.one c.two r.one now p r.ticks_one o.is))
+one-ticks now there c d p o r = ticked-so p now (r.patient_one (ticked p now) (tick-peer c.one c.two r.one now p r.ticks_one o.is (ap is_answering o.connected)))
 
 two-ticks : (now there : ℕ) (c d : Connection) (q : Peering) → IsOpen c.two q → RoundOfBoth now there c d → Ticked there q (ticked q there)
-two-ticks now there c d q o r = ticked-so q there (r.patient_two (ticked q there) (tick-peer c.two r.one r.two there q r.ticks_two o.is))
+two-ticks now there c d q o r = ticked-so q there (r.patient_two (ticked q there) (tick-peer c.two r.one r.two there q r.ticks_two o.is (ap is_answering o.connected)))
 
 -- the round's end, where of what waits at the one end each command has a property, or its acknowledgement is on its way, and of what waits
 -- at the other each has one
@@ -678,10 +680,10 @@ rounded joined D E now there c d p q i open_one open_two r waits_one waits_two =
     q0 = ticked q there
 
     one_is : r.one.peer ≡ Some p0
-    one_is = tick-peer c.one c.two r.one now p r.ticks_one open_one.is
+    one_is = tick-peer c.one c.two r.one now p r.ticks_one open_one.is (ap is_answering open_one.connected)
 
     two_is : r.two.peer ≡ Some q0
-    two_is = tick-peer c.two r.one r.two there q r.ticks_two open_two.is
+    two_is = tick-peer c.two r.one r.two there q r.ticks_two open_two.is (ap is_answering open_two.connected)
 
     one_on : p0.state ≡ state.Connected
     one_on = r.patient_one p0 one_is

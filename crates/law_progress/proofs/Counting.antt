@@ -1,7 +1,9 @@
 -- The last send of a command of channel 0xFF counts.
-use Rattle.std.proofs.Common.{◌≡◌, ℕ, zero, suc, ◌+◌, ◌%◌, ◌^◌, ◌<◌, ◌||◌, ◌==◌, min, Bool, true, false, List, [], ◌∷◌, length, refl, sym, ap, subst, ◌∙◌, arith, take, slice_set}
+use Rattle.std.proofs.Common.{◌≡◌, ℕ, zero, suc, ◌+◌, ◌%◌, ◌^◌, ◌<◌, ◌||◌, ◌==◌, min, Bool, true, false, cond, List, [], ◌∷◌, length, refl, sym, ap, subst, ◌∙◌, arith, take, slice_set}
 use Rattle.std.specs.List.{list_any}
 use Rattle.std.proofs.lemmas.Bool.{eq-eqb}
+use Rattle.enet_codec.specs.declared.command.Verify.{Verify}
+use Rattle.enet_rtt.specs.Transmission as transmission
 use Rattle.enet_rtt.specs.SendTimes.{no_sends, with_send, has_time}
 use Rattle.enet_rtt.specs.declared.send_times.SendTimes.{SendTimes}
 use Rattle.enet_rtt.specs.Clock.{told_time, meant_time}
@@ -10,7 +12,7 @@ use Rattle.enet_senders.specs.declared.control.Control.{Control}
 use Rattle.enet_senders.specs.declared.control.Control.TheVariants as control
 use Rattle.enet_senders.specs.declared.control.Numbered.{Numbered}
 use Rattle.enet_senders.specs.declared.control.SentControl.{SentControl}
-use Rattle.law_progress.specs.Counts.{LastCounts}
+use Rattle.law_progress.specs.Counts.{LastCounts, CountsAsBefore}
 use Rattle.law_progress.proofs.BothRounds.{went-last}
 
 -- a told time stands for the moment at which it was told
@@ -60,3 +62,16 @@ first-counts now offset timeout n = counted now offset no_sends (controlling.beg
 
 pub again-counts : (now offset : ℕ) (t : SentControl) → length t.times.times ≡ 8 → LastCounts now offset (controlling.again now t)
 again-counts now offset t size = counted now offset t.times (controlling.again now t) refl refl size
+
+-- what is held back didn't go: its list of sends stays
+went-verify : (time : ℕ) (t : SentControl) (verify : Verify) → t.command.control ≡ control.VerifyConnect verify → controlling.went_at time t ≡ has_time time t.times
+went-verify time t verify is = ap (λ (what : Control). controlling.went_as what time t) is
+
+pub held-counts : (bound now : ℕ) (t : SentControl) → CountsAsBefore t (controlling.held_back bound now t)
+held-counts bound now t = elim (transmission.is_late now t.transmission) as (λ b. CountsAsBefore t (cond b tried t)) [
+  | true ↦ record { command = refl; places = refl; counts = λ verify time is. went-verify time tried verify is ∙ sym (went-verify time t verify is) }
+  | false ↦ record { command = refl; places = refl; counts = λ verify time is. refl }
+]
+  where
+    tried : SentControl
+    tried = record t { transmission = transmission.again now (transmission.marked bound now t.transmission) }

@@ -33,7 +33,7 @@ use Rattle.enet_outbox.specs.declared.parts.Matched.{Matched}
 use Rattle.enet_outbox.specs.declared.parts.Matched.TheVariants as matched
 use Rattle.enet_outbox.specs.declared.parts.Pace.{Pace}
 use Rattle.enet_outbox.specs.declared.parts.Unsequenced.{Unsequenced}
-use Rattle.enet_outbox.specs.Outbox.{Outbox, matched_by, marked_sender, cleared_sender, after_acknowledgement, lateness}
+use Rattle.enet_outbox.specs.Outbox.{Outbox, matched_by, marked_sender, cleared_sender, after_acknowledgement}
 use Rattle.enet_outbox.specs.Outbox as outbox
 use Rattle.enet_outbox.specs.Emission.{filled}
 use Rattle.enet_outbox.proofs.Filled.{by-filling}
@@ -45,11 +45,12 @@ use Rattle.enet_peer.specs.Peering.{Peering, joined, connecting, answering}
 use Rattle.enet_peer.specs.Endings.{ended, freed, parting, settled, disconnecting, is_later, cut_off_in}
 use Rattle.enet_peer.proofs.Obeying.{unless-holds, unwelcomed-holds}
 use Rattle.enet_peer.specs.CommandEffect.{obeyed, unless_refused, stopped, is_allowed, is_connect, by_body, by_answer, by_arrival, on_data, answered, answered_at, is_answered_in, is_connecting, on_acknowledge, on_match, sampled, with_answer, on_verify_in, welcomed, on_disconnect_in, on_last_disconnect, on_bandwidth, on_throttle}
-use Rattle.enet_peer.specs.Calls.{Leave, AtOnce, TellsOnce, Asks, AsksLater, Refused, left, submitted, pace_of, gone_on_in, ticked, pinged, is_pinged, after_timeouts_by, growth_bound, next_event, event_after, packet_event, last_event}
+use Rattle.enet_peer.specs.Calls.{Leave, AtOnce, TellsOnce, Asks, AsksLater, Refused, left, submitted, pace_of, gone_on_in, expiry_of, held_back, moved, ticked, pinged, is_pinged, after_timeouts_by, growth_bound, next_event, event_after, packet_event, last_event}
 use Rattle.law_progress.specs.Attempts.{Hears, PutsOut, Takes, after_take}
 use Rattle.law_progress.specs.Fits.{StaysFit}
 use Rattle.law_progress.specs.Outboxes.{AllFit}
 use Rattle.law_progress.specs.Waits.{Deed, Lives, Submits, Leaves, after_leave, after_deed, after_deeds, Moment, Moments}
+use Rattle.law_progress.proofs.Moving.{by-moved}
 use Rattle.law_progress.proofs.SomethingGoes.{Has-skipped}
 use Rattle.law_progress.proofs.Spent.{goes-of, queued-left, sent-left}
 use Rattle.law_progress.proofs.Waiting.{Has-at, Has-set, Has-pushed, Has-mapped, Has-removed}
@@ -385,7 +386,7 @@ fits-deeds now p [] f = f
 fits-deeds now p (deed ∷ deeds) f = fits-deeds now (after_deed now p deed) deeds (fits-deed now p deed f)
 
 pub fits-ticked : (p : Peering) (n : ℕ) → Fits p → Fits (ticked p n)
-fits-ticked p n f = by (lateness p.outbox n p.patience p.heard)
+fits-ticked p n f = by (expiry_of p n)
   where
     cut : (s : PeerState) → Fits (cut_off_in s p)
     cut state.Answering = fits-dropped p (freed p) f refl refl refl
@@ -403,8 +404,11 @@ fits-ticked p n f = by (lateness p.outbox n p.patience p.heard)
     by Resend = pings (record p { outbox = outbox.marked p.outbox (growth_bound p) n }) (record { mtu = f.mtu; small = small-marked (room_of p.terms.mtu) (growth_bound p) n p.outbox f.small })
     by No = pings p f
 
+pub fits-moved : (short : Bool) (p : Peering) (n : ℕ) → Fits p → Fits (moved short p n)
+fits-moved short p n f = by-moved Fits short p n (fits-ticked p n f) (λ answers lasts. fits-same p (held_back p n) f refl refl refl)
+
 fits-moment : (now : ℕ) (p q : Peering) → Fits p → Moment now p q → Fits q
-fits-moment now p q f m = subst (λ (x : Peering). Fits x) (sym m.after) (fits-deeds (now % 2 ^ 32) (ticked p (now % 2 ^ 32)) m.deeds (fits-ticked p (now % 2 ^ 32) f))
+fits-moment now p q f m = subst (λ (x : Peering). Fits x) (sym m.after) (fits-deeds (now % 2 ^ 32) (moved m.short p (now % 2 ^ 32)) m.deeds (fits-moved m.short p (now % 2 ^ 32) f))
 
 pub fits-moments : (gap now : ℕ) (moments : List ℕ) (p q : Peering) → Fits p → Moments gap now p moments q → Fits q
 fits-moments gap now [] p q f m = fits-moment now p q f m

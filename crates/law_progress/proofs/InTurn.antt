@@ -8,13 +8,13 @@ use Rattle.enet_outbox.specs.declared.parts.Acknowledgement.{Acknowledgement}
 use Rattle.enet_outbox.specs.Emission.{occasion}
 use Rattle.enet_peer.specs.declared.parts.PeerState.TheVariants as state
 use Rattle.enet_peer.specs.Peering.{Peering}
-use Rattle.enet_peer.specs.Calls.{pace_of, ticked, with_throttle_limit}
+use Rattle.enet_peer.specs.Calls.{pace_of, moved, with_throttle_limit}
 use Rattle.law_connection.specs.Connection.{End, Connection}
 use Rattle.law_connection.specs.Invariant.{Invariant}
 use Rattle.law_connection.specs.Steps.{Tick, Set, ThrottleLimit}
 use Rattle.law_progress.specs.Exchanges.{IsOpen, RoundOfBoth, outstanding_over, HasSent, AllOver, BothThrough}
 use Rattle.law_progress.specs.InTurn.{Ticks, RoundInTurn, RoundsInTurn}
-use Rattle.law_progress.proofs.BothRounds.{Coming, Sending, Exchanged, Ticked, OnItsWay, AnswersAt, NothingSent, total, exchanged, answers-all, ticked-so, tick-peer, only-waits, none-waits, both-through, on-its-way}
+use Rattle.law_progress.proofs.BothRounds.{Coming, Sending, Exchanged, Ticked, OnItsWay, AnswersAt, NothingSent, total, exchanged, answers-all, connected-moves, ticked-so, tick-moves, only-waits, none-waits, both-through, on-its-way}
 use Rattle.law_progress.proofs.Emitted.{Waits}
 use Rattle.law_progress.proofs.Exchanges.{Joint, joint-swap, joint-event, same-peer, told-still, Came, took-all, takes-joint}
 use Rattle.law_progress.proofs.Found.{sender-rests}
@@ -28,11 +28,17 @@ record TicksTo (now : ℕ) (own new : End) (p : Peering) : Type 0 where
   connected : peer.state ≡ state.Connected
   tick : Ticked now p peer
 
+moved-so : (short : Bool) (p : Peering) (now : ℕ) → (moved short p now).state ≡ state.Connected → Ticked now p (moved short p now)
+moved-so short p now on =
+    let is = connected-moves short p now on in
+    subst (λ (x : Peering). Ticked now p x) (sym is) (ticked-so p now (subst (λ (x : Peering). x.state ≡ state.Connected) is on))
+
 ticks-to : (now : ℕ) (own other new : End) (p : Peering) → Ticks now own other new → own.peer ≡ Some p → ((x : Peering) → new.peer ≡ Some x → x.state ≡ state.Connected) → TicksTo now own new p
 ticks-to now own other new p (inl h) is patient =
-    let here = tick-peer own other new now p h is in
-    let on = patient (ticked p now) here in
-    record { peer = ticked p now; is = here; connected = on; tick = ticked-so p now on }
+    let m = tick-moves own other new now p h is in
+    let x : Peering = moved m.0 p now in
+    let on : x.state ≡ state.Connected = patient x m.1 in
+    record { peer = x; is = m.1; connected = on; tick = moved-so m.0 p now on }
 ticks-to now own other new p (inr h) is patient = record {
   peer = q;
   is = here;
@@ -40,20 +46,23 @@ ticks-to now own other new p (inr h) is patient = record {
   tick = record { over = k.over; mtu = k.mtu; offset = k.offset; idle = k.idle; from = k.from; was = k.was; still = k.still; acknowledgements = k.acknowledgements };
 }
   where
-    q : Peering
-    q = with_throttle_limit (ticked p now) h.0
+    m : (short : Bool) × (h.1.peer ≡ Some (moved short p now))
+    m = tick-moves own other h.1 now p h.2 is
 
-    between : h.1.peer ≡ Some (ticked p now)
-    between = tick-peer own other h.1 now p h.2 is
+    between : Peering
+    between = moved m.0 p now
+
+    q : Peering
+    q = with_throttle_limit between h.0
 
     here : new.peer ≡ Some q
-    here = ap (λ (e : End). e.peer) h.3.3 ∙ ap (λ (x : Peering). Some (with_throttle_limit x h.0)) (same-peer h.1 h.3.0 (ticked p now) h.3.1 between)
+    here = ap (λ (e : End). e.peer) h.3.3 ∙ ap (λ (x : Peering). Some (with_throttle_limit x h.0)) (same-peer h.1 h.3.0 between h.3.1 m.1)
 
     on : q.state ≡ state.Connected
     on = patient q here
 
-    k : Ticked now p (ticked p now)
-    k = ticked-so p now on
+    k : Ticked now p between
+    k = moved-so m.0 p now on
 
 ticks-joint : (joined : Bool) (now : ℕ) (own other new : End) → Ticks now own other new → Joint joined own other → Joint joined new other
 ticks-joint joined now own other new (inl h) j = joint-event joined own other new (Tick now) h j

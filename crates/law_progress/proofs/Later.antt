@@ -30,7 +30,7 @@ use Rattle.enet_inbox.specs.DataEffect.{passed_over}
 use Rattle.enet_outbox.specs.declared.parts.Matched.{Matched}
 use Rattle.enet_outbox.specs.declared.parts.Matched.TheVariants as matched
 use Rattle.enet_outbox.specs.declared.parts.Pace.{Pace}
-use Rattle.enet_outbox.specs.Outbox.{Outbox, matched_by, marked_sender, after_acknowledgement, lateness, is_done}
+use Rattle.enet_outbox.specs.Outbox.{Outbox, matched_by, marked_sender, after_acknowledgement, is_done}
 use Rattle.enet_outbox.specs.Outbox as outbox
 use Rattle.enet_outbox.specs.Emission.{filled, data_put, with_sender, occasion}
 use Rattle.enet_outbox.proofs.Filled.{by-filling}
@@ -42,10 +42,11 @@ use Rattle.enet_peer.specs.Peering.{Peering, joined, connecting, answering}
 use Rattle.enet_peer.specs.Endings.{settled, disconnecting, cut_off_in}
 use Rattle.enet_peer.proofs.Obeying.{unless-holds}
 use Rattle.enet_peer.specs.CommandEffect.{obeyed, unless_refused, stopped, is_allowed, is_connect, by_body, by_answer, answered, answered_at, is_answered_in, on_acknowledge, on_match, acknowledged, on_disconnect_in, on_bandwidth, on_throttle}
-use Rattle.enet_peer.specs.Calls.{pace_of, gone_on, ticked, pinged, after_timeouts_by, growth_bound, next_event, event_after, packet_event}
+use Rattle.enet_peer.specs.Calls.{pace_of, expiry_of, gone_on, moved, ticked, pinged, after_timeouts_by, growth_bound, next_event, event_after, packet_event}
 use Rattle.law_progress.specs.Outboxes.{AllFit, NothingMayGo, WaitsForSome}
 use Rattle.law_progress.specs.Attempts.{Step, Hears, PutsOut, Takes, after_take, after_step, Stays, Turn, Turns, last_of}
 use Rattle.law_progress.specs.Later.{queued_over, still_to_go, DisconnectsLater}
+use Rattle.law_progress.proofs.Moving.{by-moved, moved-elsewhere}
 use Rattle.law_progress.proofs.Timed.{timed-begun, timed-again}
 use Rattle.law_progress.proofs.Found.{sender-rests, controls-rest}
 use Rattle.law_progress.proofs.Controls.{some-is, GoesControl, Heads, Repeats, goes-control}
@@ -348,9 +349,9 @@ hears-fewer p now sent m = by m.body
     by ping = effect ping (answered-fewer p old m sent true same)
     by (send_reliable payload) = effect (send_reliable payload) (passed (passed_over p.inbox m))
     by (send_unreliable number payload) = effect (send_unreliable number payload) (passed (passed_over p.inbox m))
-    by (send_fragment fragment payload) = same
+    by (send_fragment fragment payload) = effect (send_fragment fragment payload) (passed (passed_over p.inbox m))
     by (send_unsequenced group payload) = effect (send_unsequenced group payload) (passed (passed_over p.inbox m))
-    by (send_unreliable_fragment fragment payload) = same
+    by (send_unreliable_fragment fragment payload) = effect (send_unreliable_fragment fragment payload) (passed (passed_over p.inbox m))
     by (bandwidth_limit incoming outgoing) = effect (bandwidth_limit incoming outgoing) (answered-fewer p (on_bandwidth old incoming) m sent true (λ k. fewer-same p (on_bandwidth old incoming) refl refl refl refl))
     by (throttle_configure interval acceleration deceleration) =
         effect (throttle_configure interval acceleration deceleration) (answered-fewer p (on_throttle old interval acceleration deceleration) m sent true (λ k. fewer-same p (on_throttle old interval acceleration deceleration) refl refl refl refl))
@@ -444,7 +445,7 @@ stays-ahead most gap total now (step ∷ steps) p q a h =
 
 -- a moment comes
 ticked-later : (p : Peering) (n : ℕ) → (ticked p n).state ≡ state.DisconnectLater → p.state ≡ state.DisconnectLater
-ticked-later p n h = by (lateness p.outbox n p.patience p.heard) h
+ticked-later p n h = by (expiry_of p n) h
   where
     unpinged : (q : Peering) → (pinged q n).state ≡ state.DisconnectLater → q.state ≡ state.DisconnectLater
     unpinged q k = go (Rattle.enet_peer.specs.Calls.is_pinged q n) k
@@ -469,6 +470,9 @@ ticked-later p n h = by (lateness p.outbox n p.patience p.heard) h
     by Resend k = unpinged (record p { outbox = outbox.marked p.outbox (growth_bound p) n }) k
     by No k = unpinged p k
 
+moved-later : (short : Bool) (p : Peering) (n : ℕ) → (moved short p n).state ≡ state.DisconnectLater → p.state ≡ state.DisconnectLater
+moved-later short p n = by-moved (λ (x : Peering). x.state ≡ state.DisconnectLater → p.state ≡ state.DisconnectLater) short p n (ticked-later p n) (λ answers lasts h. h)
+
 marked-fits : (bound now : ℕ) (pace : Pace) (o : Outbox) → AllFit pace o → AllFit pace (outbox.marked o bound now)
 marked-fits bound now pace o a = record {
   fit = record {
@@ -487,7 +491,7 @@ marked-fits bound now pace o a = record {
     back (x ∷ xs) (suc i) s t = back xs i s t
 
 ticked-fewer : (p : Peering) (n : ℕ) → Goes_on p (ticked (at_later p) n)
-ticked-fewer p n = by (lateness p.outbox n p.patience p.heard)
+ticked-fewer p n = by (expiry_of (at_later p) n)
   where
     old : Peering
     old = at_later p
@@ -501,6 +505,9 @@ ticked-fewer p n = by (lateness p.outbox n p.patience p.heard)
     }
     by No = λ k. fewer-same p old refl refl refl refl
 
+moved-fewer : (short : Bool) (p : Peering) (n : ℕ) → Goes_on p (moved short (at_later p) n)
+moved-fewer short p n = subst (Goes_on p) (sym (moved-elsewhere short (at_later p) n refl)) (ticked-fewer p n)
+
 -- at the end of a turn nothing is due to go again, and something waits
 record Rested (most gap total now : ℕ) (q : Peering) : Type 0 where
   ahead : Ahead most gap total now q
@@ -512,7 +519,7 @@ place [] x h = absurd h
 place (y ∷ ys) x (inl e) = (0, ap Some e)
 place (y ∷ ys) x (inr h) = (let w = place ys x h in (suc w.0, w.1))
 
-turn-rested : (most gap total now : ℕ) (p q : Peering) → ((ticked p (now % 2 ^ 32)).state ≡ state.DisconnectLater → Ahead most gap total now (ticked p (now % 2 ^ 32))) → Turn state.DisconnectLater now p q → q.state ≡ state.DisconnectLater → Rested most gap total now q
+turn-rested : (most gap total now : ℕ) (p q : Peering) → ((short : Bool) → (moved short p (now % 2 ^ 32)).state ≡ state.DisconnectLater → Ahead most gap total now (moved short p (now % 2 ^ 32))) → Turn state.DisconnectLater now p q → q.state ≡ state.DisconnectLater → Rested most gap total now q
 turn-rested most gap total now p q first turn e = subst (λ (x : Peering). Rested most gap total now x) (sym (turn.after ∙ on.0)) (record {
   ahead = filled-ahead most gap total now last l.0;
   rests = due;
@@ -526,7 +533,7 @@ turn-rested most gap total now p q first turn e = subst (λ (x : Peering). Reste
     last = turn.last
 
     l : Ahead most gap total now last × (last.state ≡ state.DisconnectLater)
-    l = stays-ahead most gap total now turn.steps (ticked p n) last (first (stays-first state.DisconnectLater n turn.steps (ticked p n) last turn.stays)) turn.stays
+    l = stays-ahead most gap total now turn.steps (moved turn.short p n) last (first turn.short (stays-first state.DisconnectLater n turn.steps (moved turn.short p n) last turn.stays)) turn.stays
 
     pace : Pace
     pace = pace_of last n
@@ -554,13 +561,13 @@ turn-rested most gap total now p q first turn e = subst (λ (x : Peering). Reste
         channels s h t k = (let w = place r.outbox.senders s h in sender-rests (occasion pace r.outbox) s.sender (nothing.channels w.0 s w.1) t k)
 
 -- a moment comes
-tick-ahead : (most gap total before now : ℕ) (p : Peering) (a : Ahead most gap total before p) → Each Rests p.outbox.control.sent p.outbox.senders → p.state ≡ state.DisconnectLater → before ≤ now → now ≤ before + gap → 5000 + 2 * most + gap < 2 ^ 32
-    → now ≤ a.paced.limit + (5000 + 2 * most + gap) → (ticked p (now % 2 ^ 32)).state ≡ state.DisconnectLater → Ahead most gap total now (ticked p (now % 2 ^ 32))
-tick-ahead most gap total before now p a rests e up down near soon h =
+tick-ahead : (most gap total before now : ℕ) (short : Bool) (p : Peering) (a : Ahead most gap total before p) → Each Rests p.outbox.control.sent p.outbox.senders → p.state ≡ state.DisconnectLater → before ≤ now → now ≤ before + gap → 5000 + 2 * most + gap < 2 ^ 32
+    → now ≤ a.paced.limit + (5000 + 2 * most + gap) → (moved short p (now % 2 ^ 32)).state ≡ state.DisconnectLater → Ahead most gap total now (moved short p (now % 2 ^ 32))
+tick-ahead most gap total before now short p a rests e up down near soon h =
     let r = a.paced in
-    let q : Peering = ticked p (now % 2 ^ 32) in
-    let all = tick-fair (λ first. first ≤ r.limit) most before now gap p (r.each, a.within, a.patient) rests up down near in
-    let less : Fewer p q = subst (λ (x : Peering). Goes_on p (ticked x (now % 2 ^ 32))) at (ticked-fewer p (now % 2 ^ 32)) h in
+    let q : Peering = moved short p (now % 2 ^ 32) in
+    let all = tick-fair (λ first. first ≤ r.limit) most before now gap short p (r.each, a.within, a.patient) rests up down near in
+    let less : Fewer p q = subst (λ (x : Peering). Goes_on p (moved short x (now % 2 ^ 32))) at (moved-fewer short p (now % 2 ^ 32)) h in
     record {
       paced = record {
         limit = r.limit;
@@ -577,19 +584,19 @@ tick-ahead most gap total before now p a rests e up down near soon h =
     at = ap (λ s. record p { state = s }) (sym e)
 
 -- turn after turn
-turns-later : (most gap total : ℕ) (later : List ℕ) (now : ℕ) (p q : Peering) → 5000 + 2 * most + gap < 2 ^ 32 → ((ticked p (now % 2 ^ 32)).state ≡ state.DisconnectLater → Ahead most gap total now (ticked p (now % 2 ^ 32))) → Turns state.DisconnectLater gap now p later q
+turns-later : (most gap total : ℕ) (later : List ℕ) (now : ℕ) (p q : Peering) → 5000 + 2 * most + gap < 2 ^ 32 → ((short : Bool) → (moved short p (now % 2 ^ 32)).state ≡ state.DisconnectLater → Ahead most gap total now (moved short p (now % 2 ^ 32))) → Turns state.DisconnectLater gap now p later q
     → last_of now later ≤ total + (5000 + 2 * most + gap)
 turns-later most gap total [] now p q near first turn =
-    let a = first (stays-first state.DisconnectLater (now % 2 ^ 32) turn.steps (ticked p (now % 2 ^ 32)) turn.last turn.stays) in
+    let a = first turn.short (stays-first state.DisconnectLater (now % 2 ^ 32) turn.steps (moved turn.short p (now % 2 ^ 32)) turn.last turn.stays) in
     let r = a.paced in let c = r.count in let d = r.near in omega arith
 turns-later most gap total (next ∷ later) now p q near first (r, turn, up, down, rest) =
     turns-later most gap total later next r q near begins rest
   where
-    begins : (ticked r (next % 2 ^ 32)).state ≡ state.DisconnectLater → Ahead most gap total next (ticked r (next % 2 ^ 32))
-    begins h = tick-ahead most gap total now next r a.ahead a.rests is up down near soon h
+    begins : (short : Bool) → (moved short r (next % 2 ^ 32)).state ≡ state.DisconnectLater → Ahead most gap total next (moved short r (next % 2 ^ 32))
+    begins short h = tick-ahead most gap total now next short r a.ahead a.rests is up down near soon h
       where
         is : r.state ≡ state.DisconnectLater
-        is = ticked-later r (next % 2 ^ 32) h
+        is = moved-later short r (next % 2 ^ 32) h
 
         a : Rested most gap total now r
         a = turn-rested most gap total now p r first turn is
@@ -649,8 +656,8 @@ fresh-later p none within fits gap now moments q next later r near run low high 
       fit = all-fits q 0 (fits-moments gap now moments p q fits run);
     }
 
-    begins : (ticked q (next % 2 ^ 32)).state ≡ state.DisconnectLater → Ahead most gap total next (ticked q (next % 2 ^ 32))
-    begins h = tick-ahead most gap total before next q ahead ready.1 (ticked-later q (next % 2 ^ 32) h) low high near (omega arith) h
+    begins : (short : Bool) → (moved short q (next % 2 ^ 32)).state ≡ state.DisconnectLater → Ahead most gap total next (moved short q (next % 2 ^ 32))
+    begins short h = tick-ahead most gap total before next short q ahead ready.1 (moved-later short q (next % 2 ^ 32) h) low high near (omega arith) h
 
 pub joined-later : (start : ℕ) (terms : Terms) (limits : Limits) → terms.mtu ≤ 4096 → DisconnectsLater (joined start terms limits)
 joined-later start terms limits low = fresh-later (joined start terms limits) (λ R. ((λ t k. absurd k), none-new R 0 terms.channels)) (record { round_trip = omega arith; variance = omega arith }) (joined-fits start terms limits low)

@@ -30,6 +30,7 @@ pub mod Others
 pub mod Unstopped
 pub mod TakenAway
 pub mod Settled
+pub mod Moving
 pub mod Timed
 pub mod Attempts
 pub mod Told

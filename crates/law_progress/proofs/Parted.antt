@@ -10,16 +10,17 @@ use Rattle.enet_rtt.specs.declared.expiry.Expiry.TheVariants.{No, Resend, End}
 use Rattle.enet_inbox.specs.DataEffect.{passed_over}
 use Rattle.enet_outbox.specs.declared.parts.Matched.{Matched}
 use Rattle.enet_outbox.specs.declared.parts.Matched.TheVariants as matched
-use Rattle.enet_outbox.specs.Outbox.{matched_by, lateness, is_done}
+use Rattle.enet_outbox.specs.Outbox.{matched_by, is_done}
 use Rattle.enet_outbox.specs.Emission.{filled}
 use Rattle.enet_peer.specs.declared.parts.PeerState.TheVariants as state
 use Rattle.enet_peer.specs.Peering.{Peering}
 use Rattle.enet_peer.specs.Endings.{settled, disconnecting, is_later}
 use Rattle.enet_peer.proofs.Obeying.{unless-holds}
 use Rattle.enet_peer.specs.CommandEffect.{obeyed, unless_refused, stopped, is_allowed, is_connect, by_body, by_answer, answered, answered_at, is_answered_in, on_acknowledge, on_match, acknowledged, on_disconnect_in, on_bandwidth, on_throttle}
-use Rattle.enet_peer.specs.Calls.{pace_of, ticked, pinged, after_timeouts_by, next_event, event_after, packet_event}
+use Rattle.enet_peer.specs.Calls.{pace_of, expiry_of, moved, ticked, pinged, after_timeouts_by, next_event, event_after, packet_event}
 use Rattle.law_progress.specs.Attempts.{Step, Hears, PutsOut, Takes, after_step, after_take, IsTold}
 use Rattle.law_progress.specs.Later.{IsLeaving, LeavesOrTells}
+use Rattle.law_progress.proofs.Moving.{moved-elsewhere}
 use Rattle.law_progress.proofs.Told.{Tells, told-by}
 
 -- it is still in its state, or leaving, or its user is told
@@ -92,9 +93,9 @@ hears-goes p now sent m = by m.body
     by ping = effect ping (answered-goes old m sent true same)
     by (send_reliable payload) = effect (send_reliable payload) (passed (passed_over p.inbox m))
     by (send_unreliable number payload) = effect (send_unreliable number payload) (passed (passed_over p.inbox m))
-    by (send_fragment fragment payload) = same
+    by (send_fragment fragment payload) = effect (send_fragment fragment payload) (passed (passed_over p.inbox m))
     by (send_unsequenced group payload) = effect (send_unsequenced group payload) (passed (passed_over p.inbox m))
-    by (send_unreliable_fragment fragment payload) = same
+    by (send_unreliable_fragment fragment payload) = effect (send_unreliable_fragment fragment payload) (passed (passed_over p.inbox m))
     by (bandwidth_limit incoming outgoing) = effect (bandwidth_limit incoming outgoing) (answered-goes (on_bandwidth old incoming) m sent true (inl refl))
     by (throttle_configure interval acceleration deceleration) = effect (throttle_configure interval acceleration deceleration) (answered-goes (on_throttle old interval acceleration deceleration) m sent true (inl refl))
 
@@ -113,7 +114,7 @@ takes-goes p = by p.greeting
     by None = packets p.inbox.untaken
 
 ticked-goes : (p : Peering) (n : ℕ) → ((ticked (at_later p) n).state ≡ state.DisconnectLater) ⊎ Tells (ticked (at_later p) n)
-ticked-goes p n = by (lateness p.outbox n p.patience p.heard)
+ticked-goes p n = by (expiry_of (at_later p) n)
   where
     old : Peering
     old = at_later p
@@ -126,7 +127,7 @@ ticked-goes p n = by (lateness p.outbox n p.patience p.heard)
 pub leaves-or-tells : LeavesOrTells
 leaves-or-tells = record {
   step = λ p now step e. subst (λ (x : Peering). ((after_step now x step).state ≡ state.DisconnectLater) ⊎ (IsLeaving (after_step now x step) ⊎ IsTold (after_step now x step))) (at p e) (tells (after_step now (at_later p) step) (by p now step));
-  tick = λ p now e. subst (λ (x : Peering). ((ticked x now).state ≡ state.DisconnectLater) ⊎ IsTold (ticked x now)) (at p e) (tick p now);
+  tick = λ short p now e. subst (λ (x : Peering). ((moved short x now).state ≡ state.DisconnectLater) ⊎ IsTold (moved short x now)) (at p e) (tick short p now);
 }
   where
     at : (p : Peering) → p.state ≡ state.DisconnectLater → at_later p ≡ p
@@ -142,5 +143,6 @@ leaves-or-tells = record {
     by p now PutsOut = settled-goes (record (at_later p) { outbox = (filled (pace_of (at_later p) now) p.outbox).outbox }) (inl refl)
     by p now Takes = takes-goes p
 
-    tick : (p : Peering) (now : ℕ) → ((ticked (at_later p) now).state ≡ state.DisconnectLater) ⊎ IsTold (ticked (at_later p) now)
-    tick p now = elim (ticked-goes p now) [ inl h ↦ inl h | inr t ↦ inr (told-by (ticked (at_later p) now) t) ]
+    tick : (short : Bool) (p : Peering) (now : ℕ) → ((moved short (at_later p) now).state ≡ state.DisconnectLater) ⊎ IsTold (moved short (at_later p) now)
+    tick short p now = subst (λ (x : Peering). (x.state ≡ state.DisconnectLater) ⊎ IsTold x) (sym (moved-elsewhere short (at_later p) now refl))
+        (elim (ticked-goes p now) [ inl h ↦ inl h | inr t ↦ inr (told-by (ticked (at_later p) now) t) ])

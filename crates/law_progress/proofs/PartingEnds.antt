@@ -12,17 +12,18 @@ use Rattle.enet_senders.specs.declared.control.Numbered.{Numbered}
 use Rattle.enet_senders.specs.declared.control.SentControl.{SentControl}
 use Rattle.enet_receiver.specs.Members.{Has}
 use Rattle.enet_outbox.specs.declared.parts.Pace.{Pace}
-use Rattle.enet_outbox.specs.Outbox.{Outbox, lateness}
+use Rattle.enet_outbox.specs.Outbox.{Outbox}
 use Rattle.enet_outbox.specs.Emission.{filled}
 use Rattle.enet_outbox.proofs.Filled.{by-filling}
 use Rattle.enet_peer.specs.declared.parts.PeerState.TheVariants as state
 use Rattle.enet_peer.specs.Peering.{Peering}
 use Rattle.enet_peer.specs.Endings.{freed, parting}
 use Rattle.enet_peer.specs.CommandEffect.{obeyed, stopped, is_connect}
-use Rattle.enet_peer.specs.Calls.{pace_of, gone_on, gone_on_in, ticked, pinged, after_timeouts_by, next_event, event_after, packet_event}
+use Rattle.enet_peer.specs.Calls.{pace_of, expiry_of, gone_on, gone_on_in, moved, pinged, after_timeouts_by, next_event, event_after, packet_event}
 use Rattle.law_progress.specs.Attempts.{Step, Hears, PutsOut, Takes, after_take, after_step, Stays, Turn, Turns, LastsAtMost}
 use Rattle.law_progress.proofs.Blocked.{idle-controls}
 use Rattle.law_progress.proofs.Controls.{GoesControl, Heads, Repeats, goes-control}
+use Rattle.law_progress.proofs.Moving.{moved-elsewhere}
 use Rattle.law_progress.proofs.NothingLeft.{nothing-left}
 
 -- of channel 0xFF nothing waits for an acknowledgement, and nothing that is queued asks for one
@@ -113,7 +114,7 @@ stays-unasking now (step ∷ steps) p q u h =
     stays-unasking now steps r q (step-unasking now p step h.0 u (first-state now steps r q h.1)) h.1
 
 -- after its turn the peer is free
-turn-frees : (now : ℕ) (p q : Peering) → ((ticked p (now % 2 ^ 32)).state ≡ state.Parting → Unasking (ticked p (now % 2 ^ 32)).outbox.control) → Turn state.Parting now p q → q.state ≡ state.Free
+turn-frees : (now : ℕ) (p q : Peering) → ((short : Bool) → (moved short p (now % 2 ^ 32)).state ≡ state.Parting → Unasking (moved short p (now % 2 ^ 32)).outbox.control) → Turn state.Parting now p q → q.state ≡ state.Free
 turn-frees now p q first turn = ap (λ (x : Peering). x.state) (turn.after ∙ ap (λ s. gone_on_in s r) l.0 ∙ ap (λ (c : List Numbered). cond (ltb 0 (length c)) r (freed r)) none)
   where
     n : ℕ
@@ -123,7 +124,7 @@ turn-frees now p q first turn = ap (λ (x : Peering). x.state) (turn.after ∙ a
     last = turn.last
 
     l : (last.state ≡ state.Parting) × Unasking last.outbox.control
-    l = stays-unasking n turn.steps (ticked p n) last (first (first-state n turn.steps (ticked p n) last turn.stays)) turn.stays
+    l = stays-unasking n turn.steps (moved turn.short p n) last (first turn.short (first-state n turn.steps (moved turn.short p n) last turn.stays)) turn.stays
 
     pace : Pace
     pace = pace_of last n
@@ -141,8 +142,8 @@ turn-frees now p q first turn = ap (λ (x : Peering). x.state) (turn.after ∙ a
     none = let u = rests.1 in idle-controls pace.now pace.timeout r.outbox.control u.sent rests.0
 
 -- and stays so
-free-stays : (p : Peering) (n : ℕ) → p.state ≡ state.Free → (ticked p n).state ≡ state.Parting → ⊥
-free-stays p n e h = by (lateness p.outbox n p.patience p.heard) (subst (λ (x : Peering). (ticked x n).state ≡ state.Parting) (sym at) h)
+free-stays : (short : Bool) (p : Peering) (n : ℕ) → p.state ≡ state.Free → (moved short p n).state ≡ state.Parting → ⊥
+free-stays short p n e h = by (expiry_of old n) (subst (λ (x : Peering). x.state ≡ state.Parting) (moved-elsewhere short old n refl) (subst (λ (x : Peering). (moved short x n).state ≡ state.Parting) (sym at) h))
   where
     old : Peering
     old = record p { state = state.Free }
@@ -156,14 +157,14 @@ free-stays p n e h = by (lateness p.outbox n p.patience p.heard) (subst (λ (x :
     by No k = cc
 
 no-turn : (now : ℕ) (p q : Peering) → p.state ≡ state.Free → Turn state.Parting now p q → ⊥
-no-turn now p q e turn = free-stays p (now % 2 ^ 32) e (first-state (now % 2 ^ 32) turn.steps (ticked p (now % 2 ^ 32)) turn.last turn.stays)
+no-turn now p q e turn = free-stays turn.short p (now % 2 ^ 32) e (first-state (now % 2 ^ 32) turn.steps (moved turn.short p (now % 2 ^ 32)) turn.last turn.stays)
 
 no-turns : (gap now : ℕ) (later : List ℕ) (p q : Peering) → p.state ≡ state.Free → Turns state.Parting gap now p later q → ⊥
 no-turns gap now [] p q e turn = no-turn now p q e turn
 no-turns gap now (next ∷ later) p q e (r, turn, up, down, rest) = no-turn now p r e turn
 
-begins-unasking : (p : Peering) (info n : ℕ) → (ticked (parting p info) n).state ≡ state.Parting → Unasking (ticked (parting p info) n).outbox.control
-begins-unasking p info n h = by (lateness (parting p info).outbox n p.patience p.heard) h
+begins-unasking : (short : Bool) (p : Peering) (info n : ℕ) → (moved short (parting p info) n).state ≡ state.Parting → Unasking (moved short (parting p info) n).outbox.control
+begins-unasking short p info n = subst (λ (x : Peering). x.state ≡ state.Parting → Unasking x.outbox.control) (sym (moved-elsewhere short (parting p info) n refl)) (by (expiry_of (parting p info) n))
   where
     only : (number : ℕ) (x : Numbered) → Has ((record { number = number; control = Rattle.enet_senders.specs.declared.control.Control.TheVariants.DisconnectNow info }) ∷ []) x → controlling.is_reliable x.control ≡ false
     only number x (inl e) = ap (λ (y : Numbered). controlling.is_reliable y.control) (sym e)
@@ -176,4 +177,4 @@ begins-unasking p info n h = by (lateness (parting p info).outbox n p.patience p
 
 pub parting-ends : (p : Peering) (info : ℕ) → LastsAtMost state.Parting (parting p info) 0
 parting-ends p info gap now [] q near turn = omega arith
-parting-ends p info gap now (next ∷ later) q near (r, turn, up, down, rest) = absurd (no-turns gap next later r q (turn-frees now (parting p info) r (begins-unasking p info (now % 2 ^ 32)) turn) rest)
+parting-ends p info gap now (next ∷ later) q near (r, turn, up, down, rest) = absurd (no-turns gap next later r q (turn-frees now (parting p info) r (λ short. begins-unasking short p info (now % 2 ^ 32)) turn) rest)

@@ -222,10 +222,10 @@ round : RoundOfBoth 0 0 start (record { one = heard; two = answered })
 unfolding cutting.piece_count
 round = record {
   one = submitted;
-  ticks_one = (sender, refl, refl);
+  ticks_one = (sender, refl, false, refl);
   patient_one = λ p e. (let s : state.Connected ≡ p.state = ap state_of e in sym s);
   two = pair.two;
-  ticks_two = (here, refl, refl);
+  ticks_two = (here, refl, false, refl);
   patient_two = λ p e. (let s : state.Connected ≡ p.state = ap state_of e in sym s);
   one_out = emitted;
   two_in = arrived;

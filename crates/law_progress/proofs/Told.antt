@@ -13,7 +13,7 @@ use Rattle.enet_senders.specs.declared.control.Control.{Control}
 use Rattle.enet_senders.specs.declared.control.Control.TheVariants as control
 use Rattle.enet_outbox.specs.declared.parts.Matched.{Matched}
 use Rattle.enet_outbox.specs.declared.parts.Matched.TheVariants as matched
-use Rattle.enet_outbox.specs.Outbox.{matched_by, lateness}
+use Rattle.enet_outbox.specs.Outbox.{matched_by}
 use Rattle.enet_outbox.specs.Outbox as outbox
 use Rattle.enet_outbox.specs.Emission.{filled}
 use Rattle.enet_peer.specs.declared.parts.PeerState.{PeerState}
@@ -22,8 +22,9 @@ use Rattle.enet_peer.specs.Peering.{Peering}
 use Rattle.enet_peer.specs.Endings.{settled, cut_off_in}
 use Rattle.enet_peer.proofs.Obeying.{unless-holds, unwelcomed-holds}
 use Rattle.enet_peer.specs.CommandEffect.{Outcome, obeyed, unless_refused, stopped, is_allowed, is_of_handshake, is_connect, by_body, answered, answered_at, is_answered_in, on_acknowledge, on_match, acknowledged, with_answer, on_verify_in, welcomed, on_disconnect_in}
-use Rattle.enet_peer.specs.Calls.{pace_of, ticked, pinged, after_timeouts_by, growth_bound, next_event, event_after, packet_event, last_event}
+use Rattle.enet_peer.specs.Calls.{pace_of, expiry_of, moved, ticked, pinged, after_timeouts_by, growth_bound, next_event, event_after, packet_event, last_event}
 use Rattle.law_progress.specs.Attempts.{Step, Hears, PutsOut, Takes, after_step, after_take, IsTold, TellsWhenLeft}
+use Rattle.law_progress.proofs.Moving.{by-moved}
 use Rattle.law_progress.proofs.Attempts.{Kind, Asks, Answers, Leaves, state_of, in_state, handshake-alone, waits-on, unpinged}
 
 -- a Connect event waits, or a Disconnect event is to be taken, or the peer is free
@@ -165,7 +166,7 @@ puts-goes k p now =
     inl (ap (λ (x : Peering). x.state) (waits-on k q refl))
 
 ticked-goes : (k : Kind) (p : Peering) (now : ℕ) → Goes k (ticked (in_state k p) now)
-ticked-goes k p now = by (lateness p.outbox now p.patience p.heard)
+ticked-goes k p now = by (expiry_of (in_state k p) now)
   where
     old : Peering
     old = in_state k p
@@ -180,6 +181,9 @@ ticked-goes k p now = by (lateness p.outbox now p.patience p.heard)
     by Resend = let q : Peering = record old { outbox = outbox.marked p.outbox (growth_bound old) now } in inl (ap (λ (x : Peering). x.state) (unpinged k q now refl))
     by No = inl (ap (λ (x : Peering). x.state) (unpinged k old now refl))
 
+moved-goes : (k : Kind) (short : Bool) (p : Peering) (now : ℕ) → Goes k (moved short (in_state k p) now)
+moved-goes k short p now = by-moved (Goes k) short (in_state k p) now (ticked-goes k p now) (λ answers lasts. inl refl)
+
 left-told : (k : Kind) (q : Peering) → Goes k q → (q.state ≡ state_of k) ⊎ IsTold q
 left-told k q (inl h) = inl h
 left-told k q (inr t) = inr (told-by q t)
@@ -187,7 +191,7 @@ left-told k q (inr t) = inr (told-by q t)
 pub told : (k : Kind) → TellsWhenLeft (state_of k)
 told k = record {
   step = λ p now step e. subst (λ (x : Peering). ((after_step now x step).state ≡ state_of k) ⊎ IsTold (after_step now x step)) (at p e) (by p now step);
-  tick = λ p now e. subst (λ (x : Peering). ((ticked x now).state ≡ state_of k) ⊎ IsTold (ticked x now)) (at p e) (left-told k _ (ticked-goes k p now));
+  tick = λ short p now e. subst (λ (x : Peering). ((moved short x now).state ≡ state_of k) ⊎ IsTold (moved short x now)) (at p e) (left-told k _ (moved-goes k short p now));
 }
   where
     at : (p : Peering) → p.state ≡ state_of k → in_state k p ≡ p

@@ -1,6 +1,5 @@
--- How often an attempt is tried, and how long that takes: a CONNECT goes at most six times, each timeout twice the one before, a
--- VERIFY_CONNECT at most eight times, each timeout but the first one a second.
-use Rattle.std.proofs.Common.{◌≡◌, ◌≢◌, ℕ, zero, suc, ◌+◌, ◌-◌, ◌*◌, ◌%◌, ◌^◌, ◌<◌, ◌≤◌, ◌&&◌, ◌||◌, not, leb, max, min, Bool, true, false, cond, refl, sym, ap, subst, ◌∙◌, inl, inr, ◌⊎◌, arith}
+-- How long an attempt takes: a CONNECT goes at most six times, each timeout twice the one before, and a VERIFY_CONNECT for 7,500 ms.
+use Rattle.std.proofs.Common.{◌≡◌, ◌≢◌, ℕ, zero, suc, ◌+◌, ◌-◌, ◌*◌, ◌%◌, ◌^◌, ◌<◌, ◌≤◌, ◌&&◌, ◌||◌, not, leb, max, min, Bool, true, false, cond, List, refl, sym, ap, subst, ◌∙◌, inl, inr, ◌⊎◌, arith}
 use Rattle.std.proofs.lemmas.Bool.Decides.{nat_tests}
 use Rattle.enet_codec.specs.declared.command.Offer.{Offer}
 use Rattle.enet_rtt.specs.Clock.{elapsed_time, since_later}
@@ -11,9 +10,9 @@ use Rattle.enet_connect.specs.declared.server.Server.{Server}
 use Rattle.enet_peer.specs.declared.parts.PeerState.TheVariants as state
 use Rattle.enet_peer.specs.declared.parts.Limits.{Limits}
 use Rattle.enet_peer.specs.declared.parts.Offsets.{Offsets}
-use Rattle.enet_peer.specs.Peering.{connecting, answering}
-use Rattle.law_progress.specs.Attempts.{last_of, LastsFor}
-use Rattle.law_progress.proofs.Attempts.{Asks, Answers, Attempt, wait_of, bound_of, Course, attempt_of, begun-goes, asking, replying}
+use Rattle.enet_peer.specs.Peering.{Peering, connecting, answering}
+use Rattle.law_progress.specs.Attempts.{last_of, LastsAtMost, LastsFor, Turns}
+use Rattle.law_progress.proofs.Attempts.{Asks, Answers, Attempt, Begins, wait_of, bound_of, Course, attempt_of, begun-goes, asking, replying}
 use Rattle.law_progress.proofs.Timed.{elapsed-is, le-of, lt-of}
 
 -- when try j comes, counted from the first, where each waits so long
@@ -161,7 +160,7 @@ tried-course : (a : Attempt) (extra again most : ℕ) (p : Plan a extra again mo
 tried-course a extra again most p = record {
   begins = tried-begins a extra again most p;
   again = tried-again a extra again most p;
-  marks = tried-marked a extra again most p;
+  marks = λ before now t w waits up down lives not_past. tried-marked a extra again most p before now t w waits up down lives;
 }
 
 -- so long it waits at most
@@ -211,19 +210,6 @@ doubled-most (suc (suc (suc (suc zero)))) h = omega arith
 doubled-most (suc (suc (suc (suc (suc zero))))) h = omega arith
 doubled-most (suc (suc (suc (suc (suc (suc j)))))) h = absurd (omega arith)
 
--- VERIFY_CONNECT: half a second, and then a second
-abbrev seconds : ℕ → ℕ
-seconds zero = 500
-seconds (suc j) = 1000
-
-at-seconds : (j : ℕ) → at seconds (suc j) ≡ 500 + j * 1000
-at-seconds zero = refl
-at-seconds (suc j) = let e = at-seconds j in omega arith
-
-seconds-some : (j : ℕ) → 0 < seconds j
-seconds-some zero = omega arith
-seconds-some (suc j) = omega arith
-
 asking-plan : (start offset : ℕ) (offer : Offer) (limits : Limits) (now extra : ℕ) → 31500 + 7 * (extra + 1) < 2 ^ 32 → Plan (attempt_of Asks (connecting start offset offer limits) (asking start offset offer limits) now) extra 5 31500
 asking-plan start offset offer limits now extra close = record {
   wait = doubled;
@@ -242,32 +228,6 @@ asking-plan start offset offer limits now extra close = record {
     twice : (m : ℕ) → 2 * m ≤ 4294967295 → max m (min (2 * m) 4294967295) ≡ 2 * m
     twice m h = grind arith
 
-replying-plan : (start : ℕ) (offsets : Offsets) (offer : Offer) (server : Server) (limits : Limits) (now extra : ℕ) → start ≤ now → now ≤ start + (extra + 1) → 31500 + 9 * (extra + 1) < 2 ^ 32
-    → Plan (attempt_of Answers (answering (start % 2 ^ 32) offsets offer server limits) (replying (start % 2 ^ 32) offsets offer server limits) now) extra 7 7500
-replying-plan start offsets offer server limits now extra up down close = record {
-  wait = seconds;
-  few = omega arith;
-  begins = refl;
-  some = seconds-some;
-  grows = λ j low. grown j;
-  near = λ j low. (let x = at-seconds j in let y = times j 7 1000 low in let z = times (suc j) 8 extra (omega arith) in omega arith);
-  within = λ j low. (let x = at-seconds j in let y = times j 7 1000 low in let z = times j 7 extra low in omega arith);
-  ends = λ later last t attempts wait since_first since_last by early over. (
-      let heard : elapsed_time (later % 2 ^ 32) (start % 2 ^ 32) ≡ later - start = elapsed-is start later (omega arith) (omega arith) in
-      let often : leb 32 (2 ^ (t.attempts - 1)) ≡ true = ap (λ m. leb 32 (2 ^ (m - 1))) attempts in
-      let long : leb (elapsed_time (later % 2 ^ 32) t.last + t.timeout + 5000) (since_later (later % 2 ^ 32) t.first (start % 2 ^ 32)) ≡ true =
-      le-true (elapsed_time (later % 2 ^ 32) t.last + t.timeout + 5000) (since_later (later % 2 ^ 32) t.first (start % 2 ^ 32))
-      (lesser (elapsed_time (later % 2 ^ 32) t.first) (elapsed_time (later % 2 ^ 32) (start % 2 ^ 32)) (elapsed_time (later % 2 ^ 32) t.last + t.timeout + 5000) (omega arith) (omega arith)) in
-      or-true (leb 30000 (elapsed_time (later % 2 ^ 32) t.first)) _ (λ i. often i && long i));
-}
-  where
-    grown : (j : ℕ) → max (seconds j) (min (2 * seconds j) 1000) ≡ 1000
-    grown zero = refl
-    grown (suc j) = refl
-
-    lesser : (x y m : ℕ) → m ≤ x → m ≤ y → m ≤ min x y
-    lesser x y m h k = grind arith
-
 pub asking-lasts : (offset : ℕ) (offer : Offer) (limits : Limits) → LastsFor state.Connecting (λ start. connecting start offset offer limits) 31500 5
 asking-lasts offset offer limits extra start now moments q close up down turns =
     let p = asking-plan (start % 2 ^ 32) offset offer limits now extra (omega arith) in
@@ -276,10 +236,37 @@ asking-lasts offset offer limits extra start now moments q close up down turns =
     let last = begun-goes (Tried a extra 5 31500 p) Asks (connecting (start % 2 ^ 32) offset offer limits) b (extra + 1) now moments q (tried-course a extra 5 31500 p) turns in
     tried-ends a extra 5 31500 p (last_of now moments) last.0 last.1 last.2
 
-pub answering-lasts : (offsets : Offsets) (offer : Offer) (server : Server) (limits : Limits) → LastsFor state.Answering (λ start. answering start offsets offer server limits) 7500 7
+-- VERIFY_CONNECT: for less than so long a server waits for its client, however often its answer goes or is held back
+abbrev Brief : ℕ → ℕ → Transmission → Type 0
+Brief first now t = (t.first ≡ first % 2 ^ 32) × (first ≤ now) × (now < first + 7500)
+
+brief-course : (gap first : ℕ) (p : Peering) (b : Begins Answers p) → 7500 + gap < 2 ^ 32 → Course (Brief first) (attempt_of Answers p b first) gap
+brief-course gap first p b near = record {
+  begins = (refl, omega arith, omega arith);
+  again = λ now t w due. w;
+  marks = λ before now t w waits up down lives waited. (let k = late before now t w up down waited in (marked-first (bound_of (attempt_of Answers p b first)) (now % 2 ^ 32) t ∙ w.0, k.0, k.1));
+}
+  where
+    marked-first : (bound n : ℕ) (t : Transmission) → (transmission.marked bound n t).first ≡ t.first
+    marked-first bound n t = elim (transmission.is_late n t) as (λ b. (cond b (record t { timeout = transmission.grown_time bound t.timeout; due = true }) t).first ≡ t.first) [ true ↦ refl | false ↦ refl ]
+
+    late : (before now : ℕ) (t : Transmission) → Brief first before t → before ≤ now → now ≤ before + gap → leb 7500 (elapsed_time (now % 2 ^ 32) t.first) ≡ false → (first ≤ now) × (now < first + 7500)
+    late before now t w up down waited =
+        let low = w.1 in
+        let soon = w.2 in
+        let since : elapsed_time (now % 2 ^ 32) t.first ≡ now - first = ap (elapsed_time (now % 2 ^ 32)) w.0 ∙ elapsed-is first now (omega arith) (omega arith) in
+        let x = lt-of 7500 (elapsed_time (now % 2 ^ 32) t.first) waited in
+        (omega arith, omega arith)
+
+brief-turns : (gap now : ℕ) (moments : List ℕ) (p q : Peering) → Begins Answers p → 7500 + gap < 2 ^ 32 → Turns state.Answering gap now p moments q → last_of now moments < now + 7500
+brief-turns gap now moments p q b near turns = (let last = begun-goes (Brief now) Answers p b gap now moments q (brief-course gap now p b near) turns in let w = last.2 in w.2)
+
+pub answering-ends : (start : ℕ) (offsets : Offsets) (offer : Offer) (server : Server) (limits : Limits) → LastsAtMost state.Answering (answering start offsets offer server limits) 7500
+answering-ends start offsets offer server limits gap now moments q near turns =
+    let x = brief-turns gap now moments (answering start offsets offer server limits) q (replying start offsets offer server limits) near turns in
+    omega arith
+
+pub answering-lasts : (offsets : Offsets) (offer : Offer) (server : Server) (limits : Limits) → LastsFor state.Answering (λ start. answering start offsets offer server limits) 7500 0
 answering-lasts offsets offer server limits extra start now moments q close up down turns =
-    let p = replying-plan start offsets offer server limits now extra up down (omega arith) in
-    let b = replying (start % 2 ^ 32) offsets offer server limits in
-    let a : Attempt = attempt_of Answers (answering (start % 2 ^ 32) offsets offer server limits) b now in
-    let last = begun-goes (Tried a extra 7 7500 p) Answers (answering (start % 2 ^ 32) offsets offer server limits) b (extra + 1) now moments q (tried-course a extra 7 7500 p) turns in
-    tried-ends a extra 7 7500 p (last_of now moments) last.0 last.1 last.2
+    let x = brief-turns (extra + 1) now moments (answering (start % 2 ^ 32) offsets offer server limits) q (replying (start % 2 ^ 32) offsets offer server limits) (omega arith) turns in
+    omega arith

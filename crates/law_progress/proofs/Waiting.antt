@@ -15,7 +15,7 @@ use Rattle.enet_rtt.specs.Transmission as transmission
 use Rattle.enet_rtt.specs.Expiry.{gives_up}
 use Rattle.enet_rtt.specs.declared.transmission.Transmission.{Transmission}
 use Rattle.enet_rtt.specs.declared.expiry.Patience.{Patience}
-use Rattle.enet_rtt.specs.declared.expiry.Expiry.TheVariants.{No, Resend, End}
+use Rattle.enet_rtt.specs.declared.expiry.Expiry.{Expiry}
 use Rattle.enet_connect.specs.declared.terms.Terms.{Terms}
 use Rattle.enet_connect.specs.declared.server.Server.{Server}
 use Rattle.enet_connect.specs.Verification.{confirmed}
@@ -37,7 +37,7 @@ use Rattle.enet_inbox.specs.DataEffect.{DataEffect, arrival, passed_over}
 use Rattle.enet_outbox.specs.declared.parts.Matched.{Matched}
 use Rattle.enet_outbox.specs.declared.parts.Matched.TheVariants as matched
 use Rattle.enet_outbox.specs.declared.parts.Pace.{Pace}
-use Rattle.enet_outbox.specs.Outbox.{Outbox, matched_by, has_ended, has_late, marked_sender, cleared_sender, after_acknowledgement}
+use Rattle.enet_outbox.specs.Outbox.{Outbox, matched_by, marked_sender, cleared_sender, after_acknowledgement}
 use Rattle.enet_outbox.specs.Outbox as outbox
 use Rattle.enet_outbox.specs.Emission.{filled}
 use Rattle.enet_outbox.proofs.Filled.{by-filling}
@@ -49,11 +49,12 @@ use Rattle.enet_peer.specs.Peering.{Peering, joined, connecting, answering}
 use Rattle.enet_peer.specs.Endings.{ended, freed, parting, settled, disconnecting, is_later, cut_off_in}
 use Rattle.enet_peer.proofs.Obeying.{unless-holds, unwelcomed-holds}
 use Rattle.enet_peer.specs.CommandEffect.{obeyed, unless_refused, stopped, is_allowed, is_connect, by_body, by_answer, by_arrival, on_data, answered, answered_at, is_answered_in, is_connecting, on_acknowledge, on_match, sampled, with_answer, on_verify_in, welcomed, on_disconnect_in, on_last_disconnect, on_bandwidth, on_throttle}
-use Rattle.enet_peer.specs.Calls.{Leave, AtOnce, TellsOnce, Asks, AsksLater, Refused, left, submitted, pace_of, gone_on_in, ticked, pinged, is_pinged, after_timeouts_by, growth_bound, next_event, event_after, packet_event, last_event}
+use Rattle.enet_peer.specs.Calls.{Leave, AtOnce, TellsOnce, Asks, AsksLater, Refused, left, submitted, pace_of, gone_on_in, held_back, moved, ticked, pinged, is_pinged, after_timeouts_by, growth_bound, next_event, event_after, packet_event, last_event}
 use Rattle.law_progress.specs.Attempts.{Hears, PutsOut, Takes, after_take, last_of}
 use Rattle.law_progress.specs.Waits.{Deed, Lives, Submits, Leaves, after_leave, after_deed, after_deeds, has_due, Moment, Moments, WaitAtMost, NoneWaitsLonger}
+use Rattle.law_progress.proofs.Moving.{Lasting, by-expiry, by-moved}
 use Rattle.law_progress.proofs.PutsOut.{found-passes}
-use Rattle.law_progress.proofs.Timed.{Timed, timed-begun, timed-again, timed-marked, timed-elapsed}
+use Rattle.law_progress.proofs.Timed.{Timed, timed-begun, timed-again, timed-marked, timed-stays, timed-elapsed}
 
 pub or-both : (a b : Bool) → (a || b) ≡ false → (a ≡ false) × (b ≡ false)
 or-both true b e = absurd (cc)
@@ -458,9 +459,9 @@ patient : (most n heard : ℕ) (pt : Patience) (t : Transmission) → pt.maximum
 patient most n heard pt t same e late =
     ap (λ m. leb m (elapsed_time n t.first)) (sym same) ∙ (or-both (leb pt.maximum (elapsed_time n t.first)) _ (ap (λ b. b && gives_up pt n heard t) (sym late) ∙ e)).0
 
-pub tick-fair : (Q : ℕ → Type 0) (most before now gap : ℕ) (p : Peering) → Fair (GoesFrom Q most before) most p → Each Rests p.outbox.control.sent p.outbox.senders → before ≤ now → now ≤ before + gap → 5000 + 2 * most + gap < 2 ^ 32
-    → Fair (GoesFrom Q most now) most (ticked p (now % 2 ^ 32))
-tick-fair Q most before now gap p h rests up down near = go (has_ended p.outbox n p.patience p.heard) refl (has_late p.outbox n) refl
+pub tick-fair : (Q : ℕ → Type 0) (most before now gap : ℕ) (short : Bool) (p : Peering) → Fair (GoesFrom Q most before) most p → Each Rests p.outbox.control.sent p.outbox.senders → before ≤ now → now ≤ before + gap → 5000 + 2 * most + gap < 2 ^ 32
+    → Fair (GoesFrom Q most now) most (moved short p (now % 2 ^ 32))
+tick-fair Q most before now gap short p h rests up down near = by-moved (λ (x : Peering). Fair (GoesFrom Q most now) most x) short p n tick held
   where
     n : ℕ
     n = now % 2 ^ 32
@@ -468,15 +469,19 @@ tick-fair Q most before now gap p h rests up down near = go (has_ended p.outbox 
     goes : (bound : ℕ) (t : Transmission) → GoesFrom Q most before t → t.due ≡ false → transmission.ends n p.patience p.heard t ≡ false → GoesFrom Q most now (transmission.marked bound n t)
     goes bound t g waits e = (g.0, timed-marked g.0 5000 most before now bound t g.1 waits up (let x = g.1 in let y = x.in_time in omega arith) (λ late. patient most n p.heard p.patience t h.2 e late), g.2)
 
-    ends-controls : has_ended p.outbox n p.patience p.heard ≡ false → (t : SentControl) → Has p.outbox.control.sent t → transmission.ends n p.patience p.heard t.transmission ≡ false
-    ends-controls e t k = none-of (controlling.ends n p.patience p.heard) p.outbox.control.sent t (or-both (list_any (controlling.ends n p.patience p.heard) p.outbox.control.sent) _ e).0 k
+    -- it stays as it is, late or not
+    keeps : (t : Transmission) → GoesFrom Q most before t → t.due ≡ false → transmission.ends n p.patience p.heard t ≡ false → GoesFrom Q most now t
+    keeps t g waits e = (g.0, timed-stays g.0 5000 most before now t g.1 waits up (let x = g.1 in let y = x.in_time in omega arith) (λ late. patient most n p.heard p.patience t h.2 e late), g.2)
 
-    ends-channels : has_ended p.outbox n p.patience p.heard ≡ false → (s : SendingEnd) → Has p.outbox.senders s → (t : Sent) → Has s.sender.sent t → transmission.ends n p.patience p.heard t.transmission ≡ false
+    ends-controls : Lasting p n → (t : SentControl) → Has p.outbox.control.sent t → transmission.ends n p.patience p.heard t.transmission ≡ false
+    ends-controls e t k = none-of (controlling.ends n p.patience p.heard) p.outbox.control.sent t (or-both (list_any (controlling.ends n p.patience p.heard) p.outbox.control.sent) _ e.0).0 k
+
+    ends-channels : Lasting p n → (s : SendingEnd) → Has p.outbox.senders s → (t : Sent) → Has s.sender.sent t → transmission.ends n p.patience p.heard t.transmission ≡ false
     ends-channels e s k t j =
         none-of (sender.ends n p.patience p.heard) s.sender.sent t
-        (none-of (λ (x : SendingEnd). list_any (sender.ends n p.patience p.heard) x.sender.sent) p.outbox.senders s (or-both (list_any (controlling.ends n p.patience p.heard) p.outbox.control.sent) _ e).1 k) j
+        (none-of (λ (x : SendingEnd). list_any (sender.ends n p.patience p.heard) x.sender.sent) p.outbox.senders s (or-both (list_any (controlling.ends n p.patience p.heard) p.outbox.control.sent) _ e.0).1 k) j
 
-    marks : (bound : ℕ) → has_ended p.outbox n p.patience p.heard ≡ false → Fair (GoesFrom Q most now) most (record p { outbox = outbox.marked p.outbox bound n })
+    marks : (bound : ℕ) → Lasting p n → Fair (GoesFrom Q most now) most (record p { outbox = outbox.marked p.outbox bound n })
     marks bound e = (
       (
         (λ t k. (let c = Has-mapped (controlling.marked bound n) p.outbox.control.sent t k in
@@ -489,21 +494,28 @@ tick-fair Q most before now gap p h rests up down near = go (has_ended p.outbox 
       h.2,
     )
 
-    -- nothing is late: all stays as it was
-    same : (t : Transmission) → transmission.is_late n t ≡ false → transmission.marked 0 n t ≡ t
-    same t e = ap (λ b. cond b (record t { timeout = transmission.grown_time 0 t.timeout; due = true }) t) e
+    -- nothing is marked: all stays as it was
+    still : Lasting p n → Fair (GoesFrom Q most now) most p
+    still e = (((λ t k. keeps t.transmission (h.0.0 t k) (rests.0 t k) (ends-controls e t k)), (λ s k t j. keeps t.transmission (h.0.1 s k t j) (rests.1 s k t j) (ends-channels e s k t j))), h.1, h.2)
 
-    stays : has_ended p.outbox n p.patience p.heard ≡ false → has_late p.outbox n ≡ false → Fair (GoesFrom Q most now) most p
-    stays e f = (let both = or-both (list_any (controlling.is_late n) p.outbox.control.sent) _ f in (
+    -- an answer that is late counts as tried
+    one-held : (bound : ℕ) (t : SentControl) (b : Bool) → transmission.is_late n t.transmission ≡ b → GoesFrom Q most before t.transmission → t.transmission.due ≡ false → transmission.ends n p.patience p.heard t.transmission ≡ false
+        → GoesFrom Q most now (cond b (record t { transmission = transmission.again n (transmission.marked bound n t.transmission) }) t).transmission
+    one-held bound t false late g waits e = keeps t.transmission g waits e
+    one-held bound t true late g waits e =
+        let k = goes bound t.transmission g waits e in
+        (k.0, timed-again k.0 5000 most now (transmission.marked bound n t.transmission) k.1 (ap (λ b. (cond b (record t.transmission { timeout = transmission.grown_time bound t.transmission.timeout; due = true }) t.transmission).due) late), k.2)
+
+    held : p.state ≡ state.Answering → Lasting p n → Fair (GoesFrom Q most now) most (held_back p n)
+    held answers e = (
       (
-        (λ t k. subst (λ (x : Transmission). GoesFrom Q most now x) (same t.transmission (none-of (controlling.is_late n) p.outbox.control.sent t both.0 k)) (goes 0 t.transmission (h.0.0 t k) (rests.0 t k) (ends-controls e t k))),
-        (λ s k t j. subst (λ (x : Transmission). GoesFrom Q most now x)
-            (same t.transmission (none-of (sender.is_late n) s.sender.sent t (none-of (λ (x : SendingEnd). list_any (sender.is_late n) x.sender.sent) p.outbox.senders s both.1 k) j))
-            (goes 0 t.transmission (h.0.1 s k t j) (rests.1 s k t j) (ends-channels e s k t j))),
+        (λ t k. (let c = Has-mapped (controlling.held_back (growth_bound p) n) p.outbox.control.sent t k in
+            subst (λ (x : SentControl). GoesFrom Q most now x.transmission) c.2 (one-held (growth_bound p) c.0 (transmission.is_late n c.0.transmission) refl (h.0.0 c.0 c.1) (rests.0 c.0 c.1) (ends-controls e c.0 c.1)))),
+        (still e).0.1,
       ),
       h.1,
       h.2,
-    ))
+    )
 
     cut : (s : PeerState) → Fair (GoesFrom Q most now) most (cut_off_in s p)
     cut state.Answering = (((λ t k. absurd k), none-cleared (GoesFrom Q most now) p.outbox.senders), h.1, h.2)
@@ -516,10 +528,9 @@ tick-fair Q most before now gap p h rests up down near = go (has_ended p.outbox 
         by true = k
         by false = k
 
-    go : (e : Bool) → has_ended p.outbox n p.patience p.heard ≡ e → (late : Bool) → has_late p.outbox n ≡ late → Fair (GoesFrom Q most now) most (pinged (after_timeouts_by (cond e End (cond late Resend No)) p n) n)
-    go true e late f = pings (cut_off_in p.state p) (cut p.state)
-    go false e true f = pings (record p { outbox = outbox.marked p.outbox (growth_bound p) n }) (marks (growth_bound p) e)
-    go false e false f = pings p (stays e f)
+    tick : Fair (GoesFrom Q most now) most (ticked p n)
+    tick = by-expiry (λ (e : Expiry). Fair (GoesFrom Q most now) most (pinged (after_timeouts_by e p n) n)) p n
+        (pings (cut_off_in p.state p) (cut p.state)) (λ e f. pings (record p { outbox = outbox.marked p.outbox (growth_bound p) n }) (marks (growth_bound p) e)) (λ e f. pings p (still e))
 
 -- moment after moment
 abbrev pub Ready : ℕ → ℕ → Peering → Type 0
@@ -527,7 +538,7 @@ Ready most now q = Fair (Goes most now) most q × Each Rests q.outbox.control.se
 
 moment-ready : (most before now gap : ℕ) (p q : Peering) → Ready most before p → before ≤ now → now ≤ before + gap → 5000 + 2 * most + gap < 2 ^ 32 → Moment now p q → Ready most now q
 moment-ready most before now gap p q r up down near m = (
-  subst (λ (x : Peering). Fair (Goes most now) most x) (sym m.after) (fair-deeds most now (ticked p (now % 2 ^ 32)) m.deeds (tick-fair (λ first. Unit {0}) most before now gap p r.0 r.1 up down near)),
+  subst (λ (x : Peering). Fair (Goes most now) most x) (sym m.after) (fair-deeds most now (moved m.short p (now % 2 ^ 32)) m.deeds (tick-fair (λ first. Unit {0}) most before now gap m.short p r.0 r.1 up down near)),
   rest-of q.outbox m.resent,
 )
 

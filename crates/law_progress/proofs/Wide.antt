@@ -15,7 +15,7 @@ use Rattle.enet_senders.specs.declared.control.Control.TheVariants as control
 use Rattle.enet_inbox.specs.DataEffect.{DataEffect, arrival, passed_over}
 use Rattle.enet_outbox.specs.declared.parts.Matched.{Matched}
 use Rattle.enet_outbox.specs.declared.parts.Matched.TheVariants as matched
-use Rattle.enet_outbox.specs.Outbox.{matched_by, after_acknowledgement, lateness}
+use Rattle.enet_outbox.specs.Outbox.{matched_by, after_acknowledgement}
 use Rattle.enet_outbox.specs.Outbox as outbox
 use Rattle.enet_peer.specs.declared.parts.PeerState.{PeerState}
 use Rattle.enet_peer.specs.declared.parts.PeerState.TheVariants as state
@@ -23,9 +23,10 @@ use Rattle.enet_peer.specs.Peering.{Peering}
 use Rattle.enet_peer.specs.Endings.{settled, disconnecting, is_later, freed, cut_off_in}
 use Rattle.enet_peer.proofs.Obeying.{unless-holds, unwelcomed-holds}
 use Rattle.enet_peer.specs.CommandEffect.{obeyed, unless_refused, stopped, is_allowed, is_connect, by_body, by_answer, by_arrival, on_data, answered, answered_at, is_answered_in, is_connecting, on_acknowledge, on_match, sampled, with_answer, on_verify_in, welcomed, on_disconnect_in, on_last_disconnect, on_bandwidth, on_throttle}
-use Rattle.enet_peer.specs.Calls.{Leave, AtOnce, TellsOnce, Asks, AsksLater, Refused, left, gone_on_in, ticked, pinged, is_pinged, after_timeouts_by, growth_bound, next_event, event_after, packet_event, last_event}
+use Rattle.enet_peer.specs.Calls.{Leave, AtOnce, TellsOnce, Asks, AsksLater, Refused, left, gone_on_in, expiry_of, moved, ticked, pinged, is_pinged, after_timeouts_by, growth_bound, next_event, event_after, packet_event, last_event}
 use Rattle.law_progress.specs.Attempts.{after_take}
 use Rattle.law_progress.specs.Waits.{after_leave}
+use Rattle.law_progress.proofs.Moving.{by-moved}
 
 abbrev pub IsWide : Peering → Type 0
 IsWide p = 576 ≤ p.terms.mtu
@@ -162,7 +163,7 @@ wide-left p AsksLater info h = wide-settled (record p { state = state.Disconnect
 wide-left p Refused info h = h
 
 pub wide-ticked : (p : Peering) (n : ℕ) → IsWide p → IsWide (ticked p n)
-wide-ticked p n h = by (lateness p.outbox n p.patience p.heard)
+wide-ticked p n h = by (expiry_of p n)
   where
     cut : (s : PeerState) → IsWide (cut_off_in s p)
     cut state.Answering = h
@@ -179,3 +180,6 @@ wide-ticked p n h = by (lateness p.outbox n p.patience p.heard)
     by End = pings (cut_off_in p.state p) (cut p.state)
     by Resend = pings (record p { outbox = outbox.marked p.outbox (growth_bound p) n }) h
     by No = pings p h
+
+pub wide-moved : (short : Bool) (p : Peering) (n : ℕ) → IsWide p → IsWide (moved short p n)
+wide-moved short p n h = by-moved IsWide short p n (wide-ticked p n h) (λ answers lasts. h)

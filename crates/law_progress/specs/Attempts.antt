@@ -1,13 +1,13 @@
 -- How long an attempt to connect or to disconnect lasts, whatever comes. Times are in milliseconds, on a clock that doesn't wrap; the
 -- peer's own shows its remainder modulo 2^32.
-use Rattle.std.specs.Prelude.{◌≡◌, ℕ, ◌+◌, ◌*◌, ◌%◌, ◌^◌, ◌<◌, ◌≤◌, List, [], ◌∷◌, Option, Some, None, ◌⊎◌}
+use Rattle.std.specs.Prelude.{◌≡◌, Bool, ℕ, ◌+◌, ◌*◌, ◌%◌, ◌^◌, ◌<◌, ◌≤◌, List, [], ◌∷◌, Option, Some, None, ◌⊎◌}
 use Rattle.enet_codec.specs.Message.{Message}
 use Rattle.enet_outbox.specs.Emission.{filled}
 use Rattle.enet_peer.specs.declared.parts.PeerState.{PeerState}
 use Rattle.enet_peer.specs.declared.parts.PeerState.TheVariants as state
 use Rattle.enet_peer.specs.Peering.{Peering}
 use Rattle.enet_peer.specs.CommandEffect.{obeyed}
-use Rattle.enet_peer.specs.Calls.{Taken, pace_of, gone_on, ticked, next_event}
+use Rattle.enet_peer.specs.Calls.{Taken, pace_of, gone_on, moved, next_event}
 
 -- what can happen at a peer between two moments of its clock
 pub data Step : Type 0 where
@@ -29,11 +29,13 @@ abbrev pub Stays : PeerState → ℕ → List Step → Peering → Peering → T
 Stays s now [] p q = (p.state ≡ s) × (p ≡ q)
 Stays s now (step ∷ steps) p q = (p.state ≡ s) × Stays s now steps (after_step now p step) q
 
--- a turn of a peer that stays in a state: its clock comes to a moment, then anything happens, until a datagram would have nothing in it
+-- a turn of a peer that stays in a state: its clock comes to a moment, whether or not its address sent too little for another answer, then
+-- anything happens, until a datagram would have nothing in it
 pub record Turn (s : PeerState) (now : ℕ) (p q : Peering) : Type 0 where
+  pub short : Bool
   pub steps : List Step
   pub last : Peering
-  pub stays : Stays s (now % 2 ^ 32) steps (ticked p (now % 2 ^ 32)) last
+  pub stays : Stays s (now % 2 ^ 32) steps (moved short p (now % 2 ^ 32)) last
   pub spent : (filled (pace_of last (now % 2 ^ 32)) last.outbox).messages ≡ []
   pub after : q ≡ after_step (now % 2 ^ 32) last PutsOut
 
@@ -65,4 +67,4 @@ IsTold p = ((t : Taken) × (next_event p ≡ Some t)) ⊎ (p.state ≡ state.Fre
 -- a peer in this state leaves it, by a step or by a moment that comes, only so that its user is told
 pub record TellsWhenLeft (s : PeerState) : Type 0 where
   pub step : (p : Peering) (now : ℕ) (step : Step) → p.state ≡ s → ((after_step now p step).state ≡ s) ⊎ IsTold (after_step now p step)
-  pub tick : (p : Peering) (now : ℕ) → p.state ≡ s → ((ticked p now).state ≡ s) ⊎ IsTold (ticked p now)
+  pub tick : (short : Bool) (p : Peering) (now : ℕ) → p.state ≡ s → ((moved short p now).state ≡ s) ⊎ IsTold (moved short p now)

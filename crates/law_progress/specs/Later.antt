@@ -1,10 +1,10 @@
 -- How a peer that is to disconnect later comes to do so, whatever comes. Times are in milliseconds, as in Attempts.
-use Rattle.std.specs.Prelude.{◌≡◌, ℕ, ◌+◌, ◌*◌, ◌^◌, ◌<◌, ◌≤◌, List, [], ◌∷◌, length, ◌⊎◌}
+use Rattle.std.specs.Prelude.{◌≡◌, Bool, ℕ, ◌+◌, ◌*◌, ◌^◌, ◌<◌, ◌≤◌, List, [], ◌∷◌, length, ◌⊎◌}
 use Rattle.enet_sender.specs.Due.{SendingEnd}
 use Rattle.enet_outbox.specs.Outbox.{Outbox}
 use Rattle.enet_peer.specs.declared.parts.PeerState.TheVariants as state
 use Rattle.enet_peer.specs.Peering.{Peering}
-use Rattle.enet_peer.specs.Calls.{ticked}
+use Rattle.enet_peer.specs.Calls.{moved}
 use Rattle.law_progress.specs.Attempts.{Step, after_step, Turns, last_of, IsTold}
 use Rattle.law_progress.specs.Waits.{Moments}
 
@@ -34,4 +34,4 @@ IsLeaving p = (p.state ≡ state.Disconnecting) ⊎ (p.state ≡ state.AckDiscon
 -- a peer that is to disconnect later ceases to be so, by a step or by a moment that comes, only so that it is leaving, or its user is told
 pub record LeavesOrTells : Type 0 where
   pub step : (p : Peering) (now : ℕ) (step : Step) → p.state ≡ state.DisconnectLater → ((after_step now p step).state ≡ state.DisconnectLater) ⊎ (IsLeaving (after_step now p step) ⊎ IsTold (after_step now p step))
-  pub tick : (p : Peering) (now : ℕ) → p.state ≡ state.DisconnectLater → ((ticked p now).state ≡ state.DisconnectLater) ⊎ IsTold (ticked p now)
+  pub tick : (short : Bool) (p : Peering) (now : ℕ) → p.state ≡ state.DisconnectLater → ((moved short p now).state ≡ state.DisconnectLater) ⊎ IsTold (moved short p now)

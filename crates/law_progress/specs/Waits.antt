@@ -10,7 +10,7 @@ use Rattle.enet_sender.specs.declared.sent.Sent.{Sent}
 use Rattle.enet_sender.specs.Due.{SendingEnd}
 use Rattle.enet_outbox.specs.Outbox.{Outbox}
 use Rattle.enet_peer.specs.Peering.{Peering}
-use Rattle.enet_peer.specs.Calls.{Leave, left, submitted, ticked}
+use Rattle.enet_peer.specs.Calls.{Leave, left, submitted, moved}
 use Rattle.law_progress.specs.Attempts.{Step, after_step, last_of}
 
 -- what can happen at a peer between two moments of its clock, its user's calls among it
@@ -38,8 +38,9 @@ has_due o = list_any (λ (t : SentControl). t.transmission.due) o.control.sent |
 
 -- the clock comes to a moment, and anything happens, at last nothing being due to go again
 pub record Moment (now : ℕ) (p q : Peering) : Type 0 where
+  pub short : Bool  -- its address may have sent too little for another answer
   pub deeds : List Deed
-  pub after : q ≡ after_deeds (now % 2 ^ 32) (ticked p (now % 2 ^ 32)) deeds
+  pub after : q ≡ after_deeds (now % 2 ^ 32) (moved short p (now % 2 ^ 32)) deeds
   pub resent : has_due q.outbox ≡ false
 
 -- such a moment, and further ones, each at most `gap` after the one before

@@ -31,7 +31,7 @@ ghost use Rattle.enet_sender.specs.CommandChoice.{carried};
 ghost use Rattle.enet_sender.specs.Sender.{left};
 ghost use Rattle.enet_sender.specs.Due.{SendingEnd};
 ghost use Rattle.enet_sender.specs.declared.sent.Sent.{Sent};
-ghost use Rattle.enet_senders.specs.Controlling.{again, begun, message_of as control_message};
+ghost use Rattle.enet_senders.specs.Controlling.{again, begun, held_back, message_of as control_message};
 ghost use Rattle.enet_senders.specs.declared.control.Numbered.{Numbered};
 ghost use Rattle.enet_senders.specs.declared.control.SentControl.{SentControl};
 ghost use Rattle.enet_outbox.specs.declared.parts.Pace.{Pace};
@@ -54,7 +54,7 @@ ghost use Rattle.law_connection.specs.Invariant.{Invariant};
 ghost use Rattle.law_progress.specs.Links.{Waits, AreShort, AllDispatched, IsUp, AreTimed, GetsThrough};
 ghost use Rattle.law_progress.specs.Outboxes.{AreFit, AllFit, NothingMayGo, WaitsForSome, GoOrStay, IsPutOut, AreQuiet, HasNew, AreSome, IsSpent, ready};
 ghost use Rattle.law_progress.specs.Peers.{Awaits, Comes, IsAnswered, IsRemoved, IsHeard, IsTakenAway, TakesIn, WentThen, ControlWentThen};
-ghost use Rattle.law_progress.specs.Counts.{LastCounts};
+ghost use Rattle.law_progress.specs.Counts.{LastCounts, CountsAsBefore};
 ghost use Rattle.law_progress.specs.Settled.{IsSettled};
 ghost use Rattle.law_progress.specs.Delivered.{IsDelivered};
 ghost use Rattle.law_progress.specs.Attempts.{LastsAtMost, LastsFor, TellsWhenLeft};
@@ -160,10 +160,12 @@ pub fn what_waits_is_answered()
 ///
 /// `first`: once it was sent, an acknowledgement counts that repeats the time which its datagram told, so that it takes the command away
 /// (`controls_removed` of `what_waits_is_answered`). `again`: so it is where the command is sent once more, however often it was sent before:
-/// by `first` and `again` it always has places for the times of eight sends. So the last send of VERIFY_CONNECT counts, too.
+/// by `first` and `again` it always has places for the times of eight sends. So the last send of VERIFY_CONNECT counts, too. `held`: where
+/// VERIFY_CONNECT is held back, each of its sends counts as before, and nothing new does, since nothing went.
 pub fn the_last_send_counts()
     ensures first { (now offset timeout : ℕ) (n : Numbered) → LastCounts now offset (begun now timeout n) }
     ensures again { (now offset : ℕ) (t : SentControl) → length t.times.times ≡ 8 → LastCounts now offset (again now t) }
+    ensures held { (bound now : ℕ) (t : SentControl) → CountsAsBefore t (held_back bound now t) }
 {}
 
 /// Two connected peers, in every reached connection, on a channel below 255, where all that the receiving one has to send fits datagrams.
@@ -189,23 +191,24 @@ pub fn acknowledged_was_delivered()
 {}
 
 /// One peer, whatever comes to it: commands of any kind, at any time, from anyone, or none, and whatever it adds to its times and numbers.
-/// Its clock goes on by any steps of less than some 49 days, and at each moment all is put out that may go. Times are in milliseconds.
+/// Its clock goes on by any steps of less than some 49 days, whether or not its address has sent enough for another answer, and at each
+/// moment all is put out that may go. Times are in milliseconds.
 ///
-/// `connecting`, `answering`: a client that asks and a server that has answered stay so for 60,500 at most, from the first moment at which
-/// they put something out, with ENet's default patience. `disconnecting`: so does a peer that has asked for the end, for at most its first
-/// timeout and twice the greatest patience that was set; `acknowledging`, `parting`: one that has to acknowledge the other's DISCONNECT,
-/// and one that leaves by one DISCONNECT which asks for no acknowledgement, no longer than its first turn. `asked`, `answered`: where the
-/// clock goes on by one millisecond at once, the client stays so for less than 31,500, and the server for less than 7,500; for each
-/// millisecond more at once, by 5 and by 7 longer. `told`: a client that asks, a server that has answered and a peer that has asked for the
-/// end cease to be so only so that the user has an event to take, or the peer is free.
+/// `connecting`, `answering`: a client that asks stays so for 60,500 at most, from the first moment at which it puts something out, with
+/// ENet's default patience, and a server that has answered for 7,500. `disconnecting`: so does a peer that has asked for the end, for at
+/// most its first timeout and twice the greatest patience that was set; `acknowledging`, `parting`: one that has to acknowledge the other's
+/// DISCONNECT, and one that leaves by one DISCONNECT which asks for no acknowledgement, no longer than its first turn. `asked`: where the
+/// clock goes on by one millisecond at once, the client stays so for less than 31,500; for each millisecond more at once, by 5 longer.
+/// `answered`: the server does for less than 7,500, however far its clock goes on at once. `told`: a client that asks, a server that has
+/// answered and a peer that has asked for the end cease to be so only so that the user has an event to take, or the peer is free.
 pub fn every_attempt_ends()
     ensures connecting { (start offset : ℕ) (offer : Offer) (limits : Limits) → LastsAtMost state.Connecting (connecting start offset offer limits) 60500 }
-    ensures answering { (start : ℕ) (offsets : Offsets) (offer : Offer) (server : Server) (limits : Limits) → LastsAtMost state.Answering (answering start offsets offer server limits) 60500 }
+    ensures answering { (start : ℕ) (offsets : Offsets) (offer : Offer) (server : Server) (limits : Limits) → LastsAtMost state.Answering (answering start offsets offer server limits) 7500 }
     ensures disconnecting { (p : Peering) (info : ℕ) → LastsAtMost state.Disconnecting (disconnecting p info) (timeout p.estimate + 2 * p.patience.maximum) }
     ensures acknowledging { (p : Peering) → LastsAtMost state.AckDisconnect p 0 }
     ensures parting { (p : Peering) (info : ℕ) → LastsAtMost state.Parting (parting p info) 0 }
     ensures asked { (offset : ℕ) (offer : Offer) (limits : Limits) → LastsFor state.Connecting (λ start. connecting start offset offer limits) 31500 5 }
-    ensures answered { (offsets : Offsets) (offer : Offer) (server : Server) (limits : Limits) → LastsFor state.Answering (λ start. answering start offsets offer server limits) 7500 7 }
+    ensures answered { (offsets : Offsets) (offer : Offer) (server : Server) (limits : Limits) → LastsFor state.Answering (λ start. answering start offsets offer server limits) 7500 0 }
     ensures told { TellsWhenLeft state.Connecting × TellsWhenLeft state.Answering × TellsWhenLeft state.Disconnecting }
 {}
 

@@ -15,7 +15,7 @@ use Rattle.enet_outbox.specs.Emission.{filled}
 use Rattle.enet_peer.specs.Peering.{Peering, joined, connecting, answering}
 use Rattle.enet_peer.specs.declared.parts.Limits.{Limits}
 use Rattle.enet_peer.specs.declared.parts.PeerEvent.{PeerEvent}
-use Rattle.enet_peer.specs.Calls.{pace_of, gone_on, submitted, ticked, next_event}
+use Rattle.enet_peer.specs.Calls.{pace_of, gone_on, submitted, moved, next_event}
 use Rattle.enet_peer.specs.CommandEffect.{obeyed}
 use Rattle.law_connection.specs.LinkSteps.{Has}
 use Rattle.law_connection.specs.Connection.{Put, End, Connection, packets_of}
@@ -31,7 +31,7 @@ use Rattle.law_connection.proofs.Lists.{Has-append_cases, Has-filter, Has-from_f
 use Rattle.law_unsequenced.specs.Unsequenced.{going_unsequenced, come_unsequenced, submitted_by, taken_by, come_by, come_at, come_to, carried, TakenAs, ComeAs, Each}
 use Rattle.law_unsequenced.specs.Law.{AreInTime, AreDistinct, GoesAs, EachSubmitted, IsFair, AreFair, JoinedLaw, AskingLaw}
 use Rattle.law_unsequenced.proofs.Parts.{IsPart, part-front, part-has, part-of_map, each-part, each-map, each-found, pairs-part}
-use Rattle.law_unsequenced.proofs.Staying.{core, Stays, Becomes, packet_in, ticked-stays, left-stays, set-stays, gone_on-stays, obeyed-becomes}
+use Rattle.law_unsequenced.proofs.Staying.{core, Stays, Becomes, packet_in, moved-stays, left-stays, set-stays, gone_on-stays, obeyed-becomes}
 use Rattle.law_unsequenced.proofs.Sending.{IsOne, one-more, SendsAt, Goes, goes-on, goes-emitted, goes-submitted, goes-answered}
 use Rattle.law_unsequenced.proofs.Taking.{Gets, seen_in, untaken_in, gets-more, gets-took, all-dispatched}
 
@@ -134,7 +134,7 @@ out own other new (Come put now sent) f h s =
     let t = k.0 in
     let mtu : (q.terms.mtu ≡ p.terms.mtu) ⊎ (own.submitted ≡ []) = elim b.mtu [ inl same ↦ inl same | inr young ↦ (let y = t.young young in inr y.0) ] in
     subst (GoesTo own) (sym h.3) (goes-on own own.log p q h.1 mtu b.group b.waiting (λ x u there c. inl there) s)
-out own other new (Tick now) f h s = subst (GoesTo own) (sym h.2) (goes-staying own h.0 (ticked h.0 now) h.1 (ticked-stays h.0 now) s)
+out own other new (Tick now) f h s = subst (GoesTo own) (sym h.3) (goes-staying own h.0 (moved h.2 h.0 now) h.1 (moved-stays h.2 h.0 now) s)
 out own other new Take f h s = subst (GoesTo own) (sym h.5) (goes-took own h.0 h.1 h.2 h.3 h.4 s)
 out own other new (Disconnect way info) f h s = subst (GoesTo own) (sym h.4) (goes-staying own h.0 h.1 h.2 (left-stays h.0 h.1 way info h.3) s)
 out own other new (Set setting) f h s = subst (GoesTo own) (sym h.3) (goes-staying own h.0 (with_setting setting h.0) h.1 (set-stays h.0 setting) s)
@@ -166,7 +166,7 @@ into own other new (Come put now sent) come f h g =
     let p : Peering = h.0 in
     let b = coming own p put now sent h.1 f in
     subst (GetsTo (come ++ carried put.message)) (sym h.3) (gets-more come (carried put.message) own.events (Some p) (obeyed p now sent put.message).after b.comes (with-peer come own (Some p) h.1 g))
-into own other new (Tick now) come f h g = subst (GetsTo (come ++ [])) (sym h.2) (gets-staying come own h.0 (ticked h.0 now) h.1 (ticked-stays h.0 now) g)
+into own other new (Tick now) come f h g = subst (GetsTo (come ++ [])) (sym h.3) (gets-staying come own h.0 (moved h.2 h.0 now) h.1 (moved-stays h.2 h.0 now) g)
 into own other new Take come f h g =
     subst (GetsTo (come ++ [])) (sym h.5) (subst (λ l. Gets l (own.events ++ h.2 ∷ []) (Some h.1)) (sym (append-nil come)) (gets-took come own.events h.0 h.1 h.2 h.4 (with-peer come own (Some h.0) h.3 g)))
 into own other new (Disconnect way info) come f h g = subst (GetsTo (come ++ [])) (sym h.4) (gets-staying come own h.0 h.1 h.2 (left-stays h.0 h.1 way info h.3) g)

@@ -35,7 +35,7 @@ use Rattle.enet_sender.specs.Due.{SendingEnd}
 use Rattle.enet_outbox.specs.declared.parts.Matched.{Matched}
 use Rattle.enet_outbox.specs.declared.parts.Matched.TheVariants as matched
 use Rattle.enet_outbox.specs.declared.parts.Unsequenced.{Unsequenced}
-use Rattle.enet_outbox.specs.Outbox.{Outbox, after_acknowledgement, acknowledged_on, is_done, matched_by, has_ended, has_late, lateness}
+use Rattle.enet_outbox.specs.Outbox.{Outbox, after_acknowledgement, acknowledged_on, is_done, matched_by, has_ended, has_late}
 use Rattle.enet_outbox.specs.Outbox as outbox
 use Rattle.enet_peer.specs.Peering.{Peering}
 use Rattle.enet_peer.specs.declared.parts.PeerState.{PeerState}
@@ -43,7 +43,7 @@ use Rattle.enet_peer.specs.declared.parts.PeerState.TheVariants as state
 use Rattle.enet_peer.specs.Endings.{ended, freed, disconnecting, parting, settled, is_later, cut_off_in}
 use Rattle.enet_peer.specs.CommandEffect.{Outcome, answered, answered_at, is_answered_in, is_allowed, obeyed, unless_refused, by_body, by_answer, by_arrival, on_data, stopped, sampled, with_answer, on_match, accepted, is_connecting, on_acknowledge, welcomed, on_verify_in, on_last_disconnect, on_disconnect_in, on_bandwidth, on_throttle}
 use Rattle.enet_peer.proofs.Obeying.{unless-holds, unwelcomed-holds}
-use Rattle.enet_peer.specs.Calls.{left, after_timeouts, after_timeouts_by, is_pinged, ticked, is_connected, gone_on, gone_on_in}
+use Rattle.enet_peer.specs.Calls.{left, after_timeouts, after_timeouts_by, expiry_of, held_back, is_held_back, is_pinged, moved, ticked, is_connected, gone_on, gone_on_in}
 use Rattle.law_connection.proofs.GivingWay.{sequenced-given_up}
 use Rattle.law_connection.proofs.Runs.{get-map}
 use Rattle.law_connection.specs.LinkSteps.{Has}
@@ -117,18 +117,21 @@ cut_off-stays p state.Answering = stays-forgotten (core p)
 cut_off-stays p s = stays-cleared (core p)
 
 timeouts-stay : (p : Peering) (now : ℕ) → StaysAt p (after_timeouts p now)
-timeouts-stay p now = by (lateness p.outbox now p.patience p.heard)
+timeouts-stay p now = by (expiry_of p now)
   where
     by : (x : Expiry) → StaysAt p (after_timeouts_by x p now)
     by Ends = cut_off-stays p p.state
     by Resend = stays (core p)
     by No = stays (core p)
 
-pub ticked-stays : (p : Peering) (now : ℕ) → StaysAt p (ticked p now)
+ticked-stays : (p : Peering) (now : ℕ) → StaysAt p (ticked p now)
 ticked-stays p now =
     let q : Peering = after_timeouts p now in
     let h : StaysAt p q = timeouts-stay p now in
     if-peer (StaysAt p) (is_pinged q now) (record q { outbox = outbox.with_control q.outbox control.Ping }) q h h
+
+pub moved-stays : (short : Bool) (p : Peering) (now : ℕ) → StaysAt p (moved short p now)
+moved-stays short p now = if-peer (StaysAt p) (is_held_back short p now) (held_back p now) (ticked p now) (stays (core p)) (ticked-stays p now)
 
 -- the user ends the connection
 

@@ -1,5 +1,5 @@
 -- Sets of slots.
-use Rattle.std.specs.Prelude.{◌≡◌, ℕ, ◌<◌, Bool, false, List, length, get_or}
+use Rattle.std.specs.Prelude.{◌≡◌, ℕ, ◌<◌, Bool, true, false, List, length, get_or}
 use Rattle.enet_deadlines.specs.Sets.{IsIn}
 use Rattle.enet_slot.specs.Slot.{SlotState}
 use Rattle.enet_codec.specs.declared.address.Addr.{Addr}
@@ -17,3 +17,7 @@ NoneOf generations slots set end = (i : ℕ) → i < end → IsIn set i → is_a
 -- none of them holds the connection of an offer
 abbrev pub KnownNowhere : Addr → ℕ → List SlotState → List Bool → Type 0
 KnownNowhere from word slots set = (i : ℕ) → IsIn set i → is_connection from word (get_or slots i unused_slot) ≡ false
+
+-- this one does
+abbrev pub KnownAt : Addr → ℕ → List SlotState → ℕ → Type 0
+KnownAt from word slots i = (i < length slots) × (is_connection from word (get_or slots i unused_slot) ≡ true)

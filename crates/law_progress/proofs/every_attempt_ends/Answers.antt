@@ -1,8 +1,8 @@
-use Rattle.law_progress.proofs.Attempts.{Asks, Answers, Leaves, asking-ends, answering-ends, leaving-ends}
+use Rattle.law_progress.proofs.Attempts.{Asks, Answers, Leaves, asking-ends, leaving-ends}
 use Rattle.law_progress.proofs.Told.{told}
 use Rattle.law_progress.proofs.PartingEnds.{parting-ends}
 use Rattle.law_progress.proofs.Acknowledging.{acknowledging-ends}
-use Rattle.law_progress.proofs.Tries.{asking-lasts, answering-lasts}
+use Rattle.law_progress.proofs.Tries.{asking-lasts, answering-ends, answering-lasts}
 use Rattle.law_progress.proofs.every_attempt_ends.Goals as goal
 
 pub returns-clause-connecting : goal.returns-clause-connecting

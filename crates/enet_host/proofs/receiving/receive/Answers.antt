@@ -1,10 +1,11 @@
-use Rattle.std.proofs.Common.{List, arith, sym, subst}
+use Rattle.std.proofs.Common.{List, length, arith, refl, sym, subst}
 use Rattle.enet_codec.specs.declared.event.Received.{Received}
 use Rattle.enet_host.specs.Receiving.{Arrives, unreadable, no_offer, offered, turned_away}
+use Rattle.enet_host.specs.Receiving as receiving
 use Rattle.enet_slot.specs.declared.slot.Slot.{Slot}
 use Rattle.enet_slot.specs.Giving.{basis_of}
 use Rattle.enet_slot.specs.Slotted.{all_shown}
-use Rattle.enet_host.proofs.Receptions.{refused-in, heard-at, keeps-heard}
+use Rattle.enet_host.proofs.Receptions.{refused-in, heard-at, keeps-heard, credits-heard, credits-offered}
 use Rattle.enet_sleepers.specs.Sleeping.{KeepsOthers}
 use Rattle.enet_host.proofs.receiving.receive.Goals as goal
 
@@ -23,11 +24,11 @@ returns-in-None-clause-arrives c =
     subst (λ (a : Received). Arrives (record { basis = basis_of c.args.start.now; slots = all_shown c.args.slots.now.items }) c.args.from c.args.bytes.now a (all_shown c.args.slots.now.items)) (sym c.stopped-in-None.ensures)
     (no_offer c.in-Ok.found.0 c.in-Ok.found.1.now c.in-Ok.ensures.read c.if-header-eq-NO_PEER.true c.in-None.ensures.none)
 
-pub returns-in-Some-refused_by-clause-arrives : goal.returns-in-Some-refused_by-clause-arrives
-returns-in-Some-refused_by-clause-arrives c =
-    subst (λ (a : Received). Arrives (record { basis = basis_of c.args.start.now; slots = all_shown c.args.slots.now.items }) c.args.from c.args.bytes.now a (all_shown c.args.slots.now.items)) (sym c.stopped-in-Some-refused_by.ensures)
-    (turned_away c.in-Ok.found.0 c.in-Ok.found.1.now c.in-Some-refused_by.why c.in-Ok.ensures.read c.if-header-eq-NO_PEER.false
-    (refused-in c.args.slots.now.items c.deref.result.now c.args.from c.in-Ok.found.0 _ _ c.refused_by.ensures.stop c.deref.ensures.value c.in-Some-refused_by.is))
+pub returns-in-Some-refusal-clause-arrives : goal.returns-in-Some-refusal-clause-arrives
+returns-in-Some-refusal-clause-arrives c =
+    subst (λ (a : Received). Arrives (record { basis = basis_of c.args.start.now; slots = all_shown c.args.slots.now.items }) c.args.from c.args.bytes.now a (all_shown c.args.slots.now.items)) (sym c.stopped-in-Some-refusal.ensures)
+    (turned_away c.in-Ok.found.0 c.in-Ok.found.1.now c.in-Some-refusal.why c.in-Ok.ensures.read c.if-header-eq-NO_PEER.false
+    (refused-in c.args.slots.now.items c.deref.result.now c.args.from c.in-Ok.found.0 _ _ c.refused_by-refusal.ensures.stop c.deref.ensures.value c.in-Some-refusal.is))
 
 pub hear-requires-clause-others : goal.hear-requires-clause-others
 hear-requires-clause-others c =
@@ -41,6 +42,35 @@ pub returns-clause-arrives : goal.returns-clause-arrives
 returns-clause-arrives c =
     heard-at (basis_of c.args.start.now) c.args.slots.now.items c.args.from c.args.bytes.now c.in-Ok.found.0 c.in-Ok.found.1.now c.from-number.result c.index_mut.result.now
     c.receive-answer.new.self c.receive-answer.result c.in-Ok.ensures.read c.if-header-eq-NO_PEER.false
-    (refused-in c.args.slots.now.items c.deref.result.now c.args.from c.in-Ok.found.0 _ _ c.refused_by.ensures.stop c.deref.ensures.value c.in_default.is) c.from-number.ensures
+    (refused-in c.args.slots.now.items c.deref.result.now c.args.from c.in-Ok.found.0 _ _ c.refused_by-refusal.ensures.stop c.deref.ensures.value c.in_default.is) c.from-number.ensures
     (let within = c.in_default.ensures.within in let len = c.deref.ensures.len in let e = c.from-number.ensures in grind (arith, within, len, e)) c.index_mut.ensures.value
     c.receive-answer.ensures.receives
+
+-- ---- what counts
+
+pub returns-in-Err-clause-credits : goal.returns-in-Err-clause-credits
+returns-in-Err-clause-credits c = record { counted = receiving.Nowhere; counts = receiving.unreadable c.in-Err.why c.in-Err.ensures.refused c.stopped.result; after = refl }
+
+pub returns-in-Some-clause-credits : goal.returns-in-Some-clause-credits
+returns-in-Some-clause-credits c =
+    credits-offered (record { basis = basis_of c.args.start.now; slots = all_shown c.args.slots.now.items }) c.args.from c.args.bytes.now c.in-Ok.found.0 c.in-Ok.found.1.now c.in-Some.offer (length c.args.bytes.now)
+    c.take_offer.result c.args.credits.now.items c.take_offer.new.credits.items c.in-Ok.ensures.read c.if-header-eq-NO_PEER.true c.in-Some.ensures.offer refl c.take_offer.ensures.credits
+
+pub returns-in-None-clause-credits : goal.returns-in-None-clause-credits
+returns-in-None-clause-credits c = record {
+  counted = receiving.Nowhere;
+  counts = receiving.no_offer c.in-Ok.found.0 c.in-Ok.found.1.now c.in-Ok.ensures.read c.if-header-eq-NO_PEER.true c.in-None.ensures.none c.stopped-in-None.result;
+  after = refl;
+}
+
+pub returns-in-Some-refusal-clause-credits : goal.returns-in-Some-refusal-clause-credits
+returns-in-Some-refusal-clause-credits c =
+    credits-heard (record { basis = basis_of c.args.start.now; slots = all_shown c.args.slots.now.items }) c.args.from c.args.bytes.now c.in-Ok.found.0 c.in-Ok.found.1.now c.from-number.result (length c.args.bytes.now)
+    c.refused_by-refusal.result c.stopped-in-Some-refusal.result c.args.credits.now.items c.count_heard.new.credits.items c.in-Ok.ensures.read c.if-header-eq-NO_PEER.false
+    (refused-in c.args.slots.now.items c.deref.result.now c.args.from c.in-Ok.found.0 _ _ c.refused_by-refusal.ensures.stop c.deref.ensures.value refl) c.from-number.ensures refl c.count_heard.ensures
+
+pub returns-clause-credits : goal.returns-clause-credits
+returns-clause-credits c =
+    credits-heard (record { basis = basis_of c.args.start.now; slots = all_shown c.args.slots.now.items }) c.args.from c.args.bytes.now c.in-Ok.found.0 c.in-Ok.found.1.now c.from-number.result (length c.args.bytes.now)
+    c.refused_by-refusal.result c.receive-answer.result c.args.credits.now.items c.count_heard.new.credits.items c.in-Ok.ensures.read c.if-header-eq-NO_PEER.false
+    (refused-in c.args.slots.now.items c.deref.result.now c.args.from c.in-Ok.found.0 _ _ c.refused_by-refusal.ensures.stop c.deref.ensures.value refl) c.from-number.ensures refl c.count_heard.ensures

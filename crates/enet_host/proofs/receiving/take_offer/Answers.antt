@@ -1,13 +1,17 @@
 use Rattle.std.proofs.Common.{List, arith, sym, subst, ◌∙◌}
 use Rattle.enet_codec.specs.declared.event.Received.{Received}
-use Rattle.enet_host.specs.Receiving.{Offers, refused, repeated, no_slot}
+use Rattle.enet_codec.specs.declared.stop.Stop.TheVariants as stop
+use Rattle.enet_host.specs.Private.Receiving.{OfferCredits}
+use Rattle.enet_host.specs.Private.Receiving as credit
+use Rattle.enet_host.specs.declared.credits.Credit.{Credit}
+use Rattle.enet_host.specs.Receiving.{Listener, Offers, handled_one, refused, repeated, no_slot}
 use Rattle.enet_slot.specs.declared.all.Seat.TheVariants.{Known, At, Full}
 use Rattle.enet_slot.specs.declared.slot.Slot.{Slot}
 use Rattle.enet_slot.specs.Giving.{basis_of}
 use Rattle.enet_slot.specs.Slotted.{all_shown}
 use Rattle.enet_sleepers.specs.Sleeping.{KeepsSleepers}
 use Rattle.enet_slot.proofs.Shown.{length-shown}
-use Rattle.enet_host.proofs.Offering.{seat-in, answers-at, no-memory-at}
+use Rattle.enet_host.proofs.Offering.{seat-in, answers-at, no-memory-at, credits-known}
 use Rattle.enet_host.proofs.Sleeping.{keeps-woken-at}
 use Rattle.enet_host.proofs.receiving.take_offer.Goals as goal
 
@@ -19,7 +23,7 @@ returns-in-Some-clause-offers c =
 pub returns-in-Known-clause-offers : goal.returns-in-Known-clause-offers
 returns-in-Known-clause-offers c =
     repeated (sym c.offer_refused.ensures ∙ c.in_default.is)
-    (seat-in c.args.slots.now.items c.deref.result.now c.args.from c.args.offer.connect_id c.args.start.now.config.generations c.seat_for.result Known c.seat_for.ensures.seat c.deref.ensures.value c.in-Known.is)
+    (seat-in c.args.slots.now.items c.deref.result.now c.args.from c.args.offer.connect_id c.args.start.now.config.generations c.seat_for.result (Known c.in-Known.place) c.seat_for.ensures.seat c.deref.ensures.value c.in-Known.is).0
 
 pub returns-in-Full-clause-offers : goal.returns-in-Full-clause-offers
 returns-in-Full-clause-offers c =
@@ -68,3 +72,39 @@ pub returns-in-Full-clause-sleepers : goal.returns-in-Full-clause-sleepers
 returns-in-Full-clause-sleepers c =
     let now = c.args.start.now.clock in
     subst (λ (xs : List Slot). KeepsSleepers now c.args.sleepers.now (all_shown xs) → KeepsSleepers now c.seat_for.new.self (all_shown xs)) c.deref.ensures.value (c.seat_for.ensures.kept now) c.requires.sleepers
+
+-- ---- what counts
+
+pub returns-in-Some-clause-credits : goal.returns-in-Some-clause-credits
+returns-in-Some-clause-credits c = credit.refused c.in-Some.why c.args.credits.now.items (sym c.offer_refused.ensures ∙ c.in-Some.is) c.stopped.result
+
+pub returns-in-Known-clause-credits : goal.returns-in-Known-clause-credits
+returns-in-Known-clause-credits c =
+    credits-known (record { basis = basis_of c.args.start.now; slots = all_shown c.args.slots.now.items }) c.args.from c.args.offer c.args.len c.in-Known.place c.args.start.now.config.generations
+    c.args.credits.now.items c.count_came.new.credits.items _ (sym c.offer_refused.ensures ∙ c.in_default.is)
+    (seat-in c.args.slots.now.items c.deref.result.now c.args.from c.args.offer.connect_id c.args.start.now.config.generations c.seat_for.result (Known c.in-Known.place) c.seat_for.ensures.seat c.deref.ensures.value c.in-Known.is)
+    c.count_came.ensures
+
+pub returns-in-Full-clause-credits : goal.returns-in-Full-clause-credits
+returns-in-Full-clause-credits c =
+    let seat = seat-in c.args.slots.now.items c.deref.result.now c.args.from c.args.offer.connect_id c.args.start.now.config.generations c.seat_for.result Full
+    c.seat_for.ensures.seat c.deref.ensures.value c.in-Full.is in
+    let h : Listener = record { basis = basis_of c.args.start.now; slots = all_shown c.args.slots.now.items } in
+    subst (λ (a : Received). OfferCredits h c.args.from c.args.offer c.args.len a c.args.credits.now.items c.args.credits.now.items) (sym c.stopped-in-Full.ensures)
+    (credit.unanswered stop.NoSlot c.args.credits.now.items seat.0)
+
+pub returns-in-Err-clause-credits : goal.returns-in-Err-clause-credits
+returns-in-Err-clause-credits c =
+    let seat = seat-in c.args.slots.now.items c.deref.result.now c.args.from c.args.offer.connect_id c.args.start.now.config.generations c.seat_for.result (At c.in-At.place)
+    c.seat_for.ensures.seat c.deref.ensures.value c.in-At.is in
+    let h : Listener = record { basis = basis_of c.args.start.now; slots = all_shown c.args.slots.now.items } in
+    subst (λ (a : Received). OfferCredits h c.args.from c.args.offer c.args.len a c.args.credits.now.items c.args.credits.now.items) (sym c.stopped-in-Err.ensures)
+    (credit.unanswered stop.Memory c.args.credits.now.items seat.0)
+
+pub returns-in-Ok-clause-credits : goal.returns-in-Ok-clause-credits
+returns-in-Ok-clause-credits c =
+    let seat = seat-in c.args.slots.now.items c.deref.result.now c.args.from c.args.offer.connect_id c.args.start.now.config.generations c.seat_for.result (At c.in-At.place)
+    c.seat_for.ensures.seat c.deref.ensures.value c.in-At.is in
+    let h : Listener = record { basis = basis_of c.args.start.now; slots = all_shown c.args.slots.now.items } in
+    subst (λ (credits : List Credit). OfferCredits h c.args.from c.args.offer c.args.len handled_one c.args.credits.now.items credits) (sym c.count_first.ensures)
+    (credit.answered c.in-At.place c.args.credits.now.items seat.0 seat.1)

@@ -5,7 +5,7 @@ use Rattle.enet_host.proofs.ticking.tick_awake.Given as goal
 
 abbrev pub invariant-loop-from : goal.invariant-loop-from
 invariant-loop-from l = record {
-  items : all_shown l.slots.items ≡ all_ticked l.now (take l.from (all_shown l.initial.slots.items)) ++ drop l.from (all_shown l.initial.slots.items);
+  items : all_shown l.slots.items ≡ all_ticked l.now l.credits (take l.from (all_shown l.initial.slots.items)) ++ drop l.from (all_shown l.initial.slots.items);
   count : length l.slots.items ≡ length l.initial.slots.items;
 }
 

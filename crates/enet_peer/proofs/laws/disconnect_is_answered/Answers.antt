@@ -1,4 +1,4 @@
-use Rattle.enet_peer.proofs.Answered.{answer-goes, obeys-waits, ticked-waits, waits-after}
+use Rattle.enet_peer.proofs.Answered.{answer-goes, obeys-waits, moved-waits, waits-after}
 use Rattle.enet_peer.proofs.laws.disconnect_is_answered.Goals as goal
 
 pub returns-clause-waits : goal.returns-clause-waits
@@ -7,8 +7,8 @@ returns-clause-waits c = waits-after
 pub returns-clause-obeyed : goal.returns-clause-obeyed
 returns-clause-obeyed c = obeys-waits
 
-pub returns-clause-ticked : goal.returns-clause-ticked
-returns-clause-ticked c = ticked-waits
+pub returns-clause-moved : goal.returns-clause-moved
+returns-clause-moved c = moved-waits
 
 pub returns-clause-goes : goal.returns-clause-goes
 returns-clause-goes c = answer-goes

@@ -1,4 +1,4 @@
-use Rattle.enet_peer.proofs.Reaching.{answering-reached, bandwidth-keeps, connecting-reached, joined-reached, left-keeps, obeys-keeps, put-out-keeps, submitted-keeps, taken-keeps, throttle-keeps, ticked-keeps}
+use Rattle.enet_peer.proofs.Reaching.{answering-reached, bandwidth-keeps, connecting-reached, joined-reached, left-keeps, obeys-keeps, put-out-keeps, submitted-keeps, taken-keeps, throttle-keeps, moved-keeps}
 use Rattle.enet_peer.proofs.laws.reachable_stays.Goals as goal
 
 pub returns-clause-joined : goal.returns-clause-joined
@@ -19,8 +19,8 @@ returns-clause-put_out c = put-out-keeps
 pub returns-clause-obeyed : goal.returns-clause-obeyed
 returns-clause-obeyed c = obeys-keeps
 
-pub returns-clause-ticked : goal.returns-clause-ticked
-returns-clause-ticked c = ticked-keeps
+pub returns-clause-moved : goal.returns-clause-moved
+returns-clause-moved c = moved-keeps
 
 pub returns-clause-left : goal.returns-clause-left
 returns-clause-left c = left-keeps

@@ -2,6 +2,7 @@ use Rattle.std.proofs.Common.{ℕ, ap, sym, ◌∙◌}
 use Rattle.enet_slot.specs.Slotted.{all_shown}
 use Rattle.enet_slot.proofs.Shown.{length-shown}
 use Rattle.enet_host.specs.contracts.host.HostCore.{the_view}
+use Rattle.enet_host.specs.Crediting.{with_went}
 use Rattle.enet_host.specs.Turns.{slot_after}
 use Rattle.enet_host.proofs.Holding.{keeps-after, served-held, passed-held}
 use Rattle.enet_host.proofs.Limits.{passed-limited, served-limited}
@@ -27,7 +28,8 @@ invariant_of-self-2 c =
 pub returns-clause-serves : goal.returns-clause-serves
 returns-clause-serves c =
     let inside = c.self.inside in
-    serves-at (the_view inside) c.args.self.now (all_shown c.emit.new.slots.items) c.slot_after-self-inside.result c.with_datagram_out-self-inside.result c.in-Some.sent c.emit.new.buf c.self.view_is
+    serves-at (the_view inside) c.args.self.now (all_shown c.emit.new.slots.items) c.slot_after-self-inside.result c.with_datagram_out-self-inside.result c.count_went.new.credits.items c.in-Some.sent c.emit.new.buf c.self.view_is
     c.in-Some.ensures.gives
     (c.slot_after-self-inside.ensures.after ∙ ap (λ (m : ℕ). slot_after m c.in-Some.sent.0.slot) (sym (length-shown inside.slots.items ∙ c.self.invariant.count)))
     c.with_datagram_out-self-inside.ensures
+    (c.count_went.ensures ∙ ap (λ (i : ℕ). with_went inside.credits.items i c.in-Some.sent.2) c.from.ensures)

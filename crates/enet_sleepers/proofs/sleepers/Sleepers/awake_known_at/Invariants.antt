@@ -3,7 +3,7 @@ use Rattle.enet_deadlines.specs.Sets.{IsIn}
 use Rattle.enet_slot.specs.Giving.{unused_slot}
 use Rattle.enet_slot.specs.Receiving.{is_connection}
 use Rattle.enet_slot.specs.Slotted.{all_shown}
-use Rattle.enet_sleepers.proofs.sleepers.Sleepers.awake_knows.Given as goal
+use Rattle.enet_sleepers.proofs.sleepers.Sleepers.awake_known_at.Given as goal
 
 abbrev pub invariant-loop-place : goal.invariant-loop-place
 invariant-loop-place l = (i : ℕ) → i < l.place → IsIn l.self.awake i → is_connection l.from l.connect_id (get_or (all_shown l.slots) i unused_slot) ≡ false

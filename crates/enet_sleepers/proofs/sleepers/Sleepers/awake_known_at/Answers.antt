@@ -1,29 +1,26 @@
 use Rattle.std.proofs.Common.{◌<◌, length, ap, sym, ◌∙◌, arith}
-use Rattle.std.proofs.lemmas.List.Folds.{list_any_at}
-use Rattle.enet_slot.specs.Giving.{unused_slot}
 use Rattle.enet_slot.specs.Receiving.{is_connection}
 use Rattle.enet_slot.specs.Slotted.{shown, all_shown}
 use Rattle.enet_slot.proofs.Shown.{length-shown}
 use Rattle.enet_sleepers.proofs.Keeping.{in-inside}
 use Rattle.enet_sleepers.proofs.Offered.{shown-at, nowhere-passed, nowhere-more}
-use Rattle.enet_sleepers.proofs.sleepers.Sleepers.awake_knows.Goals as goal
+use Rattle.enet_sleepers.proofs.sleepers.Sleepers.awake_known_at.Goals as goal
 
 pub returns-then-is_connection-clause-found : goal.returns-then-is_connection-clause-found
-returns-then-is_connection-clause-found c = λ e.
+returns-then-is_connection-clause-found c =
     let slots = c.args.slots.now in
-    let number = c.in-Some.number in
+    let number = c.in_ok-number.number in
     let slot = c.index-slots-number.result in
     let p = is_connection c.args.from c.args.connect_id in
-    let within : number < length slots = omega (arith, in-inside c.args.self.now.awake number c.in-Some.ensures.1, c.requires.1.count, length-shown slots) in
-    list_any_at p (all_shown slots) number unused_slot (omega (arith, within, length-shown slots))
-    (ap p (shown-at slots number slot within c.index-slots-number.is) ∙ sym c.is_connection.ensures ∙ c.if-is_connection.true)
+    let within : number < length slots = omega (arith, in-inside c.args.self.now.awake number c.in_ok-number.ensures.1, c.requires.1.count, length-shown slots) in
+    (omega (arith, within, length-shown slots), ap p (shown-at slots number slot within c.index-slots-number.is) ∙ sym c.is_connection.ensures ∙ c.if-is_connection.true)
 
 pub loop-place-preserved : goal.loop-place-preserved
 loop-place-preserved c =
     let slots = c.args.slots.now in
-    let number = c.in-Some.number in
+    let number = c.in_ok-number.number in
     let slot = c.index-slots-number.result in
     let awake = c.args.self.now.awake in
-    let within : number < length slots = omega (arith, in-inside awake number c.in-Some.ensures.1, c.requires.1.count, length-shown slots) in
+    let within : number < length slots = omega (arith, in-inside awake number c.in_ok-number.ensures.1, c.requires.1.count, length-shown slots) in
     nowhere-more c.args.from c.args.connect_id number (all_shown slots) awake (shown slot) (shown-at slots number slot within c.index-slots-number.is) (sym c.is_connection.ensures ∙ c.if-is_connection.false)
-    (nowhere-passed c.args.from c.args.connect_id c.loop-place.place number (all_shown slots) awake c.in-Some.ensures.2 c.loop-place.invariant)
+    (nowhere-passed c.args.from c.args.connect_id c.loop-place.place number (all_shown slots) awake c.in_ok-number.ensures.2 c.loop-place.invariant)
