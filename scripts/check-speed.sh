@@ -5,7 +5,8 @@
 # 'N passed, M failed'; the status is 1 where one fails. The programs are those that `rt ci`, or `rt run` in their folders, leaves: counts
 # of proved builds are alike on each machine to within a thousandth.
 #     check-speed.sh                   compares
-#     check-speed.sh --write           writes what it counted into bench/instructions.txt, whose head says when that may be done
+#     check-speed.sh --write           writes what it counted into bench/instructions.txt, whose head says when that may be done, and into the
+#                                      table of docs/PERF.md (scripts/perf.py)
 #     check-speed.sh --print CHECKOUT  prints for each line what the programs of another built checkout take
 cd "$(dirname "$0")/.." || exit 1
 . bench/input.sh
@@ -88,7 +89,7 @@ else
         esac
     done < "$counts"
     [ "$passed" -gt 0 ] || fail "$counts" "it has no line"
-    [ "$task" != --write ] || [ "$failed" -gt 0 ] || cp "$room/counts" "$counts"
+    [ "$task" != --write ] || [ "$failed" -gt 0 ] || { cp "$room/counts" "$counts" && python3 scripts/perf.py --write; }
 fi
 echo "$passed passed, $failed failed"
 [ "$failed" -eq 0 ]
