@@ -1,24 +1,24 @@
 /* A host of ENet 1.3 without a socket or a clock: datagrams, calls and time go in, datagrams and events come out. It talks with
- * programs that use libenet 1.3, and is proved (crates/enet_c of Gofnjerta says what): this library has no state but that of its
- * handles, starts no thread, and calls nothing of the C library but malloc, realloc, free and what copies memory.
+ * programs that use libenet 1.3. It is proved (crates/enet_c of Gofnjerta says what): the library has no state except that of its
+ * handles, starts no thread, and calls nothing of the C library except malloc, realloc, free and what copies memory.
  *
- * What the caller owes at each call; nothing can test it:
- * - a handle is all zero bytes before it is opened, is written by this library alone from then on until it is closed, and is one
- *   object: it may be moved by memcpy if the old bytes are never used again, and two copies are never both used;
- * - one call at a time on a handle: a call on another thread begins after the last one has ended, as a lock sees to. Which thread calls
- *   is free, also that which closes; different handles know nothing of each other;
- * - a pointer that isn't NULL points to an object of its type, or to as many bytes as the length beside it says, readable where it
- *   is const and else writable; what the pointers of one call point to doesn't overlap;
- * - no call comes from a signal handler, or in the forked child of a process with threads;
- * - malloc, realloc and free are one allocator's, and align as C's do.
- * Whatever is passed by value may be anything: it is answered by a number.
+ * What the caller must keep, since nothing can test it:
+ * - A handle is all zero bytes before it is opened. From then until it is closed only this library writes it. It is one object: it may be
+ *   moved by memcpy if the old bytes are never used again, but two copies must never both be used.
+ * - One call at a time on a handle: a call on another thread begins after the last one has ended, for instance by a lock. Any thread may
+ *   call, or close it. Different handles are independent.
+ * - A pointer that isn't NULL points to an object of its type, or to as many bytes as the length beside it says, readable if it is
+ *   const, otherwise writable. The objects of one call's pointers don't overlap.
+ * - No call comes from a signal handler, or from the forked child of a process with threads.
+ * - malloc, realloc and free belong to one allocator, and align as C's do.
+ * Values may be anything: a call returns a number for those that it refuses.
  *
- * Who owns what: the library keeps no pointer of the caller's after a call has returned. It copies what it takes in, and what it
- * gives goes into the caller's memory. What a handle holds is freed by gofnjerta_close, and by that alone.
+ * Ownership: the library keeps no pointer of the caller's after a call. It copies what it is given, and writes results to the caller's
+ * memory. Only gofnjerta_close frees what a handle holds.
  *
- * Each call that answers a uint32_t answers 0 where it did what it is for, and else the number of the first reason that applies,
- * of which the last is GOFNJERTA_MEMORY. Then it has changed nothing in the handle, and has written nothing to the caller's memory
- * but where its comment says so. GOFNJERTA_NULL and GOFNJERTA_CLOSED may come from each that is given a handle. */
+ * A call with a uint32_t result returns 0 if it succeeded, otherwise the number of the first reason that applies; GOFNJERTA_MEMORY is
+ * the last of these. It has then changed nothing in the handle, and has written to the caller's memory only if its comment says so. Each
+ * call with a handle may return GOFNJERTA_NULL and GOFNJERTA_CLOSED. */
 #ifndef GOFNJERTA_H
 #define GOFNJERTA_H
 #include <stdbool.h>
@@ -28,13 +28,13 @@
 extern "C" {
 #endif
 
-/* A host: `gofnjerta_host host = {0};`. Nothing but this library reads or writes its members. */
+/* A host: `gofnjerta_host host = {0};`. Only this library reads or writes its members. */
 typedef struct gofnjerta_host {
     void *at;
     bool is_open;
 } gofnjerta_host;
 
-/* Why a call was refused. 6 and 9 to 17 are numbers of the proved host's that no call of this library answers. */
+/* Why a call was refused. No call of this library returns 6 or 9 to 17, which are other numbers of the proved host. */
 enum {
     GOFNJERTA_OK = 0,
     GOFNJERTA_MEMORY = 1,          /* malloc or realloc refused; the call may be repeated */
@@ -43,12 +43,12 @@ enum {
     GOFNJERTA_NO_SUCH_CHANNEL = 4, /* the channel isn't below the peer's channel count */
     GOFNJERTA_TOO_LARGE = 5,       /* the packet is above max_packet, or would be cut into more than 16,384 pieces */
     GOFNJERTA_NO_SLOT = 7,         /* no slot is free that has a generation left */
-    GOFNJERTA_BAD_CONFIG = 8,      /* a number of the settings is out of its range, or no channel was asked for */
+    GOFNJERTA_BAD_CONFIG = 8,      /* a setting is out of its range, or no channel was asked for */
     GOFNJERTA_CLOSED = 32,         /* the handle holds no host */
     GOFNJERTA_OPEN = 33,           /* the handle holds a host already */
     GOFNJERTA_SHORT = 34,          /* the buffer is too short */
     GOFNJERTA_UNSTAGED = 35,       /* no body was staged */
-    GOFNJERTA_UNTOLD = 36,         /* the last event that was told is no packet's, or none was told yet */
+    GOFNJERTA_UNTOLD = 36,         /* the last event was no packet, or there was none yet */
     GOFNJERTA_NULL = 37            /* a pointer that must not be NULL is */
 };
 
@@ -59,9 +59,9 @@ typedef struct gofnjerta_config {
     uint32_t mtu;         /* the longest datagram, in bytes: 576 to 4,096 */
     uint32_t incoming;    /* bytes per second that this host can take in; 0: no limit is known */
     uint32_t outgoing;    /* bytes per second that this host can send; 0: no limit is known */
-    uint32_t max_packet;  /* the longest packet that is taken in or submitted, in bytes: 1 to 33,554,432 */
-    uint32_t max_waiting; /* bytes of a peer's packets that wait, at which no further packet begins: 1 to 33,554,432. Nor does one begin
-                             where so many packets wait as a 128th of that, but at least 1,024 */
+    uint32_t max_packet;  /* the longest packet that is received or submitted, in bytes: 1 to 33,554,432 */
+    uint32_t max_waiting; /* bytes of a peer's waiting packets at which further ones are refused: 1 to 33,554,432. So are further ones
+                             if a 128th of that many packets wait, or 1,024 if that is more */
     uint32_t generations; /* how many peers a slot has one after another: 1 and more */
     uint32_t clock;       /* the clock at the opening, in milliseconds; it wraps */
 } gofnjerta_config;
@@ -85,27 +85,26 @@ enum {
     GOFNJERTA_UNRELIABLE_FRAGMENT = 8
 };
 
-/* What a host answers to a datagram. */
+/* What became of a datagram. */
 typedef struct gofnjerta_received {
-    uint32_t status;  /* what gofnjerta_receive answers */
+    uint32_t status;  /* what gofnjerta_receive returns */
     uint32_t handled; /* how many of its commands took effect */
-    uint32_t stop;    /* why the rest was not looked at, 1 to 13 (gofnjerta_stop_name); 0 where all of it was */
+    uint32_t stop;    /* why the rest was not read, 1 to 13 (gofnjerta_stop_name); 0 if all of it was */
 } gofnjerta_received;
 
 /* A datagram that is to be sent. */
 typedef struct gofnjerta_datagram {
-    uint32_t length; /* bytes of the buffer, at most the mtu; 0 where there is nothing to send */
+    uint32_t length; /* bytes of the buffer, at most the mtu; 0 if there is nothing to send */
     gofnjerta_address to;
     gofnjerta_peer peer; /* whose it is */
 } gofnjerta_datagram;
 
 enum { GOFNJERTA_NONE = 0, GOFNJERTA_CONNECT = 1, GOFNJERTA_DISCONNECT = 2, GOFNJERTA_RECEIVE = 3 };
 
-/* An event. Of each connection a CONNECT comes first, then its packets in their order, then one DISCONNECT, with which the peer's
- * name is spent. */
+/* An event. Each connection has one CONNECT, then its packets in order, then one DISCONNECT, after which the peer's name is spent. */
 typedef struct gofnjerta_event {
     uint32_t kind;
-    uint32_t info; /* CONNECT: the word of the end that connected, there itself 0. DISCONNECT: the word of the other end, 0 where
+    uint32_t info; /* CONNECT: the number of the end that connected, at that end itself 0. DISCONNECT: the other end's number, 0 if
                       this end asked or the peer timed out */
     gofnjerta_peer peer;
     uint8_t channel, flags; /* RECEIVE */
@@ -119,7 +118,7 @@ enum {
     GOFNJERTA_CONNECTED = 3,
     GOFNJERTA_DISCONNECT_LATER = 4,
     GOFNJERTA_DISCONNECTING = 5,
-    GOFNJERTA_ACKNOWLEDGING = 6, /* a disconnect of the other end */
+    GOFNJERTA_ACKNOWLEDGING = 6, /* the other end's disconnect */
     GOFNJERTA_ENDED = 7,         /* its last events are not taken yet */
     GOFNJERTA_PARTING = 8        /* its last datagram is not sent yet */
 };
@@ -129,12 +128,12 @@ typedef struct gofnjerta_reading {
     uint32_t state;
     uint32_t mtu;                     /* bytes, as agreed */
     uint32_t window;                  /* bytes of reliable packets in transit at most: 4,096 to 65,536 */
-    uint32_t connect_id;              /* the word that the connecting end gave the connection */
+    uint32_t connect_id;              /* the word of the end that connected */
     uint32_t round_trip, variance;    /* milliseconds: the mean, 500 at first, and its mean deviation */
     uint32_t in_transit;              /* bytes of reliable packets that are sent and not acknowledged */
-    uint32_t throttle;                /* 0 to 32: of 32 unreliable packets so many are sent */
+    uint32_t throttle;                /* 0 to 32: how many of 32 unreliable packets are sent */
     uint32_t throttle_interval;       /* milliseconds */
-    uint32_t acceleration, deceleration; /* of the throttle, in parts of 32 an interval, as the connecting end asked */
+    uint32_t acceleration, deceleration; /* of the throttle, in parts of 32 an interval, as the end that connected asked */
     gofnjerta_address address;
     uint16_t slot; /* the other end's, 0xFFF before it is known */
     uint8_t channels;
@@ -143,34 +142,32 @@ typedef struct gofnjerta_reading {
 
 /* How much went through a host. Each number stops at its greatest value. */
 typedef struct gofnjerta_totals {
-    uint64_t datagrams_in, bytes_in; /* the refused ones too */
+    uint64_t datagrams_in, bytes_in; /* refused ones included */
     uint64_t datagrams_out, bytes_out;
 } gofnjerta_totals;
 
-/* The longest packet that any host takes, and the room that gofnjerta_service wants, in bytes. */
+/* The longest packet that any host takes, and the room that gofnjerta_service needs, in bytes. */
 enum { GOFNJERTA_MAX_PACKET = 33554432, GOFNJERTA_ROOM = 4096 };
 
-/* The name of a number that a call answered, as "E5 TooLarge"; "?" for a number that none answers. The text is the library's and
- * stays. Likewise that of a stop, as "S6 BadCommand". */
+/* The name of a number that a call returned, as "E5 TooLarge", or of a stop, as "S6 BadCommand"; "?" for any other number. The text is
+ * the library's and stays. */
 const char *gofnjerta_error_name(uint32_t number);
 const char *gofnjerta_stop_name(uint32_t stop);
 
-/* The settings that serve most hosts: an mtu of 1,392 bytes, no bandwidth limits, the greatest max_packet and max_waiting, 1,000,000
- * generations, and a clock at 0. They are tested by gofnjerta_open. */
+/* Settings for most hosts: an mtu of 1,392 bytes, no bandwidth limits, the greatest max_packet and max_waiting, 1,000,000 generations,
+ * and a clock at 0. gofnjerta_open checks them. */
 gofnjerta_config gofnjerta_standard(uint16_t peers, uint8_t channels);
 
-/* Opens a host. OPEN, BAD_CONFIG, MEMORY: then the handle is as it was. */
+/* Opens a host. OPEN, BAD_CONFIG, MEMORY: the handle is as it was. */
 uint32_t gofnjerta_open(gofnjerta_host *host, const gofnjerta_config *config);
 
-/* Closes a host and frees what it holds; no peer is told. A closed handle stays closed, which is answered by 0. The handle may be
- * opened again. */
+/* Closes a host and frees what it holds; no peer is notified. Returns 0 for a closed handle, too. The handle may be opened again. */
 uint32_t gofnjerta_close(gofnjerta_host *host);
 
-/* Asks the host at an address for a connection with so many channels, 1 to 255, from the lowest slot that is free. `info` is a word
- * for its user, `word` names the connection: draw it from the system (getentropy), for each connection anew. A stranger who can guess it
- * can be taken for the server: he forges its address and answers first. Nor is a datagram of an earlier connection taken for one of this
- * then. The peer's name goes to `peer`; its CONNECT or DISCONNECT event tells what came of it. BAD_CONFIG for no channels,
- * NO_SLOT, MEMORY. */
+/* Asks the host at an address for a connection with 1 to 255 channels, from the lowest free slot. `info` is a number for its user.
+ * `word` names the connection: draw it from the system (getentropy), anew for each connection. A stranger who can guess it, and forges
+ * the server's address, can be taken for the server. A drawn word also keeps datagrams of an earlier connection from being taken for this
+ * one's. `peer` is set to the peer's name; a CONNECT or a DISCONNECT event follows. BAD_CONFIG for no channels, NO_SLOT, MEMORY. */
 uint32_t gofnjerta_connect(gofnjerta_host *host, gofnjerta_address to, uint8_t channels, uint32_t info, uint32_t word, gofnjerta_peer *peer);
 
 /* Submits a packet: a copy of `length` bytes at `body`, which may be NULL where length is 0. NO_SUCH_PEER, NOT_CONNECTED,
@@ -178,71 +175,72 @@ uint32_t gofnjerta_connect(gofnjerta_host *host, gofnjerta_address to, uint8_t c
 uint32_t gofnjerta_submit(gofnjerta_host *host, gofnjerta_peer peer, uint8_t channel, uint8_t flags, const void *body, size_t length);
 
 /* Submits a packet to each of `count` peers: a copy of `length` bytes at `body`, which they share. Peers that have gone or aren't
- * connected are passed by. A peer by which it is refused for another reason doesn't keep it from the others, and the first such reason is
- * the answer: NO_SUCH_CHANNEL, TOO_LARGE, MEMORY. Nothing is submitted to any peer where there is no memory for the copy (MEMORY), and
- * where length is above GOFNJERTA_MAX_PACKET or there can't be so many peers (TOO_LARGE). */
+ * connected are skipped. If one peer refuses it for another reason, the others still get it, and the first such reason is returned:
+ * NO_SUCH_CHANNEL, TOO_LARGE, MEMORY. No peer gets it if there is no memory for the copy (MEMORY), or if length is above
+ * GOFNJERTA_MAX_PACKET or there can't be so many peers (TOO_LARGE). */
 uint32_t gofnjerta_broadcast(gofnjerta_host *host, const gofnjerta_peer *peers, size_t count, uint8_t channel, uint8_t flags,
                              const void *body, size_t length);
 
-/* A packet to many peers, one call each: its body is copied once by gofnjerta_stage, in place of the one that was staged before, and
- * shared by each gofnjerta_submit_staged. It stays staged until the next one is, or the host is closed. TOO_LARGE above
- * GOFNJERTA_MAX_PACKET, MEMORY; the other answers UNSTAGED and what gofnjerta_submit does. */
+/* A packet to many peers, one call each: gofnjerta_stage copies its body once, in place of the one before, and each
+ * gofnjerta_submit_staged shares it, until the next one is staged or the host is closed. TOO_LARGE above GOFNJERTA_MAX_PACKET, MEMORY;
+ * gofnjerta_submit_staged returns UNSTAGED and what gofnjerta_submit does. */
 uint32_t gofnjerta_stage(gofnjerta_host *host, const void *body, size_t length);
 uint32_t gofnjerta_submit_staged(gofnjerta_host *host, gofnjerta_peer peer, uint8_t channel, uint8_t flags);
 
-/* A datagram came from an address. What the host makes of it goes to `received`, if that isn't NULL; a stop is nothing that the
- * caller has to see to, whatever the datagram is: where it is 11 (no memory), the other end sends again what was reliable. What comes from
- * port 0 can't be answered, since no datagram can be sent there: a program drops it. */
+/* A datagram came from an address. What became of it is written to `received`, if that isn't NULL. The caller need not care about a
+ * stop, whatever the datagram is: at 11 (no memory) the other end resends what was reliable. Drop what comes from port 0: it can't be
+ * answered, since no datagram can be sent there. */
 uint32_t gofnjerta_receive(gofnjerta_host *host, gofnjerta_address from, const void *datagram, size_t length, gofnjerta_received *received);
 
-/* Puts the next datagram that is to be sent at the front of a buffer of at least GOFNJERTA_ROOM bytes, and says in `datagram` where it
- * goes; length 0 where there is none. Call it until then: after each tick, after datagrams came, and after calls that send. What
- * can't be sent may be dropped. SHORT, with length 0. */
+/* Writes the next datagram to send to the front of a buffer of at least GOFNJERTA_ROOM bytes, and to `datagram` where it goes; length 0
+ * if there is none. Call it until then: after each tick, after datagrams came, and after calls that send. What can't be sent may be
+ * dropped. SHORT, with length 0. */
 uint32_t gofnjerta_service(gofnjerta_host *host, void *buffer, size_t room, gofnjerta_datagram *datagram);
 
-/* The clock goes on by so many milliseconds, of which 60,000 count at most. What waits too long is due again, quiet peers are pinged,
- * and those that are silent too long end. Tick each few milliseconds, or when gofnjerta_due_in says. */
+/* The clock goes on by `ms` milliseconds, 60,000 at most. Commands whose timeout is over are resent, quiet peers pinged, and peers that
+ * are silent too long dropped. Tick every few milliseconds, or when gofnjerta_due_in says. */
 uint32_t gofnjerta_tick(gofnjerta_host *host, uint32_t ms);
 
-/* Reads in how many milliseconds time brings something, at most 1,000: a tick of fewer changes nothing but the clock. A program that has
- * sent all that gofnjerta_service gives may sleep so long, unless a datagram comes. */
+/* In how many milliseconds time brings something, at most 1,000: a shorter tick only changes the clock. A program that has sent all that
+ * gofnjerta_service gives may sleep that long, unless a datagram comes. */
 uint32_t gofnjerta_due_in(gofnjerta_host *host, uint32_t *ms);
 
-/* The next event; kind GOFNJERTA_NONE where there is none, and where the answer isn't 0. A packet's bytes are kept until the next call
- * of this function: gofnjerta_body copies them to a buffer of at least event->length bytes, as often as it is called. UNTOLD where
- * none are kept, SHORT. */
+/* The next event; its kind is GOFNJERTA_NONE if there is none, or if the result isn't 0. A packet's bytes are kept until the next call of
+ * this function: gofnjerta_body copies them, as often as it is called, to a buffer of at least event->length bytes. UNTOLD if none are
+ * kept, SHORT. */
 uint32_t gofnjerta_next_event(gofnjerta_host *host, gofnjerta_event *event);
 uint32_t gofnjerta_body(gofnjerta_host *host, void *buffer, size_t room);
 
-/* Ends a connection, with a word for the other end's user. NO_SUCH_PEER; NOT_CONNECTED where it ends already.
- * disconnect: what is queued or held is dropped; packets that wait as events still come, and then the DISCONNECT event, once the
- * other end has acknowledged. _now: the other end is told once, no event comes here, and the name is spent. _later: as disconnect, once all that is
- * queued has gone and each reliable packet is acknowledged. */
+/* Disconnect a peer, with a number for the other end's user. NO_SUCH_PEER; NOT_CONNECTED if it is disconnecting already.
+ * disconnect: drops what is queued or held. Packets that wait as events still come, and then the DISCONNECT event, once the other end has
+ * acknowledged. _now: the other end is sent one datagram, no event comes here, and the name is spent. _later: as disconnect, once
+ * everything queued is sent and each reliable packet is acknowledged. */
 uint32_t gofnjerta_disconnect(gofnjerta_host *host, gofnjerta_peer peer, uint32_t info);
 uint32_t gofnjerta_disconnect_now(gofnjerta_host *host, gofnjerta_peer peer, uint32_t info);
 uint32_t gofnjerta_disconnect_later(gofnjerta_host *host, gofnjerta_peer peer, uint32_t info);
 
-/* Sets the host's bandwidths, in bytes per second; 0: no limit is known. Each connected peer is told. MEMORY. */
+/* Sets the host's bandwidths, in bytes per second; 0: no limit is known. Each connected peer is sent them. MEMORY. */
 uint32_t gofnjerta_set_bandwidth(gofnjerta_host *host, uint32_t incoming, uint32_t outgoing);
 
 /* Sets the host's secret: 32 bytes that the system drew (getentropy) and that nobody else knows. By them each peer that begins from now on
- * has sent times and numbers of its own, so that who forges an address and doesn't see the answers can't connect in its name. A host that
- * was given none goes as libenet does. Set it once, before the first datagram and the first gofnjerta_connect; the bytes are copied. */
+ * gets sent times and numbers of its own, so that a stranger who forges an address and doesn't see the answers can't connect in its
+ * name. Without a secret a host does as libenet does. Set it once, before the first datagram and the first gofnjerta_connect; the bytes
+ * are copied. */
 uint32_t gofnjerta_set_secret(gofnjerta_host *host, const uint8_t key[32]);
 
 /* Sets a connected peer's throttle: its interval in milliseconds, and by how much it rises and falls, in parts of 32. The other end is
- * told. NO_SUCH_PEER, NOT_CONNECTED, MEMORY. */
+ * sent these. NO_SUCH_PEER, NOT_CONNECTED, MEMORY. */
 uint32_t gofnjerta_throttle_configure(gofnjerta_host *host, gofnjerta_peer peer, uint32_t interval, uint32_t acceleration, uint32_t deceleration);
 
-/* Sets after how many milliseconds a peer that was not heard is pinged; 0 stands for 500. NO_SUCH_PEER. */
+/* Sets after how many milliseconds of silence a peer is pinged; 0 means 500. NO_SUCH_PEER. */
 uint32_t gofnjerta_set_ping_interval(gofnjerta_host *host, gofnjerta_peer peer, uint32_t ms);
 
-/* Sets how long a peer may leave a command unacknowledged: it ends `maximum` milliseconds after the command was first sent, or once two
- * tries have failed that were made `minimum` milliseconds after that and after the last acknowledgement of any command, where the command
- * was sent so often that 2^(sends - 1) is at least `limit`. A 0 stands for the standard number: 32, 5,000 and 30,000. NO_SUCH_PEER. */
+/* Sets how long a peer may leave a command unacknowledged. It is dropped `maximum` milliseconds after the command was first sent, or
+ * once two tries have failed that were made `minimum` milliseconds after that and after the last acknowledgement of any command, if
+ * 2^(sends - 1) is at least `limit`. 0 means the standard number: 32, 5,000 and 30,000. NO_SUCH_PEER. */
 uint32_t gofnjerta_set_timeout(gofnjerta_host *host, gofnjerta_peer peer, uint32_t limit, uint32_t minimum, uint32_t maximum);
 
-/* Reads what there is of a peer. NO_SUCH_PEER. */
+/* Reads a peer. NO_SUCH_PEER. */
 uint32_t gofnjerta_read_peer(gofnjerta_host *host, gofnjerta_peer peer, gofnjerta_reading *reading);
 
 /* Reads how much went through the host. */
