@@ -5,7 +5,8 @@
 # 0. The entrypoint of the container is process 1 of a namespace of its own, with the same end. The wrapper for Agones runs beside a stub of the
 # SDK's sidecar: it is ready, healthy, allocated with the first client, and shut down, once by SIGTERM and once since the last client has left.
 # It isn't called healthy while one of its threads is stopped (clients/hold.c), the service's or the one that answers. And 21 strangers who
-# flood the log (clients/gossip.c) and leave end neither a server that nobody plays on yet nor a game. PROGRAM is the built `enet_relay`, by
+# flood the log (clients/gossip.c) and leave end neither a server that nobody plays on yet nor a game. Bash is offered the options that each
+# command's help tells, and no other. PROGRAM is the built `enet_relay`, by
 # default the one that `rt ci`, or `rt run` in crates/enet_relay, leaves. It wants root, and installs what is missing. Prints what failed, and
 # as last line 'N passed, M failed'; the status is 1 where one failed.
 cd "$(dirname "$0")/.." || exit 1
@@ -193,6 +194,17 @@ hung() {
     wait_for "$room/sidecar" Shutdown && wait "$wrapper"
 }
 
+# What bash offers after each command, beside its help.
+completion() {
+    local command
+    for command in serve demo inspect lab; do
+        "$program" "$command" --help | grep -oE '^ +(-[a-z], )?--[a-z-]+' | grep -oE -- '--[a-z-]+' | sort > "$room/options"
+        bash -c '. deploy/bash/enet_relay; COMP_WORDS=(enet_relay "$1" --) COMP_CWORD=2; _enet_relay; printf "%s\n" "${COMPREPLY[@]}"' completion \
+            "$command" | sort > "$room/offered"
+        [ -s "$room/options" ] && diff "$room/options" "$room/offered" > "$room/why" || return 1
+    done
+}
+
 install_tools
 if ! build_clients "$room"; then
     echo '0 passed, 1 failed'
@@ -213,5 +225,7 @@ hung
 judge agones-hung $?
 strangers
 judge agones-strangers $?
+completion
+judge completion $?
 echo "$passed passed, $failed failed"
 [ "$failed" -eq 0 ]

@@ -197,7 +197,8 @@ row() {
             sleep 0.1
         done
         echo \$EPOCHREALTIME > /root/reached
-        for _ in {1..60}; do kill -0 \$it 2> /dev/null || { wait \$it; exit; }; sleep 0.1; done
+        until=\$((SECONDS + 6))
+        while [ \$SECONDS -lt \$until ]; do kill -0 \$it 2> /dev/null || { wait \$it; exit; }; sleep 0.1; done
         [ \$(wc -l < /proc/net/udp) -gt 1 ]" && awk -v begun="$begun" '{ printf "%.1f\n", $1 - begun }' "$root/root/reached" > "$room/took"
 }
 
@@ -239,7 +240,8 @@ exec > /root/booted 2>&1
 judge() { if [ "$2" = "$3" ]; then echo "ok $1"; else echo "not $1: '$2' where '$3' is wanted"; fi; }
 state() { systemctl show enet-relay -p "$1" --value; }
 now() { echo $(($(date +%s%N) / 1000000)); }
-until_up() { for _ in $(seq 100); do [ "$(pgrep -x enet_relay | wc -l)" = 1 ] && [ "$(pgrep -x enet_relay)" != "$1" ] && return; sleep 0.1; done; }
+# Until one server runs, and not the one with the process number $1.
+until_up() { local here; for _ in $(seq 100); do here=$(pgrep -x enet_relay); [[ $here =~ ^[0-9]+$ ]] && [ "$here" != "$1" ] && return; sleep 0.1; done; }
 ask() { exec 3<> /dev/tcp/127.0.0.1/9100 && printf 'GET %s HTTP/1.1\r\nHost: a\r\n\r\n' "$1" >&3 && timeout 5 cat <&3; exec 3>&-; }
 export LD_LIBRARY_PATH=/opt/check
 judge disabled "$(systemctl is-enabled enet-relay) $(systemctl is-active enet-relay)" 'disabled inactive'
@@ -357,7 +359,8 @@ try_image() {
     else
         try "$1-image" image
     fi
-    rm -rf "$room/store" "$room/stored" "$room/base"
+    # What podman leaves to clean up behind a container may take a moment longer.
+    rm -rf "$room/store" "$room/stored" "$room/base" 2> "$room/gone" || { sleep 3; rm -rf "$room/store" "$room/stored" "$room/base"; }
 }
 
 removal() {

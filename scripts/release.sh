@@ -2,12 +2,13 @@
 # A release: `release.sh [--after-tests] FOLDER` makes of the commit that is checked out, in FOLDER,
 #   gofnjerta-VERSION-linux-x86_64.tar.gz   the program, the libraries for C, manual, completion, examples, deploy/, docs/ and tools/, to unpack anywhere
 #   *.deb                                   the five packages of package-relay.sh and package-c.sh
+#   gofnjerta-VERSION-proved-libraries.tar.zst   what the gate left of the libraries, for take-libraries.py; only where it has at most 300 MB
 #   PROVED.txt                              commit, kit, how many functions were proved of each crate, what was tested, what is trusted
 #   THIRD-PARTY.txt                         what of others is linked into them, and its licences
 #   SHA256SUMS
 # The checkout must have no change that isn't in the commit. First it runs the gate (`rt ci`, which proves what no earlier gate on this machine
-# has kept) and stops unless that ends with status 0; then archive-c.sh, and `rt check` in each crate that the gate took from an earlier one,
-# whose functions it doesn't count again. With --after-tests it also wants out/tests.txt of this commit and kit, as scripts/test.sh leaves it,
+# has kept) and stops unless that ends with status 0; then archive-c.sh, and count-proved.py, since the gate doesn't count the functions of a crate
+# that it took from an earlier one. With --after-tests it also wants out/tests.txt of this commit and kit, as scripts/test.sh leaves it,
 # without a failure. Files have the commit's time and name no folder of the machine, so that two runs over the same program and archive write
 # the same bytes.
 # `release.sh --pack FOLDER [PROGRAM [ARCHIVE]]` runs no gate and packs what stands there, by default crates/enet_relay/out/enet_relay and
@@ -38,8 +39,8 @@ stop() {
     echo "release.sh: $1" >&2
     exit 1
 }
-for tool in dpkg-deb help2man objdump strip; do
-    command -v "$tool" > "$room/found" || stop "$tool isn't here: it takes Debian's dpkg, help2man and binutils"
+for tool in dpkg-deb help2man objdump strip zstd; do
+    command -v "$tool" > "$room/found" || stop "$tool isn't here: it takes Debian's dpkg, help2man, binutils and zstd"
 done
 
 # Whether out/tests.txt is of this commit and kit, and tells of no failure.
@@ -60,15 +61,11 @@ prove() {
     bash scripts/archive-c.sh > "$room/archive" 2>&1 || { tail -n 5 "$room/archive" >&2; stop "archive-c.sh failed"; }
 }
 
-# The last line of each crate's check: the gate's, or where the gate took what an earlier one kept, that of a check beside it.
-checked_lines() {
-    local crate line
-    sed -n 's/^\([a-z_]\+\)[^#:]*:.*/\1/p' crates.txt | while IFS= read -r crate; do
-        line=$(awk -v crate="$crate" '/^== / { here = $2 == crate && NF == 2 } here && /^logic=proved / { line = $0 } END { print line }' "$room/gate")
-        [ -n "$line" ] || line=$(cd "crates/$crate" && rt check --jobs 1 2>&1 < /dev/null | grep '^logic=proved ' | tail -n 1)
-        [ -n "$line" ] || stop "nobody says how many functions of $crate were proved"
-        echo "$crate $line"
-    done
+# The functions of each crate, with what the gate and archive-c.sh said of them.
+count_proved() {
+    { cat "$room/gate"; echo '== enet_c'; cat "$room/archive"; } > "$room/told"
+    python3 scripts/count-proved.py "$room/told" > "$room/checked" || stop "nobody says how many functions of each crate were proved"
+    ! grep -rqE '^ *axiom ' --include='*.antt' --include='*.rt' crates || stop 'an axiom is declared'
 }
 
 write_proved() {
@@ -83,9 +80,8 @@ write_proved() {
     sed -n 's/^\(rt: ok; .*\); \(done in this run\|every proof\).*/    \1/p; $s/^/    /p' "$room/gate"
     echo
     echo "Functions proved, as the prover counts them:"
-    awk '{ for (i = 3; i <= NF; i++) { if ($i ~ /^functions=/) { split($i, n, "="); sum += n[2]; printf "    %-20s %5d\n", $1, n[2] }
-            if ($i ~ /^(axioms|foreign)=/) beside = beside "    " $1 " " $i "\n" } }
-        END { printf "    %-20s %5d\n\n", "in all", sum; print "Axioms and foreign functions that the prover counts:"
+    awk '{ sum += $2; printf "    %-20s %5d\n", $1, $2; for (i = 3; i <= NF; i++) beside = beside "    " $1 " " $i "\n" }
+        END { printf "    %-20s %5d\n\n", "in all", sum; print "Axioms that a crate declares or that the prover names, and C functions of a crate'"'"'s own:"
             printf "%s", beside == "" ? "    none\n" : beside }' "$room/checked"
     echo
     if [ "$mode" = tests ]; then
@@ -125,8 +121,27 @@ pack_archive() {
     write_copyright > "$there/COPYRIGHT.txt"
     cp "$room/PROVED.txt" "$room/THIRD-PARTY.txt" "$there/"
     chmod -R u=rwX,go=rX "$there"
-    tar -C "$room" --sort=name --format=gnu --owner=0 --group=0 --numeric-owner --mtime="@$SOURCE_DATE_EPOCH" -cf - "$name" | gzip -9n > "$folder/$name.tar.gz"
+    write_tar "$room" "$name" | gzip -9n > "$folder/$name.tar.gz"
     echo "made: $folder/$name.tar.gz"
+}
+
+# The tar of $2.. in the folder $1, the same bytes for the same files.
+write_tar() {
+    tar -C "$1" --sort=name --format=gnu --owner=0 --group=0 --numeric-owner --mtime="@$SOURCE_DATE_EPOCH" --mode=u=rwX,go=rX -cf - "${@:2}"
+}
+
+# The libraries that the gate left.
+pack_libraries() {
+    local file=$folder/gofnjerta-$version-proved-libraries.tar.zst
+    write_tar . crates/*/out/rlib/*.rlib > "$room/libraries.tar"
+    ! grep -qaF -e "$PWD" -e "${room%/*}/tmp." "$room/libraries.tar" || stop 'the libraries name a folder of this machine'
+    zstd -q -12 --long=27 "$room/libraries.tar" -o "$file"
+    if [ "$(stat -c %s "$file")" -gt 300000000 ]; then
+        rm "$file"
+        echo 'left out: the proved libraries take more than 300 MB'
+        return
+    fi
+    echo "made: $file"
 }
 
 # Whether no file of the archive or the packages names a folder of this machine: the checkout's, the kit's or a temporary one.
@@ -141,12 +156,12 @@ names_no_folder() {
 }
 
 # What an earlier run left goes first, so that a run that fails leaves nothing that could be taken for a release.
-rm -f "$folder"/gofnjerta-*.tar.gz "$folder"/*.deb "$folder/PROVED.txt" "$folder/THIRD-PARTY.txt" "$folder/SHA256SUMS"
+rm -f "$folder"/gofnjerta-*.tar.* "$folder"/*.deb "$folder/PROVED.txt" "$folder/THIRD-PARTY.txt" "$folder/SHA256SUMS"
 if [ "$mode" = pack ]; then
     : > "$room/checked"
 else
     prove
-    checked_lines > "$room/checked"
+    count_proved
 fi
 hold_version
 write_proved > "$room/PROVED.txt"
@@ -156,5 +171,6 @@ bash scripts/package-relay.sh "$folder" "$program"
 bash scripts/package-c.sh "$folder" "$archive"
 cp "$room/PROVED.txt" "$room/THIRD-PARTY.txt" "$folder/"
 names_no_folder || stop 'these files name a folder of this machine'
-(cd "$folder" && sha256sum -- *.tar.gz *.deb PROVED.txt THIRD-PARTY.txt > SHA256SUMS)
+[ "$mode" = pack ] || pack_libraries
+(cd "$folder" && sha256sum -- *.tar.* *.deb PROVED.txt THIRD-PARTY.txt > SHA256SUMS)
 echo "made: $folder/SHA256SUMS"

@@ -3,7 +3,8 @@
 `rt check` builds the libraries below a crate by itself, from nothing, in an hour and more. It takes none that `rt ci` left, since those have no
 stamp, which says of which text they are: they fit one another, and no library that a check built. So here each gets a stamp in TO that is newer
 than all files of its crate in FROM, where the same text stands in TO, and all below it are taken, too. A check in TO then proves only what differs.
-It is a help to whoever writes: `rt ci` takes nothing of it.
+It is a help to whoever writes: `rt ci` takes nothing of it. FROM may also be a checkout of a release's commit in which its proved libraries
+were unpacked by `tar -xmf`, so that they are newer than its files; they are trusted then.
 
 Waits until no `rt` works in either checkout. Prints how many were taken. It stands on the kit's `rtlib`.
 """
