@@ -8,9 +8,12 @@
 - README's commands name files that are there, and its command for all tests is the one that .ci/run runs;
 - the code that docs/USING.md shows stands in an example or in a trial, which the tests compile and run;
 - the counts of definitions that docs/HEADLINE.md and docs/PROOFS.md tell are those of scripts/trusted.py;
+- docs/USING.md has a row for each refusal of the code, docs/FAQ.md one for each stop;
+- docs/OPERATING.md has a row for each option of `serve`, with the range and the default that the code has;
 - the version that `enet_relay --version` tells, in the code and in its definition, is the one of the file VERSION, and so are those that
   README's files have and that CHANGELOG.md begins with;
-- docs/PERF.md begins with the line that names the start, which never changes;
+- docs/PERF.md begins with the line that names the start, which never changes, and its table has the counts of bench/instructions.txt;
+- no document has more of the habits that scripts/tics.py counts, in 100 words, than scripts/tics.txt says;
 - the plots are what measure/draw.py makes of measure/results.
 
 The last line is 'N passed, M failed'; the status is 1 where one fails.
@@ -22,7 +25,7 @@ import re
 import subprocess
 import sys
 
-DOCUMENTS = ["README.md", "CONTRIBUTING.md", *sorted(glob.glob("docs/*.md"))]
+DOCUMENTS = ["README.md", "CONTRIBUTING.md", "SECURITY.md", *sorted(glob.glob("docs/*.md"))]
 # Names that stand nowhere in the repository by their nature: the kit's, the system's and the reference library's own.
 ELSEWHERE = re.compile(
     r"rt( .*)?|rattle.*|logic [0-9a-f]+|SHORTER_PROOFS\.md|FIRST_PROOFS\.md|docs/NOT_COVERED\.md|itoa|"
@@ -202,6 +205,48 @@ def start(counts):
     """What docs/PERF.md measures from: its first line says it, for good."""
     first = read("docs/PERF.md").split("\n", 1)[0]
     counts.check(first == START, f"docs/PERF.md: the first line is '{first}', not '{START}'")
+    seen = subprocess.run([sys.executable, "scripts/perf.py"], capture_output=True, text=True, check=False)
+    counts.check(seen.returncode == 0, seen.stdout.strip())
+
+
+def options_of(source):
+    """The options that functions of a source make: a name, the least and the greatest number (or None), and the default (or None)."""
+    for body in re.split(r"^(?:pub )?fn ", source, flags=re.M)[1:]:
+        named = re.search(r'(?:number\d*|Arg::new)\(alloc, "([\w-]+)"(?:, ([\d_]+), ([\d_]+))?\)', body)
+        if named and ".long(" + f'"{named[1]}")' in body or named and named[2]:
+            least = re.search(r"range\(([\d_]+)\.\.=([\d_]+)\)", body)
+            ends = (named[2], named[3]) if named[2] else least.groups() if least else None
+            default = re.search(r'default_value\("([^"]+)"\)|\[default: (\d+)\]', body)
+            yield named[1], ends, default and (default[1] or default[2])
+
+
+def labels(counts):
+    """A row for each refusal and each stop, by its label. (E15 is the lab's own.)"""
+    for source, document in (("refusal", "docs/USING.md"), ("stop", "docs/FAQ.md")):
+        made = re.findall(r'#\[error\("([ES]\d+ \w+)"\)\]', read(f"crates/enet_codec/src/{source}.rt"))
+        told = re.findall(r"^\| ([ES]\d+ \w+) \|", read(document), re.M)
+        counts.check(made and made == [row for row in told if row != "E15 BadScript"], f"{document}: its rows are of {told}, the code has {made}")
+
+
+def with_commas(digits):
+    return f"{int(digits.replace('_', '')):,}" if re.fullmatch(r"[\d_]+", digits) else digits
+
+
+def options(counts):
+    """The table of options in docs/OPERATING.md beside what the code has."""
+    console = "crates/enet_console/src/"
+    made = {}
+    for name, ends, default in [*options_of(read(console + "command_line.rt")), *options_of(read(console + "admission.rt"))]:
+        made.setdefault(name, (ends, default))
+    made = {name: what for name, what in made.items() if name not in ("at", "clients", "timeline")}
+    rows = re.findall(r"^\| (`--[^|]*) \| ([^|]*) \|", read("docs/OPERATING.md"), re.M)
+    told = {name: says for cell, says in rows for name in re.findall(r"--([\w-]+)", cell)}
+    counts.check(set(made) == set(told), f"docs/OPERATING.md: options of the code or of the table alone: {sorted(set(made) ^ set(told))}")
+    for name in set(made) & set(told):
+        ends, default = made[name]
+        wanted = [f"{with_commas(ends[0])} (?:to|or) {with_commas(ends[1])}"] if ends else []
+        wanted += [rf"\({re.escape(with_commas(default))}\)"] if default else []
+        counts.check(all(re.search(each, told[name]) for each in wanted), f"docs/OPERATING.md: --{name} has '{told[name]}', the code {made[name]}")
 
 
 def version(counts):
@@ -218,6 +263,11 @@ def version(counts):
     counts.check(newest and newest[1] == told, f"CHANGELOG.md doesn't begin with the version {told} of the file VERSION")
 
 
+def habits(counts):
+    seen = subprocess.run([sys.executable, "scripts/tics.py", "--check"], capture_output=True, text=True, check=False)
+    counts.check(seen.returncode == 0, seen.stdout.strip())
+
+
 def plots(counts):
     drawn = subprocess.run([sys.executable, "measure/draw.py", "--check"], capture_output=True, text=True, check=False)
     counts.check(drawn.returncode == 0, drawn.stdout.strip())
@@ -226,7 +276,7 @@ def plots(counts):
 def main():
     os.chdir(os.path.join(os.path.dirname(os.path.abspath(__file__)), ".."))
     counts = Counts()
-    for check in (stated, names, links, commits, commands, shown, trusted, start, version, plots):
+    for check in (stated, names, links, commits, commands, shown, trusted, start, labels, options, version, habits, plots):
         check(counts)
     print(f"{counts.passed} passed, {counts.failed} failed")
     return 1 if counts.failed else 0

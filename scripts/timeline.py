@@ -7,9 +7,11 @@
     timeline.py crowd OUT               makes one of 30 connections, and 600 datagrams of one of them
     timeline.py random SEED OUT         makes one of random datagrams at random times, between few addresses
     timeline.py check CAPTURE WORDS SVG reads a capture by itself, and compares the summary and the picture with what it finds
+    timeline.py marks ROWS PROGRAM ROOM runs PROGRAM on each row of a file of rows, in the folder ROOM, and compares what is marked
 """
 import random
 import struct
+import subprocess
 import sys
 import xml.etree.ElementTree
 
@@ -23,6 +25,14 @@ CONNECTIONS = 24
 DATAGRAMS = 500
 KEPT = 256
 SVG = '{http://www.w3.org/2000/svg}'
+NEVER = 1 << 60
+OTHER = {'right': 'left', 'left': 'right'}
+VAIN = 'lost or late behind this point, or not yet read'
+MARKED = {'none', 'early', 'vain', 'again', 'twice'}
+CLASSES = {'none': 'cross', 'early': 'early', 'vain': 'vain', 'again': 'again', 'twice': 'twice'}
+WORDS = {'none': 'no acknowledgement seen', 'early': 'sent again too early', 'vain': 'what it acknowledges was sent again all the same: ',
+         'twice': 'the same datagram, seen before'}
+ROW_KINDS = {'ack': 1, 'connect': 2, 'verify': 3, 'ping': 5, 'reliable': 6, 'say': 7}
 
 
 def address(text):
@@ -121,7 +131,7 @@ def packets(path):
 
 
 def commands(payload):
-    """The commands as (kind, asks, channel, number, received number, connect id), and why the rest can't be read."""
+    """The commands as (kind, asks, channel, number, what is acknowledged, connect id), and why the rest can't be read."""
     if len(payload) < 2:
         return [], 'S1 Short'
     word = struct.unpack_from('>H', payload)[0]
@@ -141,7 +151,7 @@ def commands(payload):
             if at + length > len(payload):
                 return found, 'S6 BadCommand'
         channel, number = struct.unpack_from('>BH', payload, at + 1)
-        received = struct.unpack_from('>H', payload, at + 4)[0] if kind == 1 else None
+        received = struct.unpack_from('>HH', payload, at + 4) if kind == 1 else None
         identifier = struct.unpack_from('>I', payload, at + 40)[0] if kind == 2 else None
         found.append((kind, bool(payload[at] & 0x80), channel, number, received, identifier))
         at += length
@@ -152,19 +162,16 @@ class Connection:
     def __init__(self, left, right, identifier):
         self.left, self.right, self.identifier = left, right, identifier
         self.datagrams = []
+        self.known = None
 
     def says(self, index):
         number_of = {'right': 0, 'left': 0}
-        kinds, stops, sent, answers = {}, {}, {'right': [], 'left': []}, {'right': [], 'left': []}
-        for number, at, way, found, stop in self.datagrams:
+        kinds, stops = {}, {}
+        for number, at, way, found, stop, _ in self.datagrams:
             number_of[way] += 1
             stops[stop] = stops.get(stop, 0) + 1
-            for kind, asks, channel, count, received, _ in found:
+            for kind, *_ in found:
                 kinds[kind] = kinds.get(kind, 0) + 1
-                if asks:
-                    sent[way].append((number, kind, channel, count))
-                if kind in (1, 3):
-                    answers[way].append((number, kind, channel, received))
         times = [at for _, at, *_ in self.datagrams]
         lines = [f'connection {index}: {self.left} and {self.right}'
                  + (f', connect id {self.identifier:08x}' if self.identifier is not None else '')]
@@ -173,10 +180,15 @@ class Connection:
         lines += [f'  {stops[stop]} can\'t be read to their end: {stop}' for stop in ('S1 Short', 'S2 Compressed', 'S6 BadCommand') if stop in stops]
         for head, order in ((f'{sum(kinds.values())} commands', KINDS), ('packets', PACKETS)):
             lines.append(f'  {head}:' + ''.join(f' {NAMES[kind]} {kinds[kind]}' for kind in order if kind in kinds))
-        again = {way: sum(went_before(sent[way], i) for i in range(len(sent[way]))) for way in sent}
-        left = {'right': unanswered(sent['right'], answers['left']), 'left': unanswered(sent['left'], answers['right'])}
-        lines.append(f'  sent again: {again["right"]} to the right, {again["left"]} to the left; '
-                     f'not acknowledged: {left["right"]} to the right, {left["left"]} to the left')
+        fates = self.fates()
+        for way in 'right', 'left':
+            of = [fate for (_, _, other, *_), fate in zip(self.datagrams, fates) if other == way]
+            lines.append(f'  to the {way}: acknowledged {sum("acknowledged" in fate for fate in of)}; no acknowledgement seen '
+                         f'{sum("none" in fate for fate in of)}; not acknowledged and not sent again {sum("open" in fate for fate in of)}; '
+                         f'sent again {sum("again" in fate for fate in of)}, too early {sum("early" in fate for fate in of)}')
+        for way in 'right', 'left':
+            vain = sum('vain' in fate for (_, _, other, *_), fate in zip(self.datagrams, fates) if other == way)
+            lines += [f'  {vain} to the {way} acknowledge what is sent again all the same: {VAIN}'] if vain else []
         gaps = [max(b - a, 0) for a, b in zip(times, times[1:])]
         if gaps:
             lines.append(f'  longest gap: {seconds(max(gaps))} s, before datagram {self.datagrams[gaps.index(max(gaps)) + 1][0]}')
@@ -184,39 +196,64 @@ class Connection:
             lines.append(f'  drawn are the first {DATAGRAMS} datagrams')
         return lines
 
-    def arrows(self):
-        """How many arrows are drawn, of these how many of what went before, and how many crosses."""
-        places = {'right': 0, 'left': 0}
-        sent = {way: [(0, kind, channel, count) for _, _, other, found, _ in self.datagrams if other == way
-                      for kind, asks, channel, count, *_ in found if asks] for way in places}
-        again = lost = 0
-        for _, _, way, found, _ in self.datagrams[:DATAGRAMS]:
-            asking = [i for i in range(places[way], places[way] + sum(command[1] for command in found))]
-            places[way] += len(asking)
-            again += any(went_before(sent[way], i) for i in asking)
-            lost += any(goes_again(sent[way], i) for i in asking)
-        return len(self.datagrams[:DATAGRAMS]), again, lost
+    def fates(self):
+        """What is marked of each datagram, by the rule: a send is a command that asks, by channel, number and sent time."""
+        if self.known is not None:
+            return self.known
+        seen, last, sends, turns, asked = {}, {}, {}, {'right': 0, 'left': 0}, []
+        verified = {way for _, _, way, found, *_ in self.datagrams for kind, *_ in found if kind == 3}
+        for place, (_, _, way, found, _, time) in enumerate(self.datagrams):
+            for kind, asks, channel, number, received, _ in found:
+                if received is not None:
+                    back = sends.get((OTHER[way], channel, *received))
+                    if back is not None:
+                        back['acknowledged'] = min(back['acknowledged'], len(asked))
+                    asked.append({'place': place, 'back': back})
+                else:
+                    asked.append({'place': place, 'back': None})
+                if not asks:
+                    continue
+                command, send = (way, channel, number), (way, channel, number, time)
+                turn, now = turns[way], len(asked) - 1
+                turns[way] += 1
+                one = {'place': place, 'index': now, 'acknowledged': NEVER, 'again': NEVER, 'before': None, 'twice': False, 'turn': turn,
+                       'waits': not (kind == 2 and OTHER[way] in verified)}
+                asked[now]['send'] = one
+                before = seen.get(send) if time is not None else None
+                seen[send] = turn
+                if before is not None and turn - before <= REACH:
+                    one.update(twice=True, waits=False)
+                    continue
+                before = last.get(command)
+                if before is not None and turn - before['turn'] <= REACH:
+                    one['before'] = before
+                    before['again'] = min(before['again'], now)
+                last[command] = one
+                if time is not None:
+                    sends[send] = one
+        fates = [set() for _ in self.datagrams]
+        for now, command in enumerate(asked):
+            fate, send, back = fates[command['place']], command.get('send'), command['back']
+            if back is not None and now < back['again'] < NEVER:
+                fate.add('vain')
+            if send is not None:
+                fate |= {name for name, holds in (
+                    ('waits', send['waits']), ('acknowledged', send['acknowledged'] < NEVER), ('goes', send['waits'] and send['again'] < NEVER),
+                    ('again', send['before'] is not None), ('twice', send['twice']),
+                    ('early', send['before'] is not None and now < send['before']['acknowledged'] < NEVER)) if holds}
+        for fate in fates:
+            if 'waits' in fate and 'acknowledged' not in fate:
+                fate.add('none' if 'goes' in fate else 'open')
+        self.known = fates
+        return fates
 
 
 def seconds(microseconds):
     return f'{microseconds // 1000000}.{microseconds % 1000000:06d}'
 
 
-def went_before(sent, i):
-    return any(other[2:] == sent[i][2:] for other in sent[max(i - REACH, 0):i])
-
-
-def goes_again(sent, i):
-    return any(other[2:] == sent[i][2:] for other in sent[i + 1:i + 1 + REACH])
-
-
-def unanswered(sent, answers):
-    count = 0
-    for i, (number, kind, channel, asked) in enumerate(sent):
-        behind = [answer for answer in answers if answer[0] >= number][:REACH]
-        answered = any((k == 1 and c == channel and r == asked) or (k == 3 and kind == 2) for _, k, c, r in behind)
-        count += not goes_again(sent, i) and not answered
-    return count
+def sent_time(payload):
+    return struct.unpack_from('>H', payload, 2)[0] if len(payload) >= 4 and payload[0] & 0x80 else None
 
 
 def connections(datagrams):
@@ -231,7 +268,7 @@ def connections(datagrams):
                 continue
             last = Connection(source, target, identifier)
             found.append(last)
-        last.datagrams.append((number, at, 'right' if source == last.left else 'left', told, stop))
+        last.datagrams.append((number, at, 'right' if source == last.left else 'left', told, stop, sent_time(payload)))
     return found, unkept
 
 
@@ -250,14 +287,98 @@ def check(capture, words, picture):
             sys.exit(f'line {line + 1} is {other!r} where {one!r} is wanted')
     if len(wanted) != len(told):
         sys.exit(f'{len(told)} lines where {len(wanted)} are wanted')
-    tree = xml.etree.ElementTree.parse(picture)
-    classes = [path.get('class', '').split() for path in tree.iter(SVG + 'path')]
-    heads = sum('head' in names for names in classes)
-    again = sum('head' in names and 'again' in names for names in classes)
-    crosses = sum('cross' in names for names in classes) - 1
-    totals = [sum(counts) for counts in zip((0, 0, 0), *(connection.arrows() for connection in found[:CONNECTIONS]))]
-    if [heads, again, crosses] != totals:
-        sys.exit(f'{heads} arrows, {again} again, {crosses} crosses where {totals} are wanted')
+    drawn = marks_drawn(picture)
+    for connection in found[:CONNECTIONS]:
+        for (number, *_), fate in list(zip(connection.datagrams, connection.fates()))[:DATAGRAMS]:
+            if drawn.get(number) != fate & MARKED:
+                sys.exit(f'datagram {number} is drawn as {drawn.get(number)} where {fate & MARKED} is wanted')
+    count = sum(min(len(connection.datagrams), DATAGRAMS) for connection in found[:CONNECTIONS])
+    if len(drawn) != count:
+        sys.exit(f'{len(drawn)} arrows where {count} are wanted')
+
+
+def marks_drawn(picture):
+    """What is marked of each datagram in a picture, by its number: by the arrow's elements, with which the words on it must agree."""
+    found = {}
+    for group in xml.etree.ElementTree.parse(picture).iter(SVG + 'g'):
+        title = group.find(SVG + 'title').text.splitlines()
+        classes = [each.get('class', '').split() for each in group]
+        heads = [names for names in classes if 'head' in names]
+        marks = {mark for mark, name in CLASSES.items() if any(name in names for names in classes)}
+        told = {mark for mark, words in WORDS.items() if any(line.startswith(words) for line in title)}
+        if len(heads) != 1 or marks - {'again', 'twice'} != told - {'twice'} or 'twice' in marks - told:
+            sys.exit(f'{title} has {classes}')
+        found[int(title[0].split()[1].rstrip(','))] = marks | told
+    return found
+
+
+def command_of(word):
+    """A command of a row: its name, channel and number, and of an acknowledgement the sent time."""
+    name, _, rest = word.partition('=')
+    channel, _, rest = rest.partition(':')
+    number, _, time = rest.partition('@')
+    channel, number = 255 if channel == 'c' else int(channel), int(number)
+    kind = ROW_KINDS[name]
+    head = struct.pack('>BBH', kind | (0 if name in ('ack', 'say') else 0x80), channel, number)
+    if name == 'ack':
+        return head + struct.pack('>HH', number, int(time))
+    return head + {'connect': bytes(36) + struct.pack('>II', 7, 0), 'verify': bytes(40), 'ping': b'', 'reliable': b'\0\1x', 'say': b'\0\1\0\1x'}[name]
+
+
+def row_of(lines):
+    """The datagrams of a row with what is marked of each, and what its summary says, at the left end, at the right end, or at neither."""
+    ends = {'>': ('10.0.0.1:4660', '10.0.0.2:47001'), '<': ('10.0.0.2:47001', '10.0.0.1:4660')}
+    datagrams, wanted, says = [], [], []
+    for line in lines:
+        words, _, marks = line.partition('#')
+        words, marks = words.split(), set(marks.split())
+        if words[0] == 'says':
+            says.append(line.partition(' ')[2])
+            continue
+        way, at, time = words[0], 1000000000 + int(1000 * float(words[1])), words[2]
+        header = struct.pack('>H', 0) if time == '-' else struct.pack('>HH', 0x8000, int(time))
+        if words[3] == 'pings':
+            first, count = (int(part) for part in words[4].split('+'))
+            for start in range(first, first + count, 100):
+                each = [struct.pack('>BBH', 0x85, 255, number % 65536) for number in range(start, min(start + 100, first + count))]
+                datagrams.append((at, *ends[way], header + b''.join(each)))
+                wanted.append(marks)
+        else:
+            datagrams.append((at, *ends[way], header + b''.join(command_of(word) for word in words[3:])))
+            wanted.append(marks)
+    return datagrams, wanted, says
+
+
+def rows_of(path):
+    rows = {}
+    for line in open(path):
+        if line.startswith('row '):
+            name = line[4:].strip()
+            rows[name] = []
+        elif line.strip() and not line.startswith('#'):
+            rows[name].append(line.strip())
+    return rows
+
+
+def marks(path, program, room):
+    wrong = False
+    for name, lines in rows_of(path).items():
+        datagrams, wanted, says = row_of(lines)
+        write(f'{room}/row', datagrams)
+        for end in ([], ['--at', 'LEFT'], ['--at', 'RIGHT']):
+            told = subprocess.run([program, 'inspect', f'{room}/row', '--timeline', f'{room}/row.svg', *end], capture_output=True, text=True, timeout=60)
+            lines = told.stdout.splitlines()
+            for line in says:
+                at, _, line = line.partition(' ')
+                if at in ('ever', ''.join(end[1:]) or 'unknown') and '  ' + line not in lines:
+                    wrong = True
+                    print(f'{name} {end}: the summary has no line {line!r}: {told.stdout}')
+            drawn = marks_drawn(f'{room}/row.svg')
+            for number, marks in list(enumerate(wanted))[:DATAGRAMS]:
+                if drawn.get(number) != marks:
+                    wrong = True
+                    print(f'{name} {end}: datagram {number} is drawn as {drawn.get(number)} where {marks} is wanted')
+    sys.exit(wrong)
 
 
 def main():
@@ -270,6 +391,8 @@ def main():
             write(out, crowd())
         case ['random', seed, out]:
             write(out, drawn(int(seed)))
+        case ['marks', rows, program, room]:
+            marks(rows, program, room)
         case ['check', capture, words, picture]:
             check(capture, words, picture)
         case _:
