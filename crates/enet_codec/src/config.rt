@@ -54,7 +54,7 @@ pub struct Config {
 }
 
 impl Config {
-    /// The settings that serve most hosts: ENet's own mtu of 1,392 bytes, no bandwidth limits, 33,554,432 bytes each for a
+    /// The settings that serve most hosts: an mtu of 1,392 bytes (libenet 1.3.18's default), no bandwidth limits, 33,554,432 bytes each for a
     /// packet and for what waits, 1,000,000 generations, a clock that begins at 0, and no secret. It tests nothing: what opens a host
     /// does.
     pub fn standard(peers: u16, channels: u8) -> Config

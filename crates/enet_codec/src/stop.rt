@@ -36,7 +36,8 @@ pub enum Stop {
     /// The fields of a fragment don't fit together or to its packet, or a payload is above the maximum packet size.
     #[error("S9 BadFragment")]
     BadFragment,
-    /// The command begins a packet while the bytes waiting are at the limit.
+    /// The command begins a packet while the bytes or the packets that wait are at their limit, or it asks for an acknowledgement while
+    /// 8,192 of them wait to go.
     #[error("S10 Waiting")]
     Waiting,
     /// There is no memory for the command (our profile).
