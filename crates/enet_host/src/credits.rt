@@ -1,7 +1,8 @@
 //! What the address of a peer sent for it, and what it got: so a host answers nobody at length who may not be there.
 
 ghost use Rattle.std.specs.Prelude.{◌≡◌, IfOk, IfErr, replicate};
-ghost use Rattle.enet_host.specs.Crediting.{came, is_short, is_short_at, no_credit, size_of, went, with_came, with_first, with_went};
+ghost use Rattle.enet_host.specs.Crediting.{came, is_short, is_short_at, no_credit, size_of, went, with_came, with_went};
+ghost use Rattle.enet_host.specs.Private.Crediting.{offered, with_offer};
 
 use enet_codec::Refusal;
 use std::alloc::Global;
@@ -61,6 +62,17 @@ impl Credit {
         }
     }
 
+    /// A CONNECT of so many bytes came: of the peer that is there, or of one that begins by it.
+    fn with_offer(self, is_known: bool, len: usize) -> Credit
+        ensures { result ≡ offered is_known len self }
+    {
+        if is_known {
+            self.with_came(len)
+        } else {
+            Credit::none().with_came(len)
+        }
+    }
+
     /// Whether another answer would bring what went above three times what came.
     pub(crate) fn is_short(self) -> bool
         ensures { result ≡ is_short self }
@@ -89,12 +101,12 @@ pub(crate) fn count_came(credits: &mut Vec<Credit>, number: usize, len: usize)
     }
 }
 
-/// A datagram of so many bytes came by which the peer of the slot of this number began.
-pub(crate) fn count_first(credits: &mut Vec<Credit>, number: usize, len: usize)
-    ensures { credits.new.items ≡ with_first credits.old.items number len }
+/// A CONNECT of so many bytes came for the slot of this number: of the peer that it holds, or of one that began by it.
+pub(crate) fn count_offer(credits: &mut Vec<Credit>, number: usize, is_known: bool, len: usize)
+    ensures { credits.new.items ≡ with_offer credits.old.items number is_known len }
 {
     if let Some(credit) = credits.get_mut(number) {
-        *credit = Credit::none().with_came(len);
+        *credit = credit.with_offer(is_known, len);
     }
 }
 

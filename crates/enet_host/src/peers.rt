@@ -182,12 +182,20 @@ impl HostCore {
         Some(calls::peer_of(&self.slots, peer)?.round_trip())
     }
 
-    /// How many payload bytes of reliable packets were sent to the peer and are not acknowledged; None where there is no such
-    /// peer.
+    /// How many payload bytes of reliable packets are in transit to the peer: sent, not acknowledged and not due to go again. None if there
+    /// is no such peer.
     pub fn in_transit(&self, peer: PeerRef) -> Option<u32>
         ensures { result ≡ option_map (λ p. transit_of p.outbox) (named self.now.slots peer) }
     {
         Some(calls::peer_of(&self.slots, peer)?.in_transit())
+    }
+
+    /// The peer's allowance in bytes, 2,800 to 131,072: so much may be in transit to it, each command with 28 bytes more than its payload.
+    /// From 65,536 on it limits nothing. None if there is no such peer.
+    pub fn allowance(&self, peer: PeerRef) -> Option<u32>
+        ensures { result ≡ option_map (λ p. p.outbox.allowance.bytes) (named self.now.slots peer) }
+    {
+        Some(calls::peer_of(&self.slots, peer)?.allowance())
     }
 
     /// How much of the peer's unreliable packets goes, in parts of 32; None where there is no such peer.

@@ -9,7 +9,7 @@ ghost use Rattle.enet_host.specs.Private.Receiving.{is_heard, OfferCredits};
 ghost use Rattle.enet_sleepers.specs.Sleeping.{KeepsSleepers};
 ghost use Rattle.enet_slot.specs.Slotted.{all_shown};
 
-use crate::credits::{Credit, count_came, count_first};
+use crate::credits::{Credit, count_came, count_offer};
 use enet_codec::{Addr, Header, MAX_CHANNELS, NO_PEER, Received, Stop};
 use enet_connect::Offer;
 use enet_peer::{read_heading, read_offer};
@@ -107,7 +107,7 @@ fn take_offer(
     }
     let place = match sleepers.seat_for(slots, from, offer.connect_id, start.config.generations) {
         Seat::Known(place) => {
-            count_came(credits, place, len);
+            count_offer(credits, place, true, len);
             return HANDLED_ONE;
         }
         Seat::At(place) => place,
@@ -119,7 +119,7 @@ fn take_offer(
     let slot = &mut slots[place];
     match slot.answer(start, place as u16, from, offer) {
         Ok(()) => {
-            count_first(credits, place, len);
+            count_offer(credits, place, false, len);
             HANDLED_ONE
         }
         Err(_) => stopped(Stop::Memory),

@@ -1,5 +1,5 @@
 -- One channel, turn by turn.
-use Rattle.std.proofs.Common.{◌≡◌, ℕ, zero, suc, ◌+◌, ◌-◌, ◌<◌, ◌≤◌, List, [], ◌∷◌, length, refl, sym, ap, ◌∙◌, subst, arith, Bool, true, false, not, cond, Option, Some, None, slice_set, sum_by}
+use Rattle.std.proofs.Common.{◌≡◌, ℕ, zero, suc, ◌+◌, ◌-◌, ◌<◌, ◌≤◌, List, [], ◌∷◌, length, refl, sym, ap, ◌∙◌, subst, arith, max, Bool, true, false, not, cond, Option, Some, None, slice_set, sum_by}
 use Rattle.std.specs.List.{slice_get}
 use Rattle.std.proofs.lemmas.List.Sums.{sum_by-cons}
 use Rattle.enet_codec.specs.Message.{IsMessage, Message, canonical}
@@ -11,15 +11,16 @@ use Rattle.enet_fragment.specs.DataCommand.{message_of}
 use Rattle.enet_sender.specs.declared.outgoing.Due.TheVariants as due
 use Rattle.enet_sender.specs.declared.outgoing.Kind.{Kind}
 use Rattle.enet_sender.specs.declared.outgoing.Kind.TheVariants as kind
-use Rattle.enet_sender.specs.Sender.{Next, next, with_skipped, bytes_in_transit, is_more}
+use Rattle.enet_sender.specs.declared.outgoing.Occasion.{Occasion}
+use Rattle.enet_sender.specs.Sender.{Next, next, with_skipped, bytes_in_transit, prices_in_transit, is_more}
 use Rattle.enet_sender.specs.Due.{SendingEnd, due_kind, Did}
-use Rattle.enet_sender.proofs.Transit.{transit-next}
+use Rattle.enet_sender.proofs.Transit.{transit-next, prices-next}
 use Rattle.enet_outbox.specs.declared.parts.Pace.{Pace}
 use Rattle.enet_outbox.specs.declared.packing.Progress.{Progress}
 use Rattle.enet_outbox.specs.declared.packing.Flow.{Flow}
-use Rattle.enet_outbox.specs.Outbox.{Outbox, transit_of}
-use Rattle.enet_outbox.specs.Emission.{Filling, fits, with_command, shut, repeated, asked, with_sender, data_put, data_step, due_step, channel_step, with_one_data, with_channel, channel_turns, turns_of, transit_limit}
-use Rattle.enet_outbox.specs.Private.Packing.{Holds, taken_in, place_in, Leads, asked_for, refuses, with_flow, Shares}
+use Rattle.enet_outbox.specs.Outbox.{Outbox}
+use Rattle.enet_outbox.specs.Emission.{Filling, fits, with_command, shut, repeated, asked, with_sender, data_put, data_step, due_step, channel_step, with_one_data, with_channel, channel_turns, turns_of, transit_limit, price_limit, occasion}
+use Rattle.enet_outbox.specs.Private.Packing.{Holds, taken_in, place_in, Leads, asked_for, refuses, with_flow, Counts, Shares, told}
 use Rattle.enet_senders.proofs.Each.{set-there}
 use Rattle.enet_senders.proofs.Sets.{get-set}
 use Rattle.enet_outbox.proofs.Fillings.{fits-written, holds-written, holds-back, holds-other, unfit, holds-shut, leads-by, place-open, place-full}
@@ -50,12 +51,16 @@ transit-set : (senders : List SendingEnd) (i : ℕ) (s t : SendingEnd) → slice
     sum_by (λ (s : SendingEnd). bytes_in_transit s.sender) (slice_set senders i t) + bytes_in_transit s.sender ≡ sum_by (λ (s : SendingEnd). bytes_in_transit s.sender) senders + bytes_in_transit t.sender
 transit-set senders i s t e = sum-set (λ (s : SendingEnd). bytes_in_transit s.sender) senders i s t e
 
+prices-set : (senders : List SendingEnd) (i : ℕ) (s t : SendingEnd) → slice_get senders i ≡ Some s →
+    sum_by (λ (s : SendingEnd). prices_in_transit s.sender) (slice_set senders i t) + prices_in_transit s.sender ≡ sum_by (λ (s : SendingEnd). prices_in_transit s.sender) senders + prices_in_transit t.sender
+prices-set senders i s t e = sum-set (λ (s : SendingEnd). prices_in_transit s.sender) senders i s t e
+
 -- what a call did
-pub did-sent : (n : Option Next) (past added : ℕ) (k : Kind) (old new : SendingEnd) (from : List ℕ) (at : ℕ) (to : List ℕ) → Did n (due.Sent past added k) old new (record { old = from; at = at; new = to }) →
-    (m : Next) × (n ≡ Some m) × Puts from at (canonical (message_of old.channel m.command)) to past × (added ≡ m.added) × (k ≡ due_kind m.command) × (new ≡ record old { sender = m.sender })
+pub did-sent : (n : Option Next) (past added price : ℕ) (k : Kind) (old new : SendingEnd) (from : List ℕ) (at : ℕ) (to : List ℕ) → Did n (due.Sent past added price k) old new (record { old = from; at = at; new = to }) →
+    (m : Next) × (n ≡ Some m) × Puts from at (canonical (message_of old.channel m.command)) to past × (added ≡ m.added) × (price ≡ m.price) × (k ≡ due_kind m.command) × (new ≡ record old { sender = m.sender })
     × IsMessage (message_of old.channel m.command)
-did-sent None past added k old new from at to d = absurd d
-did-sent (Some m) past added k old new from at to d = (m, refl, d.0, d.1, d.2, d.3, d.4)
+did-sent None past added price k old new from at to d = absurd d
+did-sent (Some m) past added price k old new from at to d = (m, refl, d.0, d.1, d.2, d.3, d.4, d.5)
 
 did-full : (n : Option Next) (old new : SendingEnd) (from : List ℕ) (at : ℕ) (to : List ℕ) → Did n due.NoRoom old new (record { old = from; at = at; new = to }) →
     (m : Next) × (n ≡ Some m) × (length from < at + length (canonical (message_of old.channel m.command))) × (new ≡ old) × (to ≡ from)
@@ -67,10 +72,10 @@ did-nothing None old new from at to d = (refl, d.0, d.1)
 did-nothing (Some m) old new from at to d = absurd d
 
 -- there was room for the command that was written
-pub channel-room : (p : Progress) (past added : ℕ) (k : Kind) (old new : SendingEnd) (from to : List ℕ) (n : Option Next) → Did n (due.Sent past added k) old new (record { old = from; at = place_in p from; new = to }) →
+pub channel-room : (p : Progress) (past added price : ℕ) (k : Kind) (old new : SendingEnd) (from to : List ℕ) (n : Option Next) → Did n (due.Sent past added price k) old new (record { old = from; at = place_in p from; new = to }) →
     (0 < p.commands) × (p.at < length to)
-channel-room p past added k old new from to n d =
-    let s = did-sent n past added k old new from (place_in p from) to d in
+channel-room p past added price k old new from to n d =
+    let s = did-sent n past added price k old new from (place_in p from) to d in
     let w = place-open p from (canonical (message_of old.channel s.0.command)) to past (omega arith) s.2 in
     (w.0, w.2)
 
@@ -101,7 +106,7 @@ step-drop f channel s n kind.Begins e =
 
 -- what is due next on a channel of a filling
 abbrev due_next : Pace → Outbox → SendingEnd → Option Next
-due_next pace o s = next wire (record { now = pace.now; timeout = pace.timeout; transit = transit_of o; most = transit_limit pace o }) s.sender
+due_next pace o s = next wire (occasion pace o) s.sender
 
 -- so many turns more
 abbrev more_data : Pace → ℕ → ℕ → Filling → Filling
@@ -138,7 +143,7 @@ pub record ChannelAt (pace : Pace) (channel : ℕ) (f : Filling) (s : SendingEnd
   pub outbox : g.outbox ≡ with_flow f.outbox (slice_set f.outbox.senders channel s) w
   pub enough : left_of s.sender ≤ turns
   pub stage : with_channel pace f channel ≡ more_data pace channel turns g
-  pub in_transit : transit_of g.outbox ≡ w.transit
+  pub counts : Counts g.outbox w
 
 pub channel-begin : {pace : Pace} {channel : ℕ} {f : Filling} {s : SendingEnd} {w : Flow} {p : Progress} {buf : List ℕ} → Holds f p buf → f.closed ≡ false → slice_get f.outbox.senders channel ≡ Some s → Shares f.outbox w → ChannelAt pace channel f s w p buf
 channel-begin {pace} {channel} {f} {s} {w} {p} {buf} h opened there e = record {
@@ -152,67 +157,81 @@ channel-begin {pace} {channel} {f} {s} {w} {p} {buf} h opened there e = record {
       ∙ ap (λ (l : Option ℕ). record f.outbox { senders = slice_set f.outbox.senders channel s; throttle = w.throttle; last = l }) e.1;
   enough = let P : Option SendingEnd → Type 0 = λ o. left_of s.sender ≤ turns_of o in subst P (sym there) (left-most s.sender);
   stage = refl;
-  in_transit = e.2;
+  counts = e.2;
 }
 
 -- what the code finds due
 abbrev pub due_by : Pace → SendingEnd → Flow → Option Next
-due_by pace s w = next wire (record { now = pace.now; timeout = pace.timeout; transit = w.transit; most = transit w.throttle pace.window pace.mtu }) s.sender
+due_by pace s w = next wire (told pace w) s.sender
 
 here : {pace : Pace} {channel : ℕ} {f : Filling} {s : SendingEnd} {w : Flow} {p : Progress} {buf : List ℕ} (a : ChannelAt pace channel f s w p buf) → due_next pace a.g.outbox s ≡ due_by pace s w
-here {pace} {channel} {f} {s} {w} a =
-    ap (λ (n : ℕ). next wire (record { now = pace.now; timeout = pace.timeout; transit = n; most = transit_limit pace a.g.outbox }) s.sender) a.in_transit
-    ∙ ap (λ (o : Outbox). next wire (record { now = pace.now; timeout = pace.timeout; transit = w.transit; most = transit_limit pace o }) s.sender) a.outbox
+here {pace} {channel} {f} {s} {w} a = ap (λ (o : Occasion). next wire o s.sender) same
+  where
+    most : transit_limit pace a.g.outbox ≡ transit w.throttle pace.window pace.mtu
+    most = ap (λ (o : Outbox). transit_limit pace o) a.outbox
 
-pub channel-put : {pace : Pace} {channel : ℕ} {f : Filling} {s new : SendingEnd} {w : Flow} {p : Progress} {from to : List ℕ} {past : ℕ} (added : ℕ) (k : Kind) → ChannelAt pace channel f s w p from →
-    Did (due_by pace s w) (due.Sent past added k) s new (record { old = from; at = place_in p from; new = to }) → refuses k w.throttle ≡ false →
-    ChannelAt pace channel f new (record { throttle = asked_for k w.throttle; transit = w.transit + added; last = Some channel }) (taken_in p past to) to
-channel-put {pace} {channel} {f} {s} {new} {w} {p} {from} {to} {past} added k a d admitted =
-    let r = did-sent (due_by pace s w) past added k s new from (place_in p from) to d in
+    dearest : price_limit pace a.g.outbox ≡ max w.dearest pace.mtu
+    dearest = ap (λ (n : ℕ). max n pace.mtu) a.counts.dearest
+
+    same : occasion pace a.g.outbox ≡ told pace w
+    same = λ i. record { now = pace.now; timeout = pace.timeout; transit = a.counts.transit i; most = most i; prices = a.counts.prices i; dearest = dearest i }
+
+pub channel-put : {pace : Pace} {channel : ℕ} {f : Filling} {s new : SendingEnd} {w : Flow} {p : Progress} {from to : List ℕ} {past : ℕ} (added price : ℕ) (k : Kind) → ChannelAt pace channel f s w p from →
+    Did (due_by pace s w) (due.Sent past added price k) s new (record { old = from; at = place_in p from; new = to }) → refuses k w.throttle ≡ false →
+    ChannelAt pace channel f new (record { throttle = asked_for k w.throttle; transit = w.transit + added; prices = w.prices + price; dearest = w.dearest; last = Some channel }) (taken_in p past to) to
+channel-put {pace} {channel} {f} {s} {new} {w} {p} {from} {to} {past} added price k a d admitted =
+    let r = did-sent (due_by pace s w) past added price k s new from (place_in p from) to d in
     let n : Next = r.0 in
     let m : Message = message_of s.channel n.command in
-    let v : Flow = record { throttle = asked_for k w.throttle; transit = w.transit + added; last = Some channel } in
+    let v : Flow = record { throttle = asked_for k w.throttle; transit = w.transit + added; prices = w.prices + price; dearest = w.dearest; last = Some channel } in
     let t : SendingEnd = record s { sender = n.sender } in
     let room = place-open p from (canonical m) to past (omega arith) r.2 in
     let G : Outbox → Outbox = λ o. record o { senders = slice_set o.senders channel t; throttle = asked_for k o.throttle; last = Some channel } in
-    let less = left-falls wire (record { now = pace.now; timeout = pace.timeout; transit = w.transit; most = transit w.throttle pace.window pace.mtu }) s.sender n r.1 in
-    let adds = transit-next wire (record { now = pace.now; timeout = pace.timeout; transit = w.transit; most = transit w.throttle pace.window pace.mtu }) s.sender n r.1 in
+    let less = left-falls wire (told pace w) s.sender n r.1 in
+    let adds = transit-next wire (told pace w) s.sender n r.1 in
     let sums = transit-set a.g.outbox.senders channel s t a.there in
     let added_is : added ≡ n.added = r.3 in
-    let in_transit = a.in_transit in
+    let price_is : price ≡ n.price = r.4 in
+    let costs = prices-next wire (told pace w) s.sender n r.1 in
+    let priced = prices-set a.g.outbox.senders channel s t a.there in
+    let in_transit = a.counts.transit in
+    let prices = a.counts.prices in
     let enough = a.enough in
     let P : SendingEnd → Type 0 = λ x. ChannelAt pace channel f x v (taken_in p past to) to in
     let made : P t = record {
       g = with_command a.g m (G a.g.outbox);
       turns = a.turns - 1;
-      holds = holds-written m a.holds room.0 room.1 r.6 (G a.g.outbox);
+      holds = holds-written m a.holds room.0 room.1 r.7 (G a.g.outbox);
       opened = refl;
       there = get-set a.g.outbox.senders channel s t a.there;
       outbox = ap G a.outbox ∙ ap (λ (ss : List SendingEnd). with_flow f.outbox ss v) (set-twice f.outbox.senders channel s t);
       enough = omega arith;
-      stage = a.stage ∙ channel-go pace channel a.turns a.g (with_command a.g m (G a.g.outbox)) s n k (omega arith) a.opened a.there (here a ∙ r.1) (fits-written m a.holds room.0 room.1) r.4
+      stage = a.stage ∙ channel-go pace channel a.turns a.g (with_command a.g m (G a.g.outbox)) s n k (omega arith) a.opened a.there (here a ∙ r.1) (fits-written m a.holds room.0 room.1) r.5
           (step-put a.g channel s n k (ap (λ (o : Outbox). refuses k o.throttle) a.outbox ∙ admitted));
-      in_transit = omega arith;
+      counts = record { transit = omega arith; prices = omega arith; dearest = a.counts.dearest };
     } in
-    subst P (sym r.5) made
+    subst P (sym r.6) made
 
-pub channel-drop : {pace : Pace} {channel : ℕ} {f : Filling} {s : SendingEnd} {w : Flow} {p : Progress} {from to : List ℕ} (new : SendingEnd) (past added : ℕ) (k : Kind) → ChannelAt pace channel f s w p from →
-    Did (due_by pace s w) (due.Sent past added k) s new (record { old = from; at = place_in p from; new = to }) → refuses k w.throttle ≡ true →
-    ChannelAt pace channel f (record new { sender = with_skipped new.sender }) (record { throttle = asked_for k w.throttle; transit = w.transit; last = w.last }) p to
-channel-drop {pace} {channel} {f} {s} {w} {p} {from} {to} new past added k a d refused =
-    let r = did-sent (due_by pace s w) past added k s new from (place_in p from) to d in
+pub channel-drop : {pace : Pace} {channel : ℕ} {f : Filling} {s : SendingEnd} {w : Flow} {p : Progress} {from to : List ℕ} (new : SendingEnd) (past added price : ℕ) (k : Kind) → ChannelAt pace channel f s w p from →
+    Did (due_by pace s w) (due.Sent past added price k) s new (record { old = from; at = place_in p from; new = to }) → refuses k w.throttle ≡ true →
+    ChannelAt pace channel f (record new { sender = with_skipped new.sender }) (record { throttle = asked_for k w.throttle; transit = w.transit; prices = w.prices; dearest = w.dearest; last = w.last }) p to
+channel-drop {pace} {channel} {f} {s} {w} {p} {from} {to} new past added price k a d refused =
+    let r = did-sent (due_by pace s w) past added price k s new from (place_in p from) to d in
     let n : Next = r.0 in
     let m : Message = message_of s.channel n.command in
-    let v : Flow = record { throttle = asked_for k w.throttle; transit = w.transit; last = w.last } in
+    let v : Flow = record { throttle = asked_for k w.throttle; transit = w.transit; prices = w.prices; dearest = w.dearest; last = w.last } in
     let t : SendingEnd = record s { sender = with_skipped n.sender } in
     let room = place-open p from (canonical m) to past (omega arith) r.2 in
     let G : Outbox → Outbox = λ o. record o { senders = slice_set o.senders channel t; throttle = asked_for k o.throttle } in
-    let less = left-falls wire (record { now = pace.now; timeout = pace.timeout; transit = w.transit; most = transit w.throttle pace.window pace.mtu }) s.sender n r.1 in
+    let less = left-falls wire (told pace w) s.sender n r.1 in
     let skip = left-skipped n.sender in
-    let adds = transit-next wire (record { now = pace.now; timeout = pace.timeout; transit = w.transit; most = transit w.throttle pace.window pace.mtu }) s.sender n r.1 in
-    let none = added-none wire (record { now = pace.now; timeout = pace.timeout; transit = w.transit; most = transit w.throttle pace.window pace.mtu }) s.sender n r.1 (refused-unreliable n.command k w.throttle r.4 refused) in
+    let adds = transit-next wire (told pace w) s.sender n r.1 in
+    let none = added-none wire (told pace w) s.sender n r.1 (refused-unreliable n.command k w.throttle r.5 refused) in
+    let costs = prices-next wire (told pace w) s.sender n r.1 in
     let sums = transit-set a.g.outbox.senders channel s t a.there in
-    let in_transit = a.in_transit in
+    let priced = prices-set a.g.outbox.senders channel s t a.there in
+    let in_transit = a.counts.transit in
+    let prices = a.counts.prices in
     let enough = a.enough in
     let P : SendingEnd → Type 0 = λ x. ChannelAt pace channel f (record x { sender = with_skipped x.sender }) v p to in
     let made : P (record s { sender = n.sender }) = record {
@@ -223,17 +242,17 @@ channel-drop {pace} {channel} {f} {s} {w} {p} {from} {to} new past added k a d r
       there = get-set a.g.outbox.senders channel s t a.there;
       outbox = ap G a.outbox ∙ ap (λ (ss : List SendingEnd). with_flow f.outbox ss v) (set-twice f.outbox.senders channel s t);
       enough = omega arith;
-      stage = a.stage ∙ channel-go pace channel a.turns a.g (record a.g { outbox = G a.g.outbox }) s n k (omega arith) a.opened a.there (here a ∙ r.1) (fits-written m a.holds room.0 room.1) r.4
+      stage = a.stage ∙ channel-go pace channel a.turns a.g (record a.g { outbox = G a.g.outbox }) s n k (omega arith) a.opened a.there (here a ∙ r.1) (fits-written m a.holds room.0 room.1) r.5
           (step-drop a.g channel s n k (ap (λ (o : Outbox). refuses k o.throttle) a.outbox ∙ refused));
-      in_transit = omega arith;
+      counts = record { transit = omega (arith, none.0); prices = omega (arith, none.1); dearest = a.counts.dearest };
     } in
-    subst P (sym r.5) made
+    subst P (sym r.6) made
 
 -- where nothing more goes
 abbrev Ends : Pace → ℕ → Filling → SendingEnd → Flow → Progress → List ℕ → Type 0
 Ends pace channel f s w p buf =
     Leads (with_channel pace f channel) (with_flow f.outbox (slice_set f.outbox.senders channel s) w) p buf
-    × (transit_of (with_flow f.outbox (slice_set f.outbox.senders channel s) w) ≡ w.transit)
+    × Counts (with_flow f.outbox (slice_set f.outbox.senders channel s) w) w
 
 pub channel-full : {pace : Pace} {channel : ℕ} {f : Filling} {s : SendingEnd} {w : Flow} {p : Progress} {from to : List ℕ} (new : SendingEnd) → ChannelAt pace channel f s w p from →
     Did (due_by pace s w) due.NoRoom s new (record { old = from; at = place_in p from; new = to }) → Ends pace channel f new w (record p { closed = true }) to
@@ -241,13 +260,13 @@ channel-full {pace} {channel} {f} {s} {w} {p} {from} {to} new a d =
     let r = did-full (due_by pace s w) s new from (place_in p from) to d in
     let n : Next = r.0 in
     let m : Message = message_of s.channel n.command in
-    let less = left-falls wire (record { now = pace.now; timeout = pace.timeout; transit = w.transit; most = transit w.throttle pace.window pace.mtu }) s.sender n r.1 in
+    let less = left-falls wire (told pace w) s.sender n r.1 in
     let enough = a.enough in
     let stop = channel-stop pace channel a.turns a.g s n (omega arith) a.opened a.there (here a ∙ r.1) (unfit m a.holds (place-full p from (length (canonical m)) r.2)) in
-    rw (r.3, r.4) (leads-by (a.stage ∙ stop) (holds-shut a.holds) a.outbox, ap transit_of (sym a.outbox) ∙ a.in_transit)
+    rw (r.3, r.4) (leads-by (a.stage ∙ stop) (holds-shut a.holds) a.outbox, subst (λ (o : Outbox). Counts o w) a.outbox a.counts)
 
 pub channel-none : {pace : Pace} {channel : ℕ} {f : Filling} {s : SendingEnd} {w : Flow} {p : Progress} {from to : List ℕ} (new : SendingEnd) → ChannelAt pace channel f s w p from →
     Did (due_by pace s w) due.Nothing s new (record { old = from; at = place_in p from; new = to }) → Ends pace channel f new w p to
 channel-none {pace} {channel} {f} {s} {w} {p} {from} {to} new a d =
     let r = did-nothing (due_by pace s w) s new from (place_in p from) to d in
-    rw (r.1, r.2) (leads-by (a.stage ∙ channel-end pace channel a.turns a.g s a.opened a.there (here a ∙ r.0)) a.holds a.outbox, ap transit_of (sym a.outbox) ∙ a.in_transit)
+    rw (r.1, r.2) (leads-by (a.stage ∙ channel-end pace channel a.turns a.g s a.opened a.there (here a ∙ r.0)) a.holds a.outbox, subst (λ (o : Outbox). Counts o w) a.outbox a.counts)

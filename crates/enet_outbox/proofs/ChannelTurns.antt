@@ -4,17 +4,17 @@ use Rattle.std.specs.List.{slice_get}
 use Rattle.std.proofs.lemmas.List.{length-set}
 use Rattle.std.proofs.lemmas.Option.{slice_get-get_or}
 use Rattle.enet_seq.specs.Numbering.{wire}
-use Rattle.enet_throttle.specs.Throttle.{transit}
 use Rattle.enet_sender.specs.declared.outgoing.Due.{Due}
 use Rattle.enet_sender.specs.declared.outgoing.Due.TheVariants as due
 use Rattle.enet_sender.specs.declared.outgoing.Kind.{Kind}
+use Rattle.enet_sender.specs.declared.outgoing.Occasion.{Occasion}
 use Rattle.enet_sender.specs.Sender.{next, with_skipped}
 use Rattle.enet_sender.specs.Due.{SendingEnd, new_end, Did}
 use Rattle.enet_outbox.specs.declared.parts.Pace.{Pace}
 use Rattle.enet_outbox.specs.declared.packing.Progress.{Progress}
 use Rattle.enet_outbox.specs.declared.packing.Flow.{Flow}
 use Rattle.enet_outbox.specs.Emission.{Filling}
-use Rattle.enet_outbox.specs.Private.Packing.{Holds, Shares, PacksChannel, place_in, asked_for, refuses, taken_in}
+use Rattle.enet_outbox.specs.Private.Packing.{Holds, Shares, PacksChannel, place_in, asked_for, refuses, taken_in, told}
 use Rattle.enet_senders.proofs.Each.{set-there}
 use Rattle.enet_senders.proofs.Sets.{get-set}
 use Rattle.enet_outbox.proofs.Channel.{ChannelAt, due_by, set-twice, did-sent, channel-begin, channel-put, channel-drop, channel-full, channel-none, channel-room}
@@ -25,18 +25,18 @@ pub some-sender : (xs : List SendingEnd) (i : ℕ) → i < length xs → (s : Se
 some-sender xs i inside = (get_or xs i (new_end 0), slice_get-get_or xs i (new_end 0) inside)
 
 -- what a call did on a channel
-abbrev pub CalledWith : Pace → ℕ → Flow → ℕ → ℕ → List SendingEnd → List SendingEnd → List ℕ → List ℕ → Due → Type 0
-CalledWith pace channel w most at now later from to result =
-    (s : SendingEnd) → slice_get now channel ≡ Some s → (t : SendingEnd) × ((later ≡ slice_set now channel t) × Did (next wire (record { now = pace.now; timeout = pace.timeout; transit = w.transit; most = most }) s.sender) result s t (record { old = from; at = at; new = to }))
+abbrev pub CalledWith : ℕ → Occasion → ℕ → List SendingEnd → List SendingEnd → List ℕ → List ℕ → Due → Type 0
+CalledWith channel o at now later from to result =
+    (s : SendingEnd) → slice_get now channel ≡ Some s → (t : SendingEnd) × ((later ≡ slice_set now channel t) × Did (next wire o s.sender) result s t (record { old = from; at = at; new = to }))
 
 abbrev pub Called : Pace → ℕ → Flow → Progress → List SendingEnd → List SendingEnd → List ℕ → List ℕ → Due → Type 0
-Called pace channel w p now later from to result = CalledWith pace channel w (transit w.throttle pace.window pace.mtu) (place_in p from) now later from to result
+Called pace channel w p now later from to result = CalledWith channel (told pace w) (place_in p from) now later from to result
 
-pub called : (pace : Pace) (channel : ℕ) (w : Flow) (p : Progress) (now later : List SendingEnd) (from to : List ℕ) (result : Due) (most at : ℕ) → most ≡ transit w.throttle pace.window pace.mtu → at ≡ place_in p from
-    → CalledWith pace channel w most at now later from to result → Called pace channel w p now later from to result
-called pace channel w p now later from to result most at most_is at_is h =
-    subst (λ (n : ℕ). CalledWith pace channel w (transit w.throttle pace.window pace.mtu) n now later from to result) at_is
-    (subst (λ (n : ℕ). CalledWith pace channel w n at now later from to result) most_is h)
+pub called : (pace : Pace) (channel : ℕ) (w : Flow) (p : Progress) (now later : List SendingEnd) (from to : List ℕ) (result : Due) (o : Occasion) (at : ℕ) → o ≡ told pace w → at ≡ place_in p from
+    → CalledWith channel o at now later from to result → Called pace channel w p now later from to result
+called pace channel w p now later from to result o at told_is at_is h =
+    subst (λ (n : ℕ). CalledWith channel (told pace w) n now later from to result) at_is
+    (subst (λ (x : Occasion). CalledWith channel x at now later from to result) told_is h)
 
 -- the stage has come so far: the channel has this sender, and the others are as they were
 pub record TurnAt (pace : Pace) (channel : ℕ) (old : List SendingEnd) (first : SendingEnd) (w0 : Flow) (p0 : Progress) (from0 : List ℕ) (now : List SendingEnd) (w : Flow) (p : Progress) (buf : List ℕ) : Type 0 where
@@ -53,16 +53,16 @@ turn-begin {pace} {channel} {old} {w} {p} {from} s there = record {
   stage = λ f h opened at e. channel-begin h opened at e;
 }
 
-pub turn-put : {pace : Pace} {channel : ℕ} {old : List SendingEnd} {first : SendingEnd} {w0 : Flow} {p0 : Progress} {from0 : List ℕ} {now later : List SendingEnd} {w : Flow} {p : Progress} {from to : List ℕ} {past : ℕ} (added : ℕ) (k : Kind)
-    → TurnAt pace channel old first w0 p0 from0 now w p from → Called pace channel w p now later from to (due.Sent past added k) → refuses k w.throttle ≡ false
-    → TurnAt pace channel old first w0 p0 from0 later (record { throttle = asked_for k w.throttle; transit = w.transit + added; last = Some channel }) (taken_in p past to) to
-turn-put {pace} {channel} {old} {first} {w0} {p0} {from0} {now} {later} {w} {p} {from} {to} {past} added k a h admitted =
+pub turn-put : {pace : Pace} {channel : ℕ} {old : List SendingEnd} {first : SendingEnd} {w0 : Flow} {p0 : Progress} {from0 : List ℕ} {now later : List SendingEnd} {w : Flow} {p : Progress} {from to : List ℕ} {past : ℕ} (added price : ℕ) (k : Kind)
+    → TurnAt pace channel old first w0 p0 from0 now w p from → Called pace channel w p now later from to (due.Sent past added price k) → refuses k w.throttle ≡ false
+    → TurnAt pace channel old first w0 p0 from0 later (record { throttle = asked_for k w.throttle; transit = w.transit + added; prices = w.prices + price; dearest = w.dearest; last = Some channel }) (taken_in p past to) to
+turn-put {pace} {channel} {old} {first} {w0} {p0} {from0} {now} {later} {w} {p} {from} {to} {past} added price k a h admitted =
     let r = h a.s a.there in
     record {
       s = r.0;
       senders = r.1.0 ∙ ap (λ (xs : List SendingEnd). slice_set xs channel r.0) a.senders ∙ set-twice old channel a.s r.0;
       there = ap (λ (xs : List SendingEnd). slice_get xs channel) r.1.0 ∙ get-set now channel a.s r.0 a.there;
-      stage = λ f holds opened there e. channel-put added k (a.stage f holds opened there e) r.1.1 admitted;
+      stage = λ f holds opened there e. channel-put added price k (a.stage f holds opened there e) r.1.1 admitted;
     }
 
 -- the sender once the rest of its packet is dropped
@@ -72,10 +72,10 @@ without_more s = record s { sender = with_skipped s.sender }
 abbrev pub Skipped : ℕ → List SendingEnd → List SendingEnd → Type 0
 Skipped channel later after = (s : SendingEnd) → slice_get later channel ≡ Some s → after ≡ slice_set later channel (without_more s)
 
-pub turn-drop : {pace : Pace} {channel : ℕ} {old : List SendingEnd} {first : SendingEnd} {w0 : Flow} {p0 : Progress} {from0 : List ℕ} {now later after : List SendingEnd} {w : Flow} {p : Progress} {from to : List ℕ} (past added : ℕ) (k : Kind)
-    → TurnAt pace channel old first w0 p0 from0 now w p from → Called pace channel w p now later from to (due.Sent past added k) → refuses k w.throttle ≡ true → Skipped channel later after
-    → TurnAt pace channel old first w0 p0 from0 after (record { throttle = asked_for k w.throttle; transit = w.transit; last = w.last }) p to
-turn-drop {pace} {channel} {old} {first} {w0} {p0} {from0} {now} {later} {after} {w} {p} {from} {to} past added k a h refused skip =
+pub turn-drop : {pace : Pace} {channel : ℕ} {old : List SendingEnd} {first : SendingEnd} {w0 : Flow} {p0 : Progress} {from0 : List ℕ} {now later after : List SendingEnd} {w : Flow} {p : Progress} {from to : List ℕ} (past added price : ℕ) (k : Kind)
+    → TurnAt pace channel old first w0 p0 from0 now w p from → Called pace channel w p now later from to (due.Sent past added price k) → refuses k w.throttle ≡ true → Skipped channel later after
+    → TurnAt pace channel old first w0 p0 from0 after (record { throttle = asked_for k w.throttle; transit = w.transit; prices = w.prices; dearest = w.dearest; last = w.last }) p to
+turn-drop {pace} {channel} {old} {first} {w0} {p0} {from0} {now} {later} {after} {w} {p} {from} {to} past added price k a h refused skip =
     let r = h a.s a.there in
     let is : later ≡ slice_set old channel r.0 = r.1.0 ∙ ap (λ (xs : List SendingEnd). slice_set xs channel r.0) a.senders ∙ set-twice old channel a.s r.0 in
     let there : slice_get later channel ≡ Some r.0 = ap (λ (xs : List SendingEnd). slice_get xs channel) r.1.0 ∙ get-set now channel a.s r.0 a.there in
@@ -84,7 +84,7 @@ turn-drop {pace} {channel} {old} {first} {w0} {p0} {from0} {now} {later} {after}
       s = without_more r.0;
       senders = dropped ∙ ap (λ (xs : List SendingEnd). slice_set xs channel (without_more r.0)) is ∙ set-twice old channel r.0 (without_more r.0);
       there = ap (λ (xs : List SendingEnd). slice_get xs channel) dropped ∙ get-set later channel r.0 (without_more r.0) there;
-      stage = λ f holds opened at e. channel-drop r.0 past added k (a.stage f holds opened at e) r.1.1 refused;
+      stage = λ f holds opened at e. channel-drop r.0 past added price k (a.stage f holds opened at e) r.1.1 refused;
     }
 
 -- the channel's part of the datagram, once no more of it goes
@@ -110,15 +110,15 @@ abbrev pub left_at : Option SendingEnd → ℕ
 left_at None = 0
 left_at (Some s) = left_of s.sender
 
-pub turn-falls : (pace : Pace) (channel : ℕ) (w : Flow) (p : Progress) (now later : List SendingEnd) (from to : List ℕ) (past added : ℕ) (k : Kind) (s : SendingEnd) → slice_get now channel ≡ Some s
-    → Called pace channel w p now later from to (due.Sent past added k) → left_at (slice_get later channel) < left_at (slice_get now channel)
-turn-falls pace channel w p now later from to past added k s there h =
+pub turn-falls : (pace : Pace) (channel : ℕ) (w : Flow) (p : Progress) (now later : List SendingEnd) (from to : List ℕ) (past added price : ℕ) (k : Kind) (s : SendingEnd) → slice_get now channel ≡ Some s
+    → Called pace channel w p now later from to (due.Sent past added price k) → left_at (slice_get later channel) < left_at (slice_get now channel)
+turn-falls pace channel w p now later from to past added price k s there h =
     let r = h s there in
-    let d = did-sent (due_by pace s w) past added k s r.0 from (place_in p from) to r.1.1 in
+    let d = did-sent (due_by pace s w) past added price k s r.0 from (place_in p from) to r.1.1 in
     let was : left_at (slice_get now channel) ≡ left_of s.sender = ap left_at there in
     let is : left_at (slice_get later channel) ≡ left_of d.0.sender =
-    ap left_at (ap (λ (xs : List SendingEnd). slice_get xs channel) r.1.0 ∙ get-set now channel s r.0 there) ∙ ap (λ (t : SendingEnd). left_of t.sender) d.5 in
-    let less = left-falls wire (record { now = pace.now; timeout = pace.timeout; transit = w.transit; most = transit w.throttle pace.window pace.mtu }) s.sender d.0 d.1 in
+    ap left_at (ap (λ (xs : List SendingEnd). slice_get xs channel) r.1.0 ∙ get-set now channel s r.0 there) ∙ ap (λ (t : SendingEnd). left_of t.sender) d.6 in
+    let less = left-falls wire (told pace w) s.sender d.0 d.1 in
     omega arith
 
 pub skip-falls : (channel : ℕ) (later after : List SendingEnd) (s : SendingEnd) → slice_get later channel ≡ Some s → Skipped channel later after → left_at (slice_get after channel) ≤ left_at (slice_get later channel)
@@ -130,24 +130,30 @@ skip-falls channel later after s there skip =
     omega arith
 
 -- there was room for the command that was written
-pub called-room : (pace : Pace) (channel : ℕ) (w : Flow) (p : Progress) (now later : List SendingEnd) (from to : List ℕ) (past added : ℕ) (k : Kind) (s : SendingEnd) → slice_get now channel ≡ Some s
-    → Called pace channel w p now later from to (due.Sent past added k) → (0 < p.commands) × (p.at < length to)
-called-room pace channel w p now later from to past added k s there h =
+pub called-room : (pace : Pace) (channel : ℕ) (w : Flow) (p : Progress) (now later : List SendingEnd) (from to : List ℕ) (past added price : ℕ) (k : Kind) (s : SendingEnd) → slice_get now channel ≡ Some s
+    → Called pace channel w p now later from to (due.Sent past added price k) → (0 < p.commands) × (p.at < length to)
+called-room pace channel w p now later from to past added price k s there h =
     let r = h s there in
-    channel-room p past added k s r.0 from to (due_by pace s w) r.1.1
+    channel-room p past added price k s r.0 from to (due_by pace s w) r.1.1
 
 -- with what is new in transit there is no more than either bound allows
-pub called-adds : (pace : Pace) (channel : ℕ) (w : Flow) (most at : ℕ) (now later : List SendingEnd) (from to : List ℕ) (past added : ℕ) (k : Kind) (s : SendingEnd) → slice_get now channel ≡ Some s
-    → CalledWith pace channel w most at now later from to (due.Sent past added k) → (limit : ℕ) → w.transit < limit → most < limit → w.transit + added < limit
-called-adds pace channel w most at now later from to past added k s there h limit low few =
+bounded : (total most more added limit : ℕ) → more ≡ added → (added ≡ 0) ⊎ (total + added ≤ most) → total < limit → most < limit → total + more < limit
+bounded total most more added limit is (inl none) low few = omega arith
+bounded total most more added limit is (inr fits) low few = omega arith
+
+pub called-bytes : (channel : ℕ) (o : Occasion) (at : ℕ) (now later : List SendingEnd) (from to : List ℕ) (past added price : ℕ) (k : Kind) (s : SendingEnd) → slice_get now channel ≡ Some s
+    → CalledWith channel o at now later from to (due.Sent past added price k) → (limit : ℕ) → o.transit < limit → o.most < limit → o.transit + added < limit
+called-bytes channel o at now later from to past added price k s there h limit low few =
     let r = h s there in
-    let d = did-sent (next wire (record { now = pace.now; timeout = pace.timeout; transit = w.transit; most = most }) s.sender) past added k s r.0 from at to r.1.1 in
-    let is : added ≡ d.0.added = d.3 in
-    by d.0.added is (added-fits wire (record { now = pace.now; timeout = pace.timeout; transit = w.transit; most = most }) s.sender d.0 d.1)
-  where
-    by : (n : ℕ) → added ≡ n → (n ≡ 0) ⊎ (w.transit + n ≤ most) → w.transit + added < limit
-    by n is (inl none) = omega arith
-    by n is (inr fits) = omega arith
+    let d = did-sent (next wire o s.sender) past added price k s r.0 from at to r.1.1 in
+    bounded o.transit o.most added d.0.added limit d.3 (added-fits wire o s.sender d.0 d.1).bytes low few
+
+pub called-prices : (channel : ℕ) (o : Occasion) (at : ℕ) (now later : List SendingEnd) (from to : List ℕ) (past added price : ℕ) (k : Kind) (s : SendingEnd) → slice_get now channel ≡ Some s
+    → CalledWith channel o at now later from to (due.Sent past added price k) → (limit : ℕ) → o.prices < limit → o.dearest < limit → o.prices + price < limit
+called-prices channel o at now later from to past added price k s there h limit low few =
+    let r = h s there in
+    let d = did-sent (next wire o s.sender) past added price k s r.0 from at to r.1.1 in
+    bounded o.prices o.dearest price d.0.price limit d.4 (added-fits wire o s.sender d.0 d.1).prices low few
 
 -- there are as many senders as before
 pub turn-length : {pace : Pace} {channel : ℕ} {old : List SendingEnd} {first : SendingEnd} {w0 : Flow} {p0 : Progress} {from0 : List ℕ} {now : List SendingEnd} {w : Flow} {p : Progress} {buf : List ℕ}

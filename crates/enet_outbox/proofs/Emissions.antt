@@ -14,9 +14,10 @@ use Rattle.enet_outbox.specs.declared.parts.Pace.{Pace}
 use Rattle.enet_outbox.specs.declared.parts.Destination.{Destination}
 use Rattle.enet_outbox.specs.declared.packing.Progress.{Progress}
 use Rattle.enet_outbox.specs.declared.packing.Flow.{Flow}
-use Rattle.enet_outbox.specs.Outbox.{Outbox, transit_of}
+use Rattle.enet_outbox.specs.Allowance.{limit}
+use Rattle.enet_outbox.specs.Outbox.{Outbox, transit_of, prices_of}
 use Rattle.enet_outbox.specs.Emission.{Filling, empty_datagram, with_acknowledgements, with_controls, with_unsequenced, with_channels, turn_order, filled, asks, datagram, Emits}
-use Rattle.enet_outbox.specs.Private.Packing.{Holds, Leads, with_flow, Shares, Page, PacksAcknowledgements, PacksControls, PacksUnsequenced, PacksChannels, turns, header_asking}
+use Rattle.enet_outbox.specs.Private.Packing.{Holds, Leads, with_flow, Counts, Shares, Page, PacksAcknowledgements, PacksControls, PacksUnsequenced, PacksChannels, turns, header_asking}
 
 -- an empty datagram
 abbrev pub start : Progress
@@ -53,14 +54,14 @@ left_by o acknowledgements control unsequenced senders w = record o {
 }
 
 -- one stage after another
-pub filled-leads : (pace : Pace) (o : Outbox) (first transit : ℕ) (b0 : List ℕ) (d1 d2 d3 d4 : Page) (acknowledgements : List Acknowledgement) (control : Commands)
+pub filled-leads : (pace : Pace) (o : Outbox) (first transit prices dearest : ℕ) (b0 : List ℕ) (d1 d2 d3 d4 : Page) (acknowledgements : List Acknowledgement) (control : Commands)
     (unsequenced : List Unsequenced) (throttle : Throttling) (last : Option ℕ) (senders : List SendingEnd) (w : Flow) →
-    4 ≤ pace.mtu → length b0 ≡ pace.mtu → first ≡ unwrap_or (option_map (λ channel. channel + 1) o.last) 0 → transit_of o ≡ transit →
+    4 ≤ pace.mtu → length b0 ≡ pace.mtu → first ≡ unwrap_or (option_map (λ channel. channel + 1) o.last) 0 → transit_of o ≡ transit → prices_of o ≡ prices → limit o.allowance ≡ dearest →
     PacksAcknowledgements o.acknowledgements acknowledgements (record { progress = start; buf = b0 }) d1 → PacksControls pace o.control control d1 d2 →
     PacksUnsequenced (record { packets = o.unsequenced; throttle = o.throttle; last = o.last }) (record { packets = unsequenced; throttle = throttle; last = last }) d2 d3 →
-    PacksChannels pace (record { first = first; senders = o.senders; flow = record { throttle = throttle; transit = transit; last = last } }) (record { first = first; senders = senders; flow = w }) d3 d4 →
-    Leads (filled pace o) (left_by o acknowledgements control unsequenced senders w) d4.progress d4.buf × (transit_of (left_by o acknowledgements control unsequenced senders w) ≡ w.transit)
-filled-leads pace o first transit b0 d1 d2 d3 d4 acknowledgements control unsequenced throttle last senders w long whole is counted pa pc pu ps =
+    PacksChannels pace (record { first = first; senders = o.senders; flow = record { throttle = throttle; transit = transit; prices = prices; dearest = dearest; last = last } }) (record { first = first; senders = senders; flow = w }) d3 d4 →
+    Leads (filled pace o) (left_by o acknowledgements control unsequenced senders w) d4.progress d4.buf × Counts (left_by o acknowledgements control unsequenced senders w) w
+filled-leads pace o first transit prices dearest b0 d1 d2 d3 d4 acknowledgements control unsequenced throttle last senders w long whole is counted priced dear pa pc pu ps =
     let f0 : Filling = empty_datagram pace o in
     let l1 = pa f0 (holds-start pace o b0 long whole) refl refl in
     let f1 : Filling = with_acknowledgements f0 in
@@ -71,8 +72,8 @@ filled-leads pace o first transit b0 d1 d2 d3 d4 acknowledgements control unsequ
     let f3 : Filling = with_unsequenced f2 in
     let o3 : f3.outbox ≡ record o { acknowledgements = acknowledgements; control = control; unsequenced = unsequenced; throttle = throttle; last = last } =
     l3.outbox ∙ ap (λ (o : Outbox). record o { unsequenced = unsequenced; throttle = throttle; last = last }) o2 in
-    let v : Flow = record { throttle = throttle; transit = transit; last = last } in
-    let shares : Shares f3.outbox v = (ap (λ (o : Outbox). o.throttle) o3, ap (λ (o : Outbox). o.last) o3, ap transit_of o3 ∙ counted) in
+    let v : Flow = record { throttle = throttle; transit = transit; prices = prices; dearest = dearest; last = last } in
+    let shares : Shares f3.outbox v = (ap (λ (o : Outbox). o.throttle) o3, ap (λ (o : Outbox). o.last) o3, record { transit = ap transit_of o3 ∙ counted; prices = ap prices_of o3 ∙ priced; dearest = ap (λ (o : Outbox). limit o.allowance) o3 ∙ dear }) in
     let l4 = ps f3 l3.holds (ap (λ (o : Outbox). o.senders) o3) shares in
     let all : with_channels pace (turns first (length o.senders) 0) f3 ≡ filled pace o = ap (λ (order : List ℕ). with_channels pace order f3) (turns-all o first is) in
     let o4 : with_flow f3.outbox senders w ≡ left_by o acknowledgements control unsequenced senders w = ap (λ (o : Outbox). with_flow o senders w) o3 in (
@@ -80,7 +81,7 @@ filled-leads pace o first transit b0 d1 d2 d3 d4 acknowledgements control unsequ
         holds = let P : Filling → Type 0 = λ f. Holds f d4.progress d4.buf in subst P all l4.0.holds;
         outbox = ap (λ (f : Filling). f.outbox) (sym all) ∙ l4.0.outbox ∙ o4;
       },
-      ap transit_of (sym o4) ∙ l4.1,
+      subst (λ (o : Outbox). Counts o w) o4 l4.1,
     )
 
 -- where nothing stands behind the header's place, no command goes

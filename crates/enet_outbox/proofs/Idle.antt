@@ -9,11 +9,12 @@ use Rattle.enet_senders.specs.declared.control.SentControl.{SentControl}
 use Rattle.enet_fragment.specs.declared.data.DataCommand.{DataCommand}
 use Rattle.enet_seq.specs.Numbering.{wire}
 use Rattle.enet_sender.specs.declared.sent.Sent.{Sent}
+use Rattle.enet_sender.specs.declared.outgoing.Occasion.{Occasion}
 use Rattle.enet_sender.specs.Sender.{next}
 use Rattle.enet_sender.specs.Due.{SendingEnd}
 use Rattle.enet_outbox.specs.declared.parts.Pace.{Pace}
 use Rattle.enet_outbox.specs.Outbox.{Outbox, has_no_packet, has_no_reliable}
-use Rattle.enet_outbox.specs.Emission.{Filling, filled}
+use Rattle.enet_outbox.specs.Emission.{Filling, filled, occasion}
 use Rattle.enet_outbox.specs.Invariant.{HasNothing}
 use Rattle.enet_outbox.specs.Resting.{IsAtRest}
 use Rattle.enet_senders.proofs.Sets.{next-none, some-long}
@@ -105,9 +106,9 @@ rests o h = record {
   };
 }
 
-rest-next : (o : Outbox) (pace : Pace) (s : SendingEnd) (i transit most : ℕ) → IsAtRest o → slice_get o.senders i ≡ Some s → next wire (record { now = pace.now; timeout = pace.timeout; transit = transit; most = most }) s.sender ≡ None
-rest-next o pace s i transit most h there =
-    next-none wire (record { now = pace.now; timeout = pace.timeout; transit = transit; most = most }) s.sender (h.still i s there)
+rest-next : (o : Outbox) (told : Occasion) (s : SendingEnd) (i : ℕ) → IsAtRest o → slice_get o.senders i ≡ Some s → next wire told s.sender ≡ None
+rest-next o told s i h there =
+    next-none wire told s.sender (h.still i s there)
 
 none-some : {X Y : Type 0} (o : Option X) (x : X) → o ≡ None → o ≡ Some x → Y
 none-some o x e f = absurd (let y : ◌≡◌ {A = Option _} None (Some x) = sym e ∙ f in cc)
@@ -119,8 +120,8 @@ stays-empty pace o h = record {
   controls = λ f n at e. none-some _ n (ap (λ (x : Outbox). controlling.next pace.now pace.timeout x.control) e.1 ∙ control-none pace.now pace.timeout o.control h.control) at;
   puts_unsequenced = λ f u rest t at e. some-one o.unsequenced u rest h.unsequenced (ap (λ (x : Outbox). x.unsequenced) (sym e.1) ∙ at);
   drops_unsequenced = λ f u rest t at e. some-one o.unsequenced u rest h.unsequenced (ap (λ (x : Outbox). x.unsequenced) (sym e.1) ∙ at);
-  puts_data = λ f k s n t there at e. none-some _ n (rest-next o pace s k _ _ h (ap (λ (x : Outbox). slice_get x.senders k) (sym e.1) ∙ there)) at;
-  drops_data = λ f k s n t there at unreliable e. none-some _ n (rest-next o pace s k _ _ h (ap (λ (x : Outbox). slice_get x.senders k) (sym e.1) ∙ there)) at;
+  puts_data = λ f k s n t there at e. none-some _ n (rest-next o (occasion pace f.outbox) s k h (ap (λ (x : Outbox). slice_get x.senders k) (sym e.1) ∙ there)) at;
+  drops_data = λ f k s n t there at unreliable e. none-some _ n (rest-next o (occasion pace f.outbox) s k h (ap (λ (x : Outbox). slice_get x.senders k) (sym e.1) ∙ there)) at;
 }
 
 pub rest-goes : (pace : Pace) (o : Outbox) → IsAtRest o → ((filled pace o).messages ≡ []) × (o ≡ (filled pace o).outbox)

@@ -51,5 +51,5 @@ channels-pass {pace} {first} {n} {f} {senders} {w} {p} {buf} (suc d) k j is with
       holds = a.holds;
       outbox = a.outbox;
       stage = a.stage ∙ ap (λ (order : List ℕ). with_channels pace order a.g) (turns-more first n k low) ∙ ap (λ (g : Filling). with_channels pace (turns first n (k + 1)) g) here;
-      in_transit = a.in_transit;
+      counts = a.counts;
     })

@@ -1,5 +1,5 @@
 -- What is put out is spelled.
-use Rattle.std.proofs.Common.{ℕ, ◌<◌, ◌^◌, ◌%◌, Bool, true, false, cond, List, take, flat_map, Some, None, arith}
+use Rattle.std.proofs.Common.{ℕ, ◌<◌, ◌^◌, Bool, true, false, cond, List, take, flat_map, Some, None, arith}
 use Rattle.std.specs.Prelude.{IfSome}
 use Rattle.std.specs.List.{list_any}
 use Rattle.enet_codec.specs.Header.{header_text, masked}

@@ -8,7 +8,7 @@ use Rattle.enet_seq.specs.Numbering.{Numbering}
 use Rattle.enet_fragment.specs.declared.data.DataCommand.{DataCommand}
 use Rattle.enet_sender.specs.declared.sent.Sent.{Sent}
 use Rattle.enet_sender.specs.declared.outgoing.Occasion.{Occasion}
-use Rattle.enet_sender.specs.Sender.{Sender, Next, next, next_of, next_queued, next_resent, first_sent, resent, begun, again, may_go, is_in_span, is_more, skipped, with_skipped}
+use Rattle.enet_sender.specs.Sender.{Sender, Next, next, next_of, next_queued, next_resent, first_sent, resent, begun, again, has_room, may_go, is_in_span, bytes_of, price_of, is_more, skipped, with_skipped}
 use Rattle.enet_senders.specs.declared.control.Numbered.{Numbered}
 use Rattle.enet_senders.specs.declared.control.SentControl.{SentControl}
 use Rattle.enet_senders.specs.Controlling as control
@@ -63,18 +63,18 @@ left-most s = let h = due-most (λ (p : Sent). p.transmission.due) s.sent in ome
 
 -- a fact of what is due next: of each first send and of each resend
 by-next : (P : Next → Type 0) (g : Numbering) (occasion : Occasion) (s : Sender) (n : Next)
-    → ((c : DataCommand) (rest : List DataCommand) → s.queued ≡ c ∷ rest → may_go g s.sent occasion.transit occasion.most c ≡ true → P (first_sent occasion.now occasion.timeout s c rest))
-    → ((i : ℕ) (p : Sent) → slice_get s.sent i ≡ Some p → p.transmission.due ≡ true → P (resent occasion.now s i p))
+    → ((c : DataCommand) (rest : List DataCommand) → s.queued ≡ c ∷ rest → may_go g s.sent occasion c ≡ true → P (first_sent occasion.now occasion.timeout s c rest))
+    → ((i : ℕ) (p : Sent) → slice_get s.sent i ≡ Some p → p.transmission.due ≡ true → has_room occasion p.command ≡ true → P (resent occasion.now s i p))
     → next g occasion s ≡ Some n → P n
 by-next P g occasion s n first again_ e = by-place (position (λ (p : Sent). p.transmission.due) s.sent) refl e
   where
     by-queue : (queued : List DataCommand) → s.queued ≡ queued → next_queued g occasion s queued ≡ Some n → P n
     by-queue [] is e = cc
-    by-queue (c ∷ rest) is e = if-goes P (may_go g s.sent occasion.transit occasion.most c) (first_sent occasion.now occasion.timeout s c rest) n (first c rest is) e
+    by-queue (c ∷ rest) is e = if-goes P (may_go g s.sent occasion c) (first_sent occasion.now occasion.timeout s c rest) n (first c rest is) e
 
-    by-sent : (i : ℕ) → position (λ (p : Sent). p.transmission.due) s.sent ≡ Some i → (o : Option Sent) → slice_get s.sent i ≡ o → next_resent occasion.now s i o ≡ Some n → P n
+    by-sent : (i : ℕ) → position (λ (p : Sent). p.transmission.due) s.sent ≡ Some i → (o : Option Sent) → slice_get s.sent i ≡ o → next_resent occasion s i o ≡ Some n → P n
     by-sent i found None is e = cc
-    by-sent i found (Some p) is e = if-some P (resent occasion.now s i p) n (again_ i p is (found-due (λ (p : Sent). p.transmission.due) s.sent i p found is)) e
+    by-sent i found (Some p) is e = if-goes P (has_room occasion p.command) (resent occasion.now s i p) n (again_ i p is (found-due (λ (p : Sent). p.transmission.due) s.sent i p found is)) e
 
     by-place : (o : Option ℕ) → position (λ (p : Sent). p.transmission.due) s.sent ≡ o → next_of g occasion s o ≡ Some n → P n
     by-place None found e = by-queue s.queued refl e
@@ -88,26 +88,44 @@ pub left-falls : (g : Numbering) (occasion : Occasion) (s : Sender) (n : Next) �
 left-falls g occasion s n e =
     by-next (λ (m : Next). left_of m.sender < left_of s) g occasion s n
     (λ c rest is goes. let d = sent-first c.reliable s.sent (begun occasion.now occasion.timeout c) refl in let l = ap (λ (cs : List DataCommand). length cs) is in omega arith)
-    (λ i p there due. let d = due-set (λ (p : Sent). p.transmission.due) s.sent i p (again occasion.now p) there due refl in omega arith) e
+    (λ i p there due room. let d = due-set (λ (p : Sent). p.transmission.due) s.sent i p (again occasion.now p) there due refl in omega arith) e
 
 -- what is new in transit fits what may be
-pub added-fits : (g : Numbering) (occasion : Occasion) (s : Sender) (n : Next) → next g occasion s ≡ Some n → (n.added ≡ 0) ⊎ (occasion.transit + n.added ≤ occasion.most)
-added-fits g occasion s n e =
-    by-next (λ (m : Next). (m.added ≡ 0) ⊎ (occasion.transit + m.added ≤ occasion.most)) g occasion s n
-    (λ c rest is goes. first c.reliable (is_in_span g s.sent c.number) (length c.body) goes)
-    (λ i p there due. inl refl) e
+pub record AddsFit (occasion : Occasion) (n : Next) : Type 0 where
+  pub bytes : (n.added ≡ 0) ⊎ (occasion.transit + n.added ≤ occasion.most)
+  pub prices : (n.price ≡ 0) ⊎ (occasion.prices + n.price ≤ occasion.dearest)
+
+room-fits : (occasion : Occasion) (bytes price : ℕ) → (nat_le (occasion.transit + bytes) occasion.most && nat_le (occasion.prices + price) occasion.dearest) ≡ true
+    → (occasion.transit + bytes ≤ occasion.most) × (occasion.prices + price ≤ occasion.dearest)
+room-fits occasion bytes price goes = by (nat_le (occasion.transit + bytes) occasion.most) (nat_le (occasion.prices + price) occasion.dearest) refl refl goes
   where
-    first : (reliable span : Bool) (len : ℕ) → (not reliable || (span && nat_le (occasion.transit + len) occasion.most)) ≡ true → (cond reliable len 0 ≡ 0) ⊎ (occasion.transit + cond reliable len 0 ≤ occasion.most)
-    first false span len goes = inl refl
-    first true true len goes = inr (leb-true (occasion.transit + len) occasion.most goes)
-    first true false len goes = cc
+    by : (a b : Bool) → nat_le (occasion.transit + bytes) occasion.most ≡ a → nat_le (occasion.prices + price) occasion.dearest ≡ b → (a && b) ≡ true
+        → (occasion.transit + bytes ≤ occasion.most) × (occasion.prices + price ≤ occasion.dearest)
+    by true true e f goes = (leb-true (occasion.transit + bytes) occasion.most e, leb-true (occasion.prices + price) occasion.dearest f)
+    by true false e f goes = absurd (cc)
+    by false b e f goes = absurd (cc)
+
+pub added-fits : (g : Numbering) (occasion : Occasion) (s : Sender) (n : Next) → next g occasion s ≡ Some n → AddsFit occasion n
+added-fits g occasion s n e =
+    by-next (AddsFit occasion) g occasion s n
+    (λ c rest is goes. first c rest c.reliable refl (is_in_span g s.sent c.number) goes)
+    (λ i p there due room. let r = room-fits occasion (bytes_of p.command) (price_of p.command) room in record { bytes = inr r.0; prices = inr r.1 }) e
+  where
+    first : (c : DataCommand) (rest : List DataCommand) (reliable : Bool) → c.reliable ≡ reliable → (span : Bool) → (not reliable || (span && has_room occasion c)) ≡ true
+        → AddsFit occasion (first_sent occasion.now occasion.timeout s c rest)
+    first c rest false is span goes = record { bytes = inl (ap (λ (b : Bool). cond b (length c.body) 0) is); prices = inl (ap (λ (b : Bool). cond b (length c.body + 28) 0) is) }
+    first c rest true is false goes = absurd (cc)
+    first c rest true is true goes = let r = room-fits occasion (bytes_of c) (price_of c) goes in record { bytes = inr r.0; prices = inr r.1 }
 
 -- an unreliable command adds nothing
-pub added-none : (g : Numbering) (occasion : Occasion) (s : Sender) (n : Next) → next g occasion s ≡ Some n → n.command.reliable ≡ false → n.added ≡ 0
+pub added-none : (g : Numbering) (occasion : Occasion) (s : Sender) (n : Next) → next g occasion s ≡ Some n → n.command.reliable ≡ false → (n.added ≡ 0) × (n.price ≡ 0)
 added-none g occasion s n e =
-    by-next (λ (m : Next). m.command.reliable ≡ false → m.added ≡ 0) g occasion s n
-    (λ c rest is goes unreliable. ap (λ (b : Bool). cond b (length c.body) 0) unreliable)
-    (λ i p there due unreliable. refl) e
+    by-next (λ (m : Next). m.command.reliable ≡ false → (m.added ≡ 0) × (m.price ≡ 0)) g occasion s n
+    (λ c rest is goes unreliable. nothing c unreliable)
+    (λ i p there due room unreliable. nothing p.command unreliable) e
+  where
+    nothing : (c : DataCommand) → c.reliable ≡ false → (bytes_of c ≡ 0) × (price_of c ≡ 0)
+    nothing c unreliable = (ap (λ (b : Bool). cond b (length c.body) 0) unreliable, ap (λ (b : Bool). cond b (length c.body + 28) 0) unreliable)
 
 skipped-most : (cs : List DataCommand) → length (skipped cs) ≤ length cs
 skipped-most [] = omega arith

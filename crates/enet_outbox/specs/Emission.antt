@@ -1,5 +1,5 @@
 -- What a peer puts into its next datagram.
-use Rattle.std.specs.Prelude.{◌≡◌, ℕ, ◌+◌, ◌-◌, ◌%◌, ◌<◌, ◌≤◌, ◌&&◌, ◌==◌, Bool, true, false, nat_lt, nat_le, if◌then◌else◌, Option, Some, None, List, [], ◌∷◌, ◌++◌, length, map, take, slice_get, slice_set, unwrap_or}
+use Rattle.std.specs.Prelude.{◌≡◌, ℕ, ◌+◌, ◌-◌, ◌%◌, ◌<◌, ◌≤◌, ◌&&◌, ◌==◌, max, Bool, true, false, nat_lt, nat_le, if◌then◌else◌, Option, Some, None, List, [], ◌∷◌, ◌++◌, length, map, take, slice_get, slice_set, unwrap_or}
 use Rattle.std.specs.Fn.{iterate}
 use Rattle.std.specs.List.{AllByRecursion, fold, range_with_len, flat_map, list_any}
 use Rattle.std.specs.Option.{option_map}
@@ -20,7 +20,8 @@ use Rattle.enet_outbox.specs.declared.parts.Acknowledgement.{Acknowledgement}
 use Rattle.enet_outbox.specs.declared.parts.Unsequenced.{Unsequenced}
 use Rattle.enet_outbox.specs.declared.parts.Pace.{Pace}
 use Rattle.enet_outbox.specs.declared.parts.Destination.{Destination}
-use Rattle.enet_outbox.specs.Outbox.{Outbox, transit_of}
+use Rattle.enet_outbox.specs.Allowance.{limit}
+use Rattle.enet_outbox.specs.Outbox.{Outbox, transit_of, prices_of}
 
 -- a datagram that is being filled: its commands, how many more bytes and commands it takes, and the outbox by now. Once a
 -- command didn't fit, it is closed
@@ -124,9 +125,12 @@ with_one_unsequenced f = unsequenced_step f f.outbox.unsequenced
 abbrev pub with_unsequenced : Filling → Filling
 with_unsequenced f = repeated (length f.outbox.unsequenced) with_one_unsequenced f
 
--- then the channels. The payload bytes that may be in transit
+-- then the channels. The payload bytes that may be in transit, and the prices
 abbrev pub transit_limit : Pace → Outbox → ℕ
 transit_limit pace o = transit o.throttle pace.window pace.mtu
+
+abbrev pub price_limit : Pace → Outbox → ℕ
+price_limit pace o = max (limit o.allowance) pace.mtu
 
 abbrev pub with_sender : Outbox → ℕ → SendingEnd → Outbox
 with_sender o channel s = record o { senders = slice_set o.senders channel s }
@@ -152,7 +156,14 @@ due_step f channel s (Some n) =
 
 -- what the sender of a channel is told when it is asked what is due
 abbrev pub occasion : Pace → Outbox → Occasion
-occasion pace o = record { now = pace.now; timeout = pace.timeout; transit = transit_of o; most = transit_limit pace o }
+occasion pace o = record {
+  now = pace.now;
+  timeout = pace.timeout;
+  transit = transit_of o;
+  most = transit_limit pace o;
+  prices = prices_of o;
+  dearest = price_limit pace o;
+}
 
 abbrev pub channel_step : Pace → ℕ → Filling → Option SendingEnd → Filling
 channel_step pace channel f None = f

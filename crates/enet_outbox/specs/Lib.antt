@@ -1,3 +1,4 @@
+pub mod Allowance
 pub mod Outbox
 pub mod Counting
 pub mod Emission

@@ -3,6 +3,7 @@ use Rattle.std.specs.Prelude.{ℕ, ◌%◌, ◌/◌, ◌&&◌, ◌||◌, not, �
 use Rattle.std.specs.List.{range_with_len, list_all, list_any}
 use Rattle.enet_seq.specs.Windows.{after}
 use Rattle.enet_seq.specs.Numbering.{wire}
+use Rattle.enet_rtt.specs.declared.transmission.Tick.{Tick}
 use Rattle.enet_rtt.specs.declared.expiry.Patience.{Patience}
 use Rattle.enet_rtt.specs.declared.expiry.Expiry.{Expiry}
 use Rattle.enet_rtt.specs.declared.expiry.Expiry.TheVariants.{No, Resend, End}
@@ -12,9 +13,13 @@ use Rattle.enet_senders.specs.declared.control.Control.{Control}
 use Rattle.enet_senders.specs.Controlling.{Commands, nothing_controlled, is_idle}
 use Rattle.enet_senders.specs.Controlling as controlling
 use Rattle.enet_sender.specs.CommandChoice.{Packet, is_flagged_reliable, is_long}
-use Rattle.enet_sender.specs.Sender.{bytes_in_transit, left}
+use Rattle.enet_sender.specs.declared.outgoing.Acknowledged.{Acknowledged}
+use Rattle.enet_sender.specs.Sender.{bytes_in_transit, prices_in_transit, lost_price, left}
 use Rattle.enet_sender.specs.Sender as sender
 use Rattle.enet_sender.specs.Due.{SendingEnd, new_end}
+use Rattle.enet_senders.specs.Senders.{sum_over}
+use Rattle.enet_outbox.specs.Allowance.{Allowed, new_allowance}
+use Rattle.enet_outbox.specs.Allowance as allowance
 use Rattle.enet_outbox.specs.declared.parts.Acknowledgement.{Acknowledgement}
 use Rattle.enet_outbox.specs.declared.parts.Unsequenced.{Unsequenced}
 use Rattle.enet_outbox.specs.declared.parts.Matched.{Matched}
@@ -28,6 +33,7 @@ pub record Outbox : Type 0 where
   pub senders : List SendingEnd  -- by channel
   pub throttle : Throttling
   pub last : Option ℕ  -- the channel of the last data command that a datagram had
+  pub allowance : Allowed
 
 -- so many channels with nothing to send, so many commands of channel 0xFF having been numbered before
 abbrev pub empty_outbox : ℕ → ℕ → Throttling → Outbox
@@ -39,11 +45,16 @@ empty_outbox channels number t = record {
   senders = map new_end (range_with_len 0 channels);
   throttle = t;
   last = None;
+  allowance = new_allowance;
 }
 
--- the payload bytes of what is sent and not acknowledged
+-- the payload bytes of what is in transit: sent, not acknowledged and not due to go again
 abbrev pub transit_of : Outbox → ℕ
 transit_of o = sum_by (λ (s : SendingEnd). bytes_in_transit s.sender) o.senders
+
+-- its prices
+abbrev pub prices_of : Outbox → ℕ
+prices_of o = sum_by (λ (s : SendingEnd). prices_in_transit s.sender) o.senders
 
 abbrev pub has_no_packet : SendingEnd → Bool
 has_no_packet s = not (left s.sender).packets
@@ -124,13 +135,16 @@ abbrev pub as_control : Option Control → Matched
 as_control None = matched.Nothing
 as_control (Some what) = matched.Control what
 
-abbrev pub as_data : Option ℕ → Matched
+abbrev pub as_data : Option Acknowledged → Matched
 as_data None = matched.Nothing
-as_data (Some bytes) = matched.Data
+as_data (Some told) = matched.Data
+
+abbrev pub told_on : Option SendingEnd → ℕ → ℕ → Option Acknowledged
+told_on None number time = None
+told_on (Some s) number time = sender.acknowledged s.sender number time
 
 abbrev pub matched_on : Option SendingEnd → ℕ → ℕ → Matched
-matched_on None number time = matched.Nothing
-matched_on (Some s) number time = as_data (sender.acknowledged_bytes s.sender number time)
+matched_on s number time = as_data (told_on s number time)
 
 abbrev pub matched_by : Outbox → ℕ → ℕ → ℕ → Matched
 matched_by o channel number time =
@@ -148,10 +162,18 @@ after_acknowledgement o channel number =
     then record o { control = controlling.after_acknowledgement o.control number }
     else acknowledged_on o channel number (slice_get o.senders channel)
 
+-- what is told of the data command that it matches
+abbrev pub told_by : Outbox → ℕ → ℕ → ℕ → Option Acknowledged
+told_by o channel number time = if channel == 0xFF then None else told_on (slice_get o.senders channel) number time
+
+-- by that the allowance grows
+abbrev pub with_growth : Outbox → Option Acknowledged → Outbox
+with_growth o told = record o { allowance = allowance.after_match o.allowance told }
+
 -- one that matches nothing changes nothing
-abbrev pub after_match : Matched → Outbox → ℕ → ℕ → Outbox
-after_match matched.Nothing o channel number = o
-after_match _ o channel number = after_acknowledgement o channel number
+abbrev pub after_match : Matched → Outbox → ℕ → ℕ → ℕ → Outbox
+after_match matched.Nothing o channel number time = o
+after_match _ o channel number time = with_growth (after_acknowledgement o channel number) (told_by o channel number time)
 
 -- the peer, last heard at `heard`, has timed out over a sent command
 abbrev pub has_ended : Outbox → ℕ → Patience → ℕ → Bool
@@ -165,16 +187,24 @@ has_late o now =
     list_any (controlling.is_late now) o.control.sent
     || list_any (λ (s : SendingEnd). list_any (sender.is_late now) s.sender.sent) o.senders
 
-abbrev pub marked_sender : ℕ → ℕ → SendingEnd → SendingEnd
-marked_sender bound now s = record s { sender = sender.with_marked bound now s.sender }
+abbrev pub marked_sender : Tick → SendingEnd → SendingEnd
+marked_sender tick s = record s { sender = sender.with_marked tick s.sender }
 
--- all that waited out its timeout is due to go again, and waits longer then, as far as the bound lets timeouts grow
-abbrev pub marked : Outbox → ℕ → ℕ → Outbox
-marked o bound now = record o { control = controlling.with_marked bound now o.control; senders = map (marked_sender bound now) o.senders }
+-- the prices of the data commands that were lost: they become late at a moment, and the peer was heard since they were last sent
+abbrev pub prices_lost : Tick → List SendingEnd → ℕ
+prices_lost tick senders = sum_over (lost_price tick) senders
+
+-- all that waited out its timeout is due to go again, and has its next timeout then; by what was lost the allowance shrinks
+abbrev pub marked : Outbox → Tick → Outbox
+marked o tick = record o {
+  control = controlling.with_marked tick o.control;
+  senders = map (marked_sender tick) o.senders;
+  allowance = allowance.after_loss o.allowance (prices_lost tick o.senders);
+}
 
 -- of channel 0xFF all that waited out its timeout counts as tried, though nothing goes, and waits longer from now on
-abbrev pub held_back : Outbox → ℕ → ℕ → Outbox
-held_back o bound now = record o { control = controlling.with_held_back bound now o.control }
+abbrev pub held_back : Outbox → Tick → Outbox
+held_back o tick = record o { control = controlling.with_held_back tick o.control }
 
 -- so many milliseconds or more have passed since a sent command of channel 0xFF first went
 abbrev pub has_waited : Outbox → ℕ → ℕ → Bool
@@ -184,20 +214,23 @@ has_waited o ms now = list_any (controlling.has_waited ms now) o.control.sent
 abbrev pub lateness : Outbox → ℕ → Patience → ℕ → Expiry
 lateness o now patience heard = if has_ended o now patience heard then End else (if has_late o now then Resend else No)
 
-abbrev pub after_lateness : Expiry → Outbox → ℕ → ℕ → Outbox
-after_lateness No o bound now = o
-after_lateness Resend o bound now = marked o bound now
-after_lateness End o bound now = o
+abbrev pub after_lateness : Expiry → Outbox → Tick → Outbox
+after_lateness No o tick = o
+after_lateness Resend o tick = marked o tick
+after_lateness End o tick = o
 
 -- the same where nothing is to go
-abbrev pub after_holding : Expiry → Outbox → ℕ → ℕ → Outbox
-after_holding No o bound now = o
-after_holding Resend o bound now = held_back o bound now
-after_holding End o bound now = o
+abbrev pub after_holding : Expiry → Outbox → Tick → Outbox
+after_holding No o tick = o
+after_holding Resend o tick = held_back o tick
+after_holding End o tick = o
 
 -- a round trip was measured
 abbrev pub sampled : Outbox → ℕ → ℕ → ℕ → ℕ → Outbox
-sampled o now measured round_trip variance = record o { throttle = throttle.after_sample o.throttle now measured round_trip variance }
+sampled o now measured round_trip variance = record o {
+  throttle = throttle.after_sample o.throttle now measured round_trip variance;
+  allowance = allowance.after_sample o.allowance measured round_trip;
+}
 
 -- the outbox, and for how many more acknowledgements and commands of channel 0xFF there is room
 pub record Sending : Type 0 where

@@ -8,6 +8,8 @@
 //! `submit`, `acknowledge` (what an acknowledgement takes out), `late` (which asks the channels for an end only where one of their
 //! commands is late), `has_nothing_reliable`, `is_done`, `clear`, `narrow` and the rest; where `has_nothing` answers true, nothing is queued or
 //! unacknowledged.
+//! By specs/Allowance: how much may be in transit beside the window, and how that grows with what is acknowledged and shrinks with what was
+//! lost while the peer answered (`Allowance`).
 //! What later calls need has its room before, told as a number: `acknowledge` and `queue_control` ask for room, and `narrow`
 //! that nothing is in transit.
 //! Laws: the bytes of a datagram spell its header and its commands, in their order, and nothing else
@@ -15,6 +17,7 @@
 //! Only tested, by `check_peer`: that calls succeed with ample memory, and worked datagrams byte for byte.
 #![tactic(auto)]
 
+mod allowance;
 mod laws;
 mod lists;
 mod outbox;

@@ -5,12 +5,14 @@ ghost use Rattle.std.specs.VecDeque.{deque_len, deque_capacity};
 ghost use Rattle.enet_sender.specs.Due.{SendingEnd, with_submitted};
 ghost use Rattle.enet_sender.specs.CommandChoice.{fragment_limit};
 ghost use Rattle.enet_fragment.specs.Cutting.{piece_count};
-ghost use Rattle.enet_outbox.specs.Outbox.{cleared_sender, marked_sender, matched_on};
+ghost use Rattle.enet_outbox.specs.Outbox.{cleared_sender, marked_sender, prices_lost, told_on};
 ghost use Rattle.enet_outbox.specs.Invariant.{KeepsOutbox, with_accepted};
 
-use crate::{Acknowledgement, Matched};
+use crate::Acknowledgement;
 use bytes::Bytes;
 use enet_codec::Refusal;
+use enet_rtt::Tick;
+use enet_sender::Acknowledged;
 use enet_senders::Senders;
 use std::collections::VecDeque;
 
@@ -45,48 +47,70 @@ pub fn submit_on(
     ensures refused { OnErr result ((senders.new ≡ senders.old) × (body.new ≡ body.old)) }
     ensures taken { OnOk result (body.new ≡ []) }
     ensures only { IfErr result (λ why. (why ≡ Refusal.TooLarge) ⊎ (why ≡ Refusal.Memory)) }
-    ensures kept { (transit : ℕ) → KeepsOutbox transit senders.old → KeepsOutbox transit senders.new }
+    ensures kept { (transit prices : ℕ) → KeepsOutbox transit prices senders.old → KeepsOutbox transit prices senders.new }
 {
     senders.submit(channel, flags, body, mtu)
 }
 
-/// An acknowledgement of a channel's command comes: the command that it matches goes, and its bytes are no longer in
-/// transit.
+/// An acknowledgement of a channel's command comes: the command that it matches goes, and is no longer in transit. The answer is what is
+/// told of it.
 pub fn acknowledge_on(
     senders: &mut Senders,
     transit: &mut u32,
+    prices: &mut u32,
     channel: u8,
     number: u16,
     time: u16,
-) -> Matched
-    requires { KeepsOutbox transit.old senders.old }
-    ensures found { result ≡ matched_on (slice_get senders.old channel) number time }
+) -> Option<Acknowledged>
+    requires { KeepsOutbox transit.old prices.old senders.old }
+    ensures told { result ≡ told_on (slice_get senders.old channel) number time }
     ensures accepted { senders.new ≡ with_accepted senders.old channel number time (slice_get senders.old channel) }
-    ensures kept { KeepsOutbox transit.new senders.new }
+    ensures kept { KeepsOutbox transit.new prices.new senders.new }
 {
     let place = usize::from(channel);
     if place >= senders.len() {
-        return Matched::Nothing;
+        return None;
     }
-    let Some(bytes) = senders.acknowledge(channel, number, time) else {
-        return Matched::Nothing;
-    };
-    *transit -= bytes;
-    Matched::Data
+    let told = senders.acknowledge(channel, number, time)?;
+    if !told.due {
+        *transit -= told.bytes;
+        *prices -= told.price;
+    }
+    Some(told)
 }
 
-/// Marks all that is late as due to go again.
-pub fn mark(senders: &mut Senders, now: u32, bound: u32)
-    ensures senders { senders.new ≡ map (marked_sender bound now) senders.old }
-    ensures kept { (transit : ℕ) → KeepsOutbox transit senders.old → KeepsOutbox transit senders.new }
+/// What is in transit once what is late left it.
+#[derive(Clone, Copy)]
+pub struct Remains {
+    /// Its payload bytes.
+    pub bytes: u32,
+    /// Its prices.
+    pub prices: u32,
+    /// The prices of what was lost.
+    pub lost: u32,
+}
+
+/// Marks all that is late as due to go again: it is no longer in transit.
+pub fn mark(senders: &mut Senders, transit: u32, prices: u32, tick: Tick) -> Remains
+    requires { KeepsOutbox transit prices senders.old }
+    ensures lost { result.lost ≡ prices_lost tick senders.old }
+    ensures senders { senders.new ≡ map (marked_sender tick) senders.old }
+    ensures kept { KeepsOutbox result.bytes result.prices senders.new }
 {
-    senders.mark(now, bound);
+    let late = senders.mark(tick);
+    let bytes = transit - late.bytes;
+    let left = prices - late.prices;
+    Remains {
+        bytes,
+        prices: left,
+        lost: late.lost,
+    }
 }
 
 /// Drops all that is queued or sent on the channels.
 pub fn clear(senders: &mut Senders)
     ensures senders { senders.new ≡ map cleared_sender senders.old }
-    ensures kept { (transit : ℕ) → KeepsOutbox transit senders.old → KeepsOutbox 0 senders.new }
+    ensures kept { (transit prices : ℕ) → KeepsOutbox transit prices senders.old → KeepsOutbox 0 0 senders.new }
 {
     senders.clear();
 }

@@ -9,13 +9,14 @@ ghost use Rattle.enet_fragment.specs.Cutting.{piece_length, piece_count};
 ghost use Rattle.enet_sender.specs.Due.{SendingEnd};
 ghost use Rattle.enet_sender.specs.Sender as sender;
 ghost use Rattle.enet_senders.specs.Controlling.{is_idle};
-ghost use Rattle.enet_outbox.specs.Outbox.{acknowledgement_limit, acknowledging, after_holding, after_lateness, after_match, cleared, empty_outbox, is_crowded, is_done, has_nothing_reliable, has_waited, lateness, marked, matched_by, narrowed, sampled, submitted, transit_of, with_control, with_unsequenced};
+ghost use Rattle.enet_outbox.specs.Outbox.{acknowledgement_limit, acknowledging, after_holding, after_lateness, after_match, cleared, empty_outbox, is_crowded, is_done, has_nothing_reliable, has_waited, lateness, marked, matched_by, narrowed, prices_of, sampled, submitted, transit_of, with_control, with_unsequenced};
 
+use crate::allowance::Allowance;
 use crate::{Acknowledgement, Matched, Unsequenced, lists};
 use bytes::Bytes;
 use enet_codec::{CONTROL_CHANNEL, RELIABLE, Refusal, UNSEQUENCED};
 use enet_fragment::piece_length;
-use enet_rtt::{Expiry, Patience};
+use enet_rtt::{Expiry, Patience, Tick};
 use enet_senders::{Control, ControlChannel, Senders};
 use enet_seq::after;
 use enet_throttle::Throttle;
@@ -40,8 +41,11 @@ pub struct Outbox {
     pub(crate) senders: Senders,
     pub(crate) throttle: Throttle,
     pub(crate) last: Option<u8>,
-    /// The payload bytes of what is sent and not acknowledged.
+    /// The payload bytes of what is in transit: sent, not acknowledged and not due to go again.
     pub(crate) transit: u32,
+    /// Its prices.
+    pub(crate) prices: u32,
+    pub(crate) allowance: Allowance,
     /// Whether the channels were seen to have nothing queued or unacknowledged, and nothing was submitted on one since.
     pub(crate) idle: bool,
 }
@@ -66,12 +70,13 @@ impl Model for Outbox {
         senders = o.senders;
         throttle = o.throttle;
         last = o.last;
+        allowance = o.allowance;
       };
       acknowledgement_room = deque_capacity o.acknowledgements - deque_len o.acknowledgements;
       control_room = o.control.room;
     } };
 
-    ghost invariant = { λ o. KeepsOutbox o.transit o.senders × KeepsIdle o.idle o.senders × (length o.acknowledgements.items ≤ acknowledgement_limit) };
+    ghost invariant = { λ o. KeepsOutbox o.transit o.prices o.senders × KeepsIdle o.idle o.senders × (length o.acknowledgements.items ≤ acknowledgement_limit) };
 }
 
 impl Outbox {
@@ -98,6 +103,8 @@ impl Outbox {
             throttle,
             last: None,
             transit: 0,
+            prices: 0,
+            allowance: Allowance::new(),
             idle: false,
         })
     }
@@ -226,19 +233,12 @@ impl Outbox {
     /// them, or that one wasn't sent at the time (our profile).
     pub fn acknowledge(&mut self, channel: u8, number: u16, time: u16) -> Matched
         ensures found { result ≡ matched_by self.old.outbox channel number time }
-        ensures outbox { self.new.outbox ≡ after_match result self.old.outbox channel number }
+        ensures outbox { self.new.outbox ≡ after_match result self.old.outbox channel number time }
         ensures acknowledgement_room { self.new.acknowledgement_room ≡ self.old.acknowledgement_room }
         ensures control_room { self.old.control_room ≤ self.new.control_room }
     {
         if channel != CONTROL_CHANNEL {
-            self.idle = false;
-            return lists::acknowledge_on(
-                &mut self.senders,
-                &mut self.transit,
-                channel,
-                number,
-                time,
-            );
+            return self.acknowledge_data(channel, number, time);
         }
         match self.control.acknowledge(number, time) {
             None => Matched::Nothing,
@@ -246,14 +246,34 @@ impl Outbox {
         }
     }
 
-    /// Takes a measured round trip into the throttle: `measured` at the time `now`, with the estimated round trip and its
-    /// variance as they stand after it, in milliseconds.
+    /// The same of a data command. The allowance grows by what is acknowledged.
+    fn acknowledge_data(&mut self, channel: u8, number: u16, time: u16) -> Matched
+        requires { channel < 255 }
+        ensures found { result ≡ matched_by self.old.outbox channel number time }
+        ensures outbox { self.new.outbox ≡ after_match result self.old.outbox channel number time }
+        ensures acknowledgement_room { self.new.acknowledgement_room ≡ self.old.acknowledgement_room }
+        ensures control_room { self.new.control_room ≡ self.old.control_room }
+    {
+        self.idle = false;
+        let (transit, prices) = (&mut self.transit, &mut self.prices);
+        match lists::acknowledge_on(&mut self.senders, transit, prices, channel, number, time) {
+            None => Matched::Nothing,
+            Some(told) => {
+                self.allowance.acknowledge(told);
+                Matched::Data
+            }
+        }
+    }
+
+    /// Takes a measured round trip into the throttle and into the allowance: `measured` at the time `now`, with the estimated round trip
+    /// and its variance as they stand after it, in milliseconds.
     pub fn sample(&mut self, now: u32, measured: u32, round_trip: u32, variance: u32)
         ensures outbox { self.new.outbox ≡ sampled self.old.outbox now measured round_trip variance }
         ensures acknowledgement_room { self.new.acknowledgement_room ≡ self.old.acknowledgement_room }
         ensures control_room { self.new.control_room ≡ self.old.control_room }
     {
         self.throttle.sample(now, measured, round_trip, variance);
+        self.allowance.sample(measured, round_trip);
     }
 
     /// Sets the throttle's interval in milliseconds, its acceleration and its deceleration, and nothing else.
@@ -275,36 +295,36 @@ impl Outbox {
         self.throttle.set_limit(limit);
     }
 
-    /// What the moment `now` brings: `End` where a sent command of any channel has waited out its timeout and its peer, heard
-    /// last at `heard`, has timed out over it by `patience`, which changes nothing; else `Resend` where a sent command has
-    /// waited out its timeout: each such one is then due to go again, and waits twice as long, but no longer than `bound`
-    /// milliseconds, or as long as it did where that is longer; else `No` (our profile).
-    pub fn late(&mut self, now: u32, patience: &Patience, heard: u32, bound: u32) -> Expiry
-        ensures found { result ≡ lateness self.old.outbox now patience.now heard }
-        ensures after { self.new.outbox ≡ after_lateness result self.old.outbox bound now }
+    /// What the moment `tick` brings: `End` where a sent command of any channel has waited out its timeout and its peer, heard
+    /// last at `tick.heard`, has timed out over it by `patience`, which changes nothing; else `Resend` where a sent command has
+    /// waited out its timeout: each such one is then due to go again, and has its next timeout (`Transmission::mark`), and the allowance
+    /// shrinks by twice the price of those data commands since whose last send the peer was heard; else `No` (our profile).
+    pub fn late(&mut self, tick: Tick, patience: &Patience) -> Expiry
+        ensures found { result ≡ lateness self.old.outbox tick.now patience.now tick.heard }
+        ensures after { self.new.outbox ≡ after_lateness result self.old.outbox tick }
         ensures acknowledgement_room { self.new.acknowledgement_room ≡ self.old.acknowledgement_room }
         ensures control_room { self.new.control_room ≡ self.old.control_room }
     {
-        let expiry = self.lateness(now, patience, heard);
+        let expiry = self.lateness(tick.now, patience, tick.heard);
         if expiry == Expiry::Resend {
-            self.mark(now, bound);
+            self.mark(tick);
         }
         expiry
     }
 
-    /// What the moment `now` brings, as `late` has it, to a peer that may put nothing out: where a sent command has waited out its
+    /// What the moment `tick` brings, as `late` has it, to a peer that may put nothing out: where a sent command has waited out its
     /// timeout, those of channel 0xFF count as tried, though they don't go, and wait longer from then on (our profile).
-    pub fn hold_back(&mut self, now: u32, patience: &Patience, heard: u32, bound: u32) -> Expiry
-        ensures found { result ≡ lateness self.old.outbox now patience.now heard }
-        ensures after { self.new.outbox ≡ after_holding result self.old.outbox bound now }
+    pub fn hold_back(&mut self, tick: Tick, patience: &Patience) -> Expiry
+        ensures found { result ≡ lateness self.old.outbox tick.now patience.now tick.heard }
+        ensures after { self.new.outbox ≡ after_holding result self.old.outbox tick }
         ensures acknowledgement_room { self.new.acknowledgement_room ≡ self.old.acknowledgement_room }
         ensures control_room { self.new.control_room ≡ self.old.control_room }
     {
-        let found = self.lateness(now, patience, heard);
-        if found == Expiry::Resend {
-            self.control.hold_back(now, bound);
+        let expiry = self.lateness(tick.now, patience, tick.heard);
+        if expiry == Expiry::Resend {
+            self.control.hold_back(tick);
         }
-        found
+        expiry
     }
 
     /// Whether at the moment `now` so many milliseconds have passed since a sent command of channel 0xFF first went.
@@ -356,14 +376,17 @@ impl Outbox {
     }
 
     /// Marks all that is late as due to go again.
-    fn mark(&mut self, now: u32, bound: u32)
-        ensures outbox { self.new.outbox ≡ marked self.old.outbox bound now }
+    fn mark(&mut self, tick: Tick)
+        ensures outbox { self.new.outbox ≡ marked self.old.outbox tick }
         ensures acknowledgement_room { self.new.acknowledgement_room ≡ self.old.acknowledgement_room }
         ensures control_room { self.new.control_room ≡ self.old.control_room }
     {
-        self.control.mark(now, bound);
+        self.control.mark(tick);
         self.idle = false;
-        lists::mark(&mut self.senders, now, bound);
+        let remains = lists::mark(&mut self.senders, self.transit, self.prices, tick);
+        self.transit = remains.bytes;
+        self.prices = remains.prices;
+        self.allowance.lose(remains.lost);
     }
 
     /// Whether no reliable command is queued or unacknowledged, on any channel. Then there is room for one command of
@@ -419,6 +442,7 @@ impl Outbox {
     pub fn clear(&mut self)
         ensures outbox { self.new.outbox ≡ cleared self.old.outbox }
         ensures transit { transit_of self.new.outbox ≡ 0 }
+        ensures prices { prices_of self.new.outbox ≡ 0 }
         ensures acknowledgement_room { self.old.acknowledgement_room + length self.old.outbox.acknowledgements ≤ self.new.acknowledgement_room }
         ensures control_room { 1 ≤ self.new.control_room }
     {
@@ -428,11 +452,12 @@ impl Outbox {
         self.idle = false;
         lists::clear(&mut self.senders);
         self.transit = 0;
+        self.prices = 0;
     }
 
     /// Keeps so many channels, the first ones; nothing may be in transit.
     pub fn narrow(&mut self, channels: u8)
-        requires { transit_of self.old.outbox ≡ 0 }
+        requires { prices_of self.old.outbox ≡ 0 }
         ensures outbox { self.new.outbox ≡ narrowed self.old.outbox channels }
         ensures acknowledgement_room { self.new.acknowledgement_room ≡ self.old.acknowledgement_room }
         ensures control_room { self.new.control_room ≡ self.old.control_room }

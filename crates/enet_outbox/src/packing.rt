@@ -15,7 +15,7 @@ ghost use Rattle.enet_outbox.specs.Emission.{acknowledgement_of, unsequenced_of,
 ghost use Rattle.enet_outbox.specs.Invariant.{HasNothing};
 ghost use Rattle.enet_outbox.specs.Resting.{IsAtRest};
 ghost use Rattle.enet_senders.specs.Senders.{IsStill};
-ghost use Rattle.enet_outbox.specs.Private.Packing.{header_asking, most_unused, Leads, taken_in, place_in, asked_for, refuses, GoesIn, PacksAcknowledgements, PacksControls, PacksUnsequenced, PacksChannel, PacksChannels};
+ghost use Rattle.enet_outbox.specs.Private.Packing.{header_asking, most_unused, Leads, taken_in, place_in, asked_for, refuses, told, GoesIn, PacksAcknowledgements, PacksControls, PacksUnsequenced, PacksChannel, PacksChannels};
 
 use crate::{Acknowledgement, Destination, Outbox, Pace, Unsequenced, lists};
 use enet_codec::{Command, Head, Header, NO_PEER, write_acknowledge, write_command, write_header};
@@ -54,8 +54,12 @@ struct Turn {
 #[derive(Clone, Copy)]
 pub struct Flow {
     pub throttle: Throttle,
-    /// The payload bytes of what is sent and not acknowledged.
+    /// The payload bytes of what is in transit.
     pub transit: u32,
+    /// Its prices.
+    pub prices: u32,
+    /// How much these may be together, the mtu apart.
+    pub dearest: u32,
     /// The channel of the last data command that a datagram had.
     pub last: Option<u8>,
 }
@@ -268,6 +272,20 @@ fn refuses(throttle: &mut Throttle, kind: Kind) -> bool
     }
 }
 
+/// What the sender of a channel is told when it is asked what is due.
+fn occasion_of(flow: &Flow, pace: Pace) -> Occasion
+    ensures { result ≡ told pace flow.now }
+{
+    Occasion {
+        now: pace.now,
+        timeout: pace.timeout,
+        transit: flow.transit,
+        most: flow.throttle.transit_limit(pace.window, pace.mtu),
+        prices: flow.prices,
+        dearest: flow.dearest.max(pace.mtu),
+    }
+}
+
 /// Puts what is due on a channel into the datagram, as far as it fits. The throttle is asked of the first command of each
 /// unreliable packet that fits, and may drop the packet.
 fn pack_channel(
@@ -286,19 +304,19 @@ fn pack_channel(
     let mut progress = from;
     'commands: loop {
         let place = progress.place(buf);
-        let most = flow.throttle.transit_limit(pace.window, pace.mtu);
-        let occasion = Occasion {
-            now: pace.now,
-            timeout: pace.timeout,
-            transit: flow.transit,
-            most,
-        };
+        let occasion = occasion_of(flow, pace);
         match senders.next_due(channel, occasion, buf, place) {
-            Due::Sent { past, added, kind } => {
+            Due::Sent {
+                past,
+                added,
+                price,
+                kind,
+            } => {
                 if refuses(&mut flow.throttle, kind) {
                     senders.skip(channel);
                 } else {
                     flow.transit += added;
+                    flow.prices += price;
                     flow.last = Some(channel);
                     progress = progress.with(buf, past);
                 }
@@ -309,8 +327,14 @@ fn pack_channel(
     }
 }
 
-/// Puts what is due on a channel into the datagram as `pack_channel` does. Where the window is nearly full, a channel that surely has
-/// to wait is passed over.
+/// Whether what is in transit is so much that a command of the mtu may find no room.
+fn is_nearly_full(occasion: Occasion, mtu: u32) -> bool {
+    u64::from(occasion.transit) + u64::from(mtu) > u64::from(occasion.most)
+        || u64::from(occasion.prices) + u64::from(mtu) > u64::from(occasion.dearest)
+}
+
+/// Puts what is due on a channel into the datagram as `pack_channel` does. Where what is in transit is nearly as much as it may be, a channel
+/// that surely has to wait is passed over.
 fn pack_turn(
     senders: &mut Senders,
     flow: &mut Flow,
@@ -324,9 +348,8 @@ fn pack_turn(
         × PacksChannel pace (record { channel = channel; sender = s; flow = flow.old }) (record { channel = channel; sender = t; flow = flow.new })
         (record { progress = progress.old; buf = buf.old }) (record { progress = progress.new; buf = buf.new })) }
 {
-    let most = flow.throttle.transit_limit(pace.window, pace.mtu);
-    let is_nearly_full = u64::from(flow.transit) + u64::from(pace.mtu) > u64::from(most);
-    if is_nearly_full && senders.has_to_wait(channel, flow.transit, most) {
+    let occasion = occasion_of(flow, pace);
+    if is_nearly_full(occasion, pace.mtu) && senders.has_to_wait(channel, occasion) {
         return;
     }
     *progress = pack_channel(senders, flow, channel, pace, buf, *progress);
@@ -474,12 +497,15 @@ impl Outbox {
         let mut flow = Flow {
             throttle: self.throttle,
             transit: self.transit,
+            prices: self.prices,
+            dearest: self.allowance.limit(),
             last: self.last,
         };
         let sent = pack_channels(&mut self.senders, &mut flow, first, pace, buf, unsequenced);
         self.idle = false;
         self.throttle = flow.throttle;
         self.transit = flow.transit;
+        self.prices = flow.prices;
         self.last = flow.last;
         sent
     }

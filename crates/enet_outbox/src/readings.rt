@@ -12,11 +12,18 @@ ghost use Rattle.enet_outbox.specs.Outbox.{has_late, transit_of};
 use crate::Outbox;
 
 impl Outbox {
-    /// How many payload bytes of reliable packets are sent and not acknowledged.
+    /// How many payload bytes of reliable packets are in transit: sent, not acknowledged and not due to go again.
     pub fn in_transit(&self) -> u32
         ensures { result ≡ transit_of self.now.outbox }
     {
         self.transit
+    }
+
+    /// The allowance in bytes, 2,800 to 131,072: what the prices of what is in transit may be together.
+    pub fn allowance(&self) -> u32
+        ensures { result ≡ self.now.outbox.allowance.bytes }
+    {
+        self.allowance.bytes()
     }
 
     /// The throttle, 0 to 32: of 32 unreliable or unsequenced packets in a row one more than it says goes, and all from 31 on.

@@ -9,6 +9,7 @@ pub mod Places
 pub mod Steps
 pub mod Each
 pub mod Calm
+pub mod Expiring
 pub mod Waiting
 pub mod Limited
 pub mod Sampling

@@ -11,6 +11,7 @@ use Rattle.enet_codec.specs.declared.stop.Stop.TheVariants as stop
 use Rattle.enet_codec.specs.declared.packet.Packet as codec
 use Rattle.enet_codec.specs.Message.{Message, Body, acknowledge, connect, verify_connect, disconnect, ping, send_reliable, send_unreliable, send_fragment, send_unsequenced, bandwidth_limit, throttle_configure, send_unreliable_fragment}
 use Rattle.enet_seq.specs.Numbering.{wire}
+use Rattle.enet_rtt.specs.declared.transmission.Tick.{Tick}
 use Rattle.enet_rtt.specs.declared.expiry.Expiry.{Expiry}
 use Rattle.enet_rtt.specs.declared.expiry.Expiry.TheVariants.{No, Resend, End}
 use Rattle.enet_unsequenced.specs.Groups.{dispatches}
@@ -44,7 +45,7 @@ use Rattle.enet_outbox.specs.declared.parts.Unsequenced.{Unsequenced}
 use Rattle.enet_outbox.specs.declared.parts.Matched.{Matched}
 use Rattle.enet_outbox.specs.declared.parts.Matched.TheVariants as matched
 use Rattle.enet_outbox.specs.declared.parts.Pace.{Pace}
-use Rattle.enet_outbox.specs.Outbox.{Outbox, cleared_sender, marked_sender, with_control, after_acknowledgement, acknowledged_on, is_done, is_unsequenced, with_unsequenced, with_sequenced, matched_by}
+use Rattle.enet_outbox.specs.Outbox.{Outbox, cleared_sender, marked_sender, with_control, after_acknowledgement, acknowledged_on, is_done, is_unsequenced, with_unsequenced, with_sequenced, matched_by, told_by, with_growth}
 use Rattle.enet_outbox.specs.Outbox as outbox
 use Rattle.enet_outbox.specs.Emission.{Filling, filled}
 use Rattle.enet_outbox.proofs.Filled.{by-filling}
@@ -57,7 +58,7 @@ use Rattle.enet_peer.specs.declared.parts.PeerEvent.{PeerEvent}
 use Rattle.enet_peer.specs.declared.parts.PeerEvent.TheVariants as event
 use Rattle.enet_peer.specs.Endings.{ended, freed, disconnecting, parting, settled, is_later, cut_off_in}
 use Rattle.enet_peer.specs.CommandEffect.{Outcome, Obeys, unless_refused, wants_memory, answered, answered_at, is_answered_in, is_allowed, is_connect, obeyed, by_body, by_answer, by_arrival, on_data, stopped, sampled, with_answer, on_match, accepted, is_connecting, on_acknowledge, welcomed, on_verify_in, on_last_disconnect, on_disconnect_in}
-use Rattle.enet_peer.specs.Calls.{Leave, AtOnce, TellsOnce, Asks, AsksLater, Refused, Leaves, left, Submits, submitted, PutsOut, after_timeouts, growth_bound, after_timeouts_by, expiry_of, held_back, is_held_back, is_pinged, moved, ticked, is_connected, pace_of, gone_on_in, Taken, Takes, next_event, event_after, packet_event, last_event, with_bandwidth, with_throttle}
+use Rattle.enet_peer.specs.Calls.{Leave, AtOnce, TellsOnce, Asks, AsksLater, Refused, Leaves, left, Submits, submitted, PutsOut, after_timeouts, after_timeouts_by, expiry_of, held_back, is_held_back, is_pinged, moved, tick_of, ticked, is_connected, pace_of, gone_on_in, Taken, Takes, next_event, event_after, packet_event, last_event, with_bandwidth, with_throttle}
 use Rattle.enet_peer.specs.Reachable.{IsReachable, IsStill, IsStillIn, KeepsHoldings, WaitsIn, holdings_of}
 use Rattle.enet_peer.proofs.Obeying.{obeys-holds, unless-holds, unwelcomed-holds}
 
@@ -272,10 +273,12 @@ acknowledged-keeps p now channel number told h = by-state (is_connecting p.state
     meant = meant_time told (p.offset % 2 ^ 16)
 
     q : Peering
-    q = sampled (record p { outbox = after_acknowledgement p.outbox channel number }) now meant
+    q = sampled (record p { outbox = with_growth (after_acknowledgement p.outbox channel number) (told_by p.outbox channel number meant) }) now meant
 
     a : IsReachable q
-    a = matched-keeps p channel number h
+    a =
+        let gone : IsReachable (record p { outbox = after_acknowledgement p.outbox channel number }) = matched-keeps p channel number h in
+        record { still = gone.still; waits = gone.waits; places = gone.places; handed_over = gone.handed_over }
 
     by : (x : Matched) → IsReachable (on_match x p q)
     by matched.Nothing = h
@@ -536,24 +539,24 @@ cut-off-keeps : (p : Peering) (s : PeerState) → IsReachable p → IsReachable 
 cut-off-keeps p state.Answering h = freed-keeps p h
 cut-off-keeps p s h = ended-keeps p 0 h
 
-marked-keeps : (p : Peering) (bound now : ℕ) → IsReachable p → IsReachable (record p { outbox = outbox.marked p.outbox bound now })
-marked-keeps p bound now h =
+marked-keeps : (p : Peering) (tick : Tick) → IsReachable p → IsReachable (record p { outbox = outbox.marked p.outbox tick })
+marked-keeps p tick h =
     let o : Outbox = p.outbox in
     record {
-      still = still-in p.state o.unsequenced o.unsequenced o.control (controlling.with_marked bound now o.control) o.senders (map (marked_sender bound now) o.senders) (λ x. record {
+      still = still-in p.state o.unsequenced o.unsequenced o.control (controlling.with_marked tick o.control) o.senders (map (marked_sender tick) o.senders) (λ x. record {
         no_unsequenced = x.no_unsequenced;
-        no_control_sent = ap (map (controlling.marked bound now)) x.no_control_sent;
-        no_queued = at-map NoQueued NoQueued (marked_sender bound now) o.senders (λ i s q. q) x.no_queued;
-        no_sent = at-map NoSent NoSent (marked_sender bound now) o.senders (λ i s q. ap (map (sender.marked bound now)) q) x.no_sent;
+        no_control_sent = ap (map (controlling.marked tick)) x.no_control_sent;
+        no_queued = at-map NoQueued NoQueued (marked_sender tick) o.senders (λ i s q. q) x.no_queued;
+        no_sent = at-map NoSent NoSent (marked_sender tick) o.senders (λ i s q. ap (map (sender.marked tick)) q) x.no_sent;
       }) h.still;
       waits = h.waits;
-      places = at-map InPlace InPlace (marked_sender bound now) o.senders (λ i s e. e) h.places;
+      places = at-map InPlace InPlace (marked_sender tick) o.senders (λ i s e. e) h.places;
       handed_over = h.handed_over;
     }
 
 timeouts-keep : (p : Peering) (now : ℕ) (e : Expiry) → IsReachable p → IsReachable (after_timeouts_by e p now)
 timeouts-keep p now End h = cut-off-keeps p p.state h
-timeouts-keep p now Resend h = marked-keeps p (growth_bound p) now h
+timeouts-keep p now Resend h = marked-keeps p (tick_of p now) h
 timeouts-keep p now No h = h
 
 pub ticked-keeps : (p : Peering) (now : ℕ) → IsReachable p → IsReachable (ticked p now)
@@ -569,9 +572,9 @@ held-back-keeps : (p : Peering) (now : ℕ) → IsReachable p → IsReachable (h
 held-back-keeps p now h =
     let o : Outbox = p.outbox in
     record {
-      still = still-in p.state o.unsequenced o.unsequenced o.control (controlling.with_held_back (growth_bound p) now o.control) o.senders o.senders (λ x. record {
+      still = still-in p.state o.unsequenced o.unsequenced o.control (controlling.with_held_back (tick_of p now) o.control) o.senders o.senders (λ x. record {
         no_unsequenced = x.no_unsequenced;
-        no_control_sent = ap (map (controlling.held_back (growth_bound p) now)) x.no_control_sent;
+        no_control_sent = ap (map (controlling.held_back (tick_of p now))) x.no_control_sent;
         no_queued = x.no_queued;
         no_sent = x.no_sent;
       }) h.still;

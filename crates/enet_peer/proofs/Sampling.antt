@@ -1,11 +1,12 @@
 -- What an acknowledgement matches was sent at the time that it repeats, which lies from the first send to the last.
-use Rattle.std.proofs.Common.{◌≡◌, ℕ, zero, suc, ◌+◌, ◌-◌, ◌%◌, ◌^◌, ◌<◌, ◌≤◌, max, Bool, true, false, cond, ◌||◌, ◌&&◌, eqb, leb, List, [], ◌∷◌, take, length, Option, Some, None, slice_get, slice_set, refl, sym, ap, subst, ◌∙◌, ◌⊎◌, inl, inr, arith}
+use Rattle.std.proofs.Common.{◌≡◌, ℕ, zero, suc, ◌+◌, ◌-◌, ◌%◌, ◌^◌, ◌<◌, ◌≤◌, Bool, true, false, cond, ◌||◌, ◌&&◌, eqb, leb, List, [], ◌∷◌, take, Option, Some, None, slice_get, slice_set, refl, sym, subst, ◌⊎◌, inl, inr, arith}
 use Rattle.std.specs.Prelude.{min}
 use Rattle.std.specs.List.{list_any}
 use Rattle.std.proofs.lemmas.Bool.{eqb-true, leb-true}
-use Rattle.enet_rtt.specs.Clock.{elapsed_time, sample_of}
+use Rattle.enet_rtt.specs.Clock.{elapsed_time}
 use Rattle.enet_rtt.specs.SendTimes.{has_time, no_sends, with_send}
 use Rattle.enet_rtt.specs.declared.send_times.SendTimes.{SendTimes}
+use Rattle.enet_rtt.specs.declared.transmission.Tick.{Tick}
 use Rattle.enet_rtt.specs.declared.transmission.Transmission.{Transmission}
 use Rattle.enet_rtt.specs.Transmission as transmission
 use Rattle.enet_senders.specs.declared.control.Control.{Control}
@@ -13,11 +14,11 @@ use Rattle.enet_senders.specs.declared.control.Control.TheVariants as control
 use Rattle.enet_senders.specs.declared.control.Numbered.{Numbered}
 use Rattle.enet_senders.specs.declared.control.SentControl.{SentControl}
 use Rattle.enet_senders.specs.Controlling as controlling
+use Rattle.enet_sender.specs.declared.outgoing.Acknowledged.{Acknowledged}
 use Rattle.enet_sender.specs.declared.sent.Sent.{Sent}
 use Rattle.enet_sender.specs.Due.{SendingEnd}
 use Rattle.enet_sender.specs.Sender as sender
 use Rattle.enet_outbox.specs.Outbox.{Outbox, as_control, as_data, matched_by, matched_on}
-use Rattle.enet_outbox.specs.declared.parts.Matched.{Matched}
 use Rattle.enet_outbox.specs.declared.parts.Matched.TheVariants as matched
 use Rattle.enet_peer.specs.Sampling.{IsPast, IsWithin, HasTimes, HasTimesAs, ShowsNoMore, at_place, control_on, data_of_end, data_on}
 
@@ -53,15 +54,15 @@ went-within time t f l went = by (eqb time (t.first % 2 ^ 16)) (eqb time (t.last
 
 -- ---- data
 
-data-went : (time : ℕ) (x : Option Sent) → as_data (sender.size_of time x) ≡ matched.Data → (p : Sent) × (x ≡ Some p) × (transmission.went_at time p.transmission ≡ true)
+data-went : (time : ℕ) (x : Option Sent) → as_data (sender.matching time x) ≡ matched.Data → (p : Sent) × (x ≡ Some p) × (transmission.went_at time p.transmission ≡ true)
 data-went time None e = absurd (let y : matched.Nothing ≡ matched.Data = e in cc)
 data-went time (Some p) e = by (transmission.went_at time p.transmission) refl e
   where
-    by : (b : Bool) → transmission.went_at time p.transmission ≡ b → as_data (cond b (Some (length p.command.body)) None) ≡ matched.Data → (q : Sent) × (Some p ≡ Some q) × (transmission.went_at time q.transmission ≡ true)
+    by : (b : Bool) → transmission.went_at time p.transmission ≡ b → as_data (cond b (Some (sender.told_of time p)) None) ≡ matched.Data → (q : Sent) × (Some p ≡ Some q) × (transmission.went_at time q.transmission ≡ true)
     by true is e = (p, refl, is)
     by false is e = absurd (let y : matched.Nothing ≡ matched.Data = e in cc)
 
-data-at : (time : ℕ) (sent : List Sent) (o : Option ℕ) → as_data (sender.size_at time sent o) ≡ matched.Data → (p : Sent) × (at_place sent o ≡ Some p) × (transmission.went_at time p.transmission ≡ true)
+data-at : (time : ℕ) (sent : List Sent) (o : Option ℕ) → as_data (sender.matching_at time sent o) ≡ matched.Data → (p : Sent) × (at_place sent o ≡ Some p) × (transmission.went_at time p.transmission ≡ true)
 data-at time sent None e = absurd (let y : matched.Nothing ≡ matched.Data = e in cc)
 data-at time sent (Some i) e = data-went time (slice_get sent i) e
 
@@ -101,13 +102,13 @@ control-place : (time : ℕ) (what : Control) (sent : List SentControl) (o : Opt
 control-place time what sent None e = absurd (let y : matched.Nothing ≡ matched.Control what = e in cc)
 control-place time what sent (Some i) e = control-went time what (slice_get sent i) e
 
-no-data : (what : Control) (x : Option ℕ) → as_data x ≡ matched.Control what → ⊥
+no-data : (what : Control) (x : Option Acknowledged) → as_data x ≡ matched.Control what → ⊥
 no-data what None e = let y : matched.Nothing ≡ matched.Control what = e in cc
-no-data what (Some bytes) e = let y : matched.Data ≡ matched.Control what = e in cc
+no-data what (Some told) e = let y : matched.Data ≡ matched.Control what = e in cc
 
 no-data-end : (what : Control) (number time : ℕ) (x : Option SendingEnd) → matched_on x number time ≡ matched.Control what → ⊥
 no-data-end what number time None e = let y : matched.Nothing ≡ matched.Control what = e in cc
-no-data-end what number time (Some s) e = no-data what (sender.acknowledged_bytes s.sender number time) e
+no-data-end what number time (Some s) e = no-data what (sender.acknowledged s.sender number time) e
 
 control-matched : (b : Bool) (o : Outbox) (channel number time : ℕ) (what : Control)
     → cond b (as_control (controlling.acknowledged_control o.control number time)) (matched_on (slice_get o.senders channel) number time) ≡ matched.Control what
@@ -201,8 +202,8 @@ marked-times (control.VerifyConnect verify) true p timeout has = has
 marked-times (control.VerifyConnect verify) false p timeout has = has
 marked-times what b p timeout has = tt
 
-pub marked-has : (bound now : ℕ) (p : SentControl) → HasTimes p → HasTimes (controlling.marked bound now p)
-marked-has bound now p has = marked-times p.command.control (transmission.is_late now p.transmission) p (transmission.grown_time bound p.transmission.timeout) has
+pub marked-has : (tick : Tick) (p : SentControl) → HasTimes p → HasTimes (controlling.marked tick p)
+marked-has tick p has = marked-times p.command.control (transmission.is_late tick.now p.transmission) p (transmission.next_time tick p.transmission) has
 
 held-times : (what : Control) (b c : Bool) (now timeout : ℕ) (p : SentControl) → IsPast now p.transmission → HasTimesAs what p
     → HasTimesAs what (cond b (record p { transmission = transmission.again now (cond c (record p.transmission { timeout = timeout; due = true }) p.transmission) }) p)
@@ -211,13 +212,13 @@ held-times (control.VerifyConnect verify) true false now timeout p past has = λ
 held-times (control.VerifyConnect verify) false c now timeout p past has = has
 held-times what b c now timeout p past has = tt
 
-held-back-keeps : (bound now : ℕ) (p : SentControl) → IsPast now p.transmission → HasTimesAs p.command.control p → HasTimesAs p.command.control (controlling.held_back bound now p)
-held-back-keeps bound now p past has =
-    held-times p.command.control (controlling.is_late now p) (transmission.is_late now p.transmission) now (transmission.grown_time bound p.transmission.timeout) p past has
+held-back-keeps : (tick : Tick) (p : SentControl) → IsPast tick.now p.transmission → HasTimesAs p.command.control p → HasTimesAs p.command.control (controlling.held_back tick p)
+held-back-keeps tick p past has =
+    held-times p.command.control (controlling.is_late tick.now p) (transmission.is_late tick.now p.transmission) tick.now (transmission.next_time tick p.transmission) p past has
 
-pub held-back-has : (bound now : ℕ) (p : SentControl) → IsPast now p.transmission → HasTimes p → HasTimes (controlling.held_back bound now p)
-held-back-has bound now p past has = subst (λ (c : Control). HasTimesAs c (controlling.held_back bound now p)) (same (controlling.is_late now p)) (held-back-keeps bound now p past has)
+pub held-back-has : (tick : Tick) (p : SentControl) → IsPast tick.now p.transmission → HasTimes p → HasTimes (controlling.held_back tick p)
+held-back-has tick p past has = subst (λ (c : Control). HasTimesAs c (controlling.held_back tick p)) (same (controlling.is_late tick.now p)) (held-back-keeps tick p past has)
   where
-    same : (b : Bool) → p.command.control ≡ (cond b (record p { transmission = transmission.again now (transmission.marked bound now p.transmission) }) p).command.control
+    same : (b : Bool) → p.command.control ≡ (cond b (record p { transmission = transmission.again tick.now (transmission.marked tick p.transmission) }) p).command.control
     same true = refl
     same false = refl

@@ -5,6 +5,7 @@ use Rattle.enet_codec.specs.declared.refusal.Refusal.TheVariants.{NotConnected, 
 use Rattle.enet_codec.specs.declared.packet.Packet as codec
 use Rattle.enet_rtt.specs.Clock.{elapsed_time}
 use Rattle.enet_rtt.specs.Timing.{timeout}
+use Rattle.enet_rtt.specs.declared.transmission.Tick.{Tick}
 use Rattle.enet_rtt.specs.Expiry.{patience_with_defaults, or_default_number}
 use Rattle.enet_rtt.specs.declared.expiry.Expiry.{Expiry}
 use Rattle.enet_rtt.specs.declared.expiry.Expiry.TheVariants.{No, Resend, End}
@@ -121,14 +122,28 @@ abbrev pub Leaves : {T : Type 0} → Result T Refusal → Option Peering → Pee
 Leaves (Ok done) after old new = after ≡ Some new
 Leaves (Err why) after old new = (after ≡ None) × (why ≡ NotConnected) × (new ≡ old)
 
--- how far a timeout grows: to a second once a round trip was measured, and where a client is answered; else as far as 32 bits tell
+-- a client that waits for its server's answer
+abbrev pub is_waiting_for : PeerState → Bool
+is_waiting_for state.Connecting = true
+is_waiting_for _ = false
+
+-- one that was answered: who asked has an offer of some channels
+abbrev pub is_welcome : Peering → Bool
+is_welcome p = nat_lt 0 p.offer.channels && not (is_waiting_for p.state)
+
+-- how far a timeout grows in silence: to a second once a round trip was measured, at a server that answers, and at a client that was
+-- answered; else as far as 32 bits tell
 abbrev pub growth_bound : Peering → ℕ
-growth_bound p = if p.estimate.sampled || is_answering p.state then 1000 else 4294967295
+growth_bound p = if p.estimate.sampled || is_answering p.state || is_welcome p then 1000 else 4294967295
+
+-- a moment, for what is late by then
+abbrev pub tick_of : Peering → ℕ → Tick
+tick_of p now = record { now = now; heard = p.heard; bound = growth_bound p; present = timeout p.estimate }
 
 -- what waited out its timeout is due to go again, or the peer's patience is over
 abbrev pub after_timeouts_by : Expiry → Peering → ℕ → Peering
 after_timeouts_by End p now = cut_off p
-after_timeouts_by Resend p now = record p { outbox = marked p.outbox (growth_bound p) now }
+after_timeouts_by Resend p now = record p { outbox = marked p.outbox (tick_of p now) }
 after_timeouts_by No p now = p
 
 -- how long a client that was answered is waited for, in milliseconds since the answer first went
@@ -169,7 +184,7 @@ abbrev pub is_held_back : Bool → Peering → ℕ → Bool
 is_held_back short p now = short && is_answering p.state && is_resend (expiry_of p now)
 
 abbrev pub held_back : Peering → ℕ → Peering
-held_back p now = record p { outbox = outbox.held_back p.outbox (growth_bound p) now }
+held_back p now = record p { outbox = outbox.held_back p.outbox (tick_of p now) }
 
 -- time has come to now at a peer whose address may have sent too little for another answer
 abbrev pub moved : Bool → Peering → ℕ → Peering

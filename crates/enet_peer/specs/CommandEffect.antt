@@ -4,7 +4,7 @@ use Rattle.enet_codec.specs.declared.command.Head.{Head}
 use Rattle.enet_codec.specs.declared.command.Verify.{Verify}
 use Rattle.enet_codec.specs.declared.stop.Stop.{Stop}
 use Rattle.enet_codec.specs.declared.stop.Stop.TheVariants as stop
-use Rattle.enet_codec.specs.Message.{Message, Body, acknowledge, connect, verify_connect, disconnect, ping, send_fragment, send_unreliable_fragment, bandwidth_limit, throttle_configure}
+use Rattle.enet_codec.specs.Message.{Message, Body, acknowledge, connect, verify_connect, disconnect, ping, bandwidth_limit, throttle_configure}
 use Rattle.enet_rtt.specs.Clock.{sample_of, meant_time}
 use Rattle.enet_rtt.specs.Timing.{Estimate, after_sample}
 use Rattle.enet_throttle.specs.Throttle.{with_interval}
@@ -18,7 +18,7 @@ use Rattle.enet_inbox.specs.DataEffect.{DataEffect, arrival, passed_over}
 use Rattle.enet_inbox.specs.DataEffect as coming
 use Rattle.enet_outbox.specs.declared.parts.Matched.{Matched}
 use Rattle.enet_outbox.specs.declared.parts.Matched.TheVariants as matched
-use Rattle.enet_outbox.specs.Outbox.{is_crowded, with_acknowledgement, matched_by, after_acknowledgement}
+use Rattle.enet_outbox.specs.Outbox.{is_crowded, with_acknowledgement, matched_by, after_acknowledgement, told_by, with_growth}
 use Rattle.enet_outbox.specs.Outbox as outbox
 use Rattle.enet_peer.specs.declared.parts.PeerState.{PeerState}
 use Rattle.enet_peer.specs.declared.parts.PeerState.TheVariants as state
@@ -92,9 +92,10 @@ with_answer state.Answering (control.VerifyConnect verify) p = record p { state 
 with_answer state.Disconnecting (control.Disconnect info) p = ended p 0
 with_answer _ _ p = p
 
--- the command that is acknowledged is gone, and its round trip is measured
+-- the command that is acknowledged is gone, the allowance grows by it, and its round trip is measured
 abbrev pub acknowledged : Peering → (now channel number time : ℕ) → Peering
-acknowledged p now channel number time = sampled (record p { outbox = after_acknowledgement p.outbox channel number }) now time
+acknowledged p now channel number time =
+    sampled (record p { outbox = with_growth (after_acknowledgement p.outbox channel number) (told_by p.outbox channel number time) }) now time
 
 -- what an acknowledgement makes of a peer, by what it matches: from `old` to where the command is gone, and on
 abbrev pub on_match : Matched → (old gone : Peering) → Peering

@@ -6,6 +6,7 @@ ghost use Rattle.enet_codec.specs.declared.command.Head.{Head};
 ghost use Rattle.enet_codec.specs.declared.command.Offer.{Offer};
 ghost use Rattle.enet_codec.specs.declared.refusal.Refusal.{Refusal};
 ghost use Rattle.enet_codec.specs.declared.stop.Stop.{Stop};
+ghost use Rattle.enet_rtt.specs.declared.transmission.Tick.{Tick};
 ghost use Rattle.enet_connect.specs.declared.server.Server.{Server};
 ghost use Rattle.enet_connect.specs.declared.terms.Terms.{Terms};
 ghost use Rattle.enet_senders.specs.declared.control.Control.{Control};
@@ -70,6 +71,6 @@ pub fn sample_is_no_longer()
         → (p : SentControl) × (control_on o number ≡ Some p) × (p.command.control ≡ what) × (HasTimes p → IsPast now p.transmission → ShowsNoMore now time p.transmission) }
     ensures begun { (now timeout : ℕ) (n : Numbered) → now < 2 ^ 32 → HasTimes (controlling.begun now timeout n) }
     ensures again { (now : ℕ) (p : SentControl) → now < 2 ^ 32 → IsPast now p.transmission → HasTimes p → HasTimes (controlling.again now p) }
-    ensures marked { (bound now : ℕ) (p : SentControl) → HasTimes p → HasTimes (controlling.marked bound now p) }
-    ensures held_back { (bound now : ℕ) (p : SentControl) → IsPast now p.transmission → HasTimes p → HasTimes (controlling.held_back bound now p) }
+    ensures marked { (tick : Tick) (p : SentControl) → HasTimes p → HasTimes (controlling.marked tick p) }
+    ensures held_back { (tick : Tick) (p : SentControl) → IsPast tick.now p.transmission → HasTimes p → HasTimes (controlling.held_back tick p) }
 {}

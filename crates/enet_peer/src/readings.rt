@@ -30,11 +30,18 @@ impl Peer {
         }
     }
 
-    /// How many payload bytes of reliable packets were sent and are not acknowledged.
+    /// How many payload bytes of reliable packets are in transit: sent, not acknowledged and not due to go again.
     pub fn in_transit(&self) -> u32
         ensures { result ≡ transit_of self.now.peer.outbox }
     {
         self.outbox.in_transit()
+    }
+
+    /// The allowance in bytes, 2,800 to 131,072: what the prices of what is in transit may be together.
+    pub fn allowance(&self) -> u32
+        ensures { result ≡ self.now.peer.outbox.allowance.bytes }
+    {
+        self.outbox.allowance()
     }
 
     /// So many, and its commands on all channels that are sent, not acknowledged, and were sent more than once; it stops at 2^64 - 1. It

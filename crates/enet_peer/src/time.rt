@@ -1,18 +1,22 @@
 //! What a moment brings.
 
-ghost use Rattle.std.specs.Prelude.{◌≡◌, ℕ, ◌≤◌, ◌<◌, ◌^◌, ◌&&◌, nat_le, Bool, false, IsTrue};
+ghost use Rattle.std.specs.Prelude.{◌≡◌, ℕ, ◌≤◌, ◌<◌, ◌^◌, ◌&&◌, nat_le, Bool, IsTrue};
 ghost use Rattle.enet_rtt.specs.Clock.{elapsed_time, HappensIn};
 ghost use Rattle.enet_outbox.specs.Outbox.{has_nothing_reliable};
 ghost use Rattle.enet_peer.specs.Endings.{cut_off};
-ghost use Rattle.enet_peer.specs.Calls.{expiry_of, growth_bound, is_connected, is_due, is_over, is_pinged, moved, pinged};
+ghost use Rattle.enet_peer.specs.Calls.{answering_time, expiry_of, growth_bound, is_answering, is_connected, is_due, is_over, is_pinged, is_welcome, moved, pinged, tick_of};
 ghost use Rattle.enet_peer.specs.Private.Time.{expired, timed_out};
 
 use crate::{Peer, PeerState};
-use enet_rtt::{Expiry, elapsed};
+use enet_rtt::{Expiry, Tick, elapsed};
 use enet_senders::Control;
 
 /// How long a client that was answered is waited for, in milliseconds since the answer first went (our profile).
-const ANSWERING_TIME: u32 = 7_500;
+fn answering_time() -> u32
+    ensures { result ≡ answering_time }
+{
+    7_500
+}
 
 impl Peer {
     /// Time has come to `now`, in milliseconds. Where a sent command has waited out its timeout it is due to go again, unless
@@ -47,7 +51,7 @@ impl Peer {
         ensures { HappensIn (is_over self.now.peer) now result }
     {
         if self.state == PeerState::Answering {
-            return self.outbox.next_waited(now, ANSWERING_TIME);
+            return self.outbox.next_waited(now, answering_time());
         }
         u32::MAX
     }
@@ -83,38 +87,56 @@ impl Peer {
         ensures found { result ≡ expiry_of self.old.peer now }
         ensures after { self.new.peer ≡ expired short self.old.peer now }
     {
-        if self.state != PeerState::Answering {
-            let bound = self.growth_bound();
-            return self.outbox.late(now, &self.patience, self.heard, bound);
-        }
-        if self.outbox.has_waited(now, ANSWERING_TIME) {
+        if self.is_over(now) {
             return Expiry::End;
         }
-        self.expire_answer(now, short)
-    }
-
-    /// The same at a peer that waits for its client, and not too long.
-    fn expire_answer(&mut self, now: u32, short: bool) -> Expiry
-        requires answering { self.old.peer.state ≡ PeerState.Answering }
-        requires waits { is_over self.old.peer now ≡ false }
-        ensures found { result ≡ expiry_of self.old.peer now }
-        ensures after { self.new.peer ≡ expired short self.old.peer now }
-    {
-        let bound = self.growth_bound();
-        if short {
-            self.outbox
-                .hold_back(now, &self.patience, self.heard, bound)
+        let tick = self.tick_at(now);
+        if self.may_not_answer(short) {
+            self.outbox.hold_back(tick, &self.patience)
         } else {
-            self.outbox.late(now, &self.patience, self.heard, bound)
+            self.outbox.late(tick, &self.patience)
         }
     }
 
-    /// How far a timeout grows, in milliseconds: to a second once a round trip was measured, and where a client is answered; else as
-    /// far as 32 bits tell (our profile).
+    /// Whether the wait for a client is over.
+    fn is_over(&self, now: u32) -> bool
+        ensures { result ≡ is_over self.now.peer now }
+    {
+        self.state == PeerState::Answering && self.outbox.has_waited(now, answering_time())
+    }
+
+    /// Whether an answer may not go again, by whether the client's address has sent too little for one.
+    fn may_not_answer(&self, short: bool) -> bool
+        ensures { result ≡ (short && is_answering self.now.peer.state) }
+    {
+        short && self.state == PeerState::Answering
+    }
+
+    /// The moment `now`, for what is late by then.
+    fn tick_at(&self, now: u32) -> Tick
+        ensures { result ≡ tick_of self.now.peer now }
+    {
+        Tick {
+            now,
+            heard: self.heard,
+            bound: self.growth_bound(),
+            present: self.timing.timeout_of(),
+        }
+    }
+
+    /// Whether it is a client that was answered: who asked has an offer of some channels.
+    fn is_welcome(&self) -> bool
+        ensures { result ≡ is_welcome self.now.peer }
+    {
+        self.offer.channels > 0 && self.state != PeerState::Connecting
+    }
+
+    /// How far a timeout grows in silence, in milliseconds: to a second once a round trip was measured, at a server that answers, and at a
+    /// client that was answered; else as far as 32 bits tell (our profile).
     fn growth_bound(&self) -> u32
         ensures { result ≡ growth_bound self.now.peer }
     {
-        if self.timing.is_sampled() || self.state == PeerState::Answering {
+        if self.timing.is_sampled() || self.state == PeerState::Answering || self.is_welcome() {
             1_000
         } else {
             u32::MAX

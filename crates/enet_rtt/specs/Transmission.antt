@@ -1,8 +1,9 @@
 -- How a command is sent, and sent again, until it is acknowledged. Times are in milliseconds.
-use Rattle.std.specs.Prelude.{ℕ, ◌+◌, ◌-◌, ◌*◌, ◌%◌, ◌^◌, max, min, Bool, true, false, ◌&&◌, ◌||◌, ◌==◌, not, nat_le, if◌then◌else◌}
+use Rattle.std.specs.Prelude.{ℕ, ◌+◌, ◌-◌, ◌*◌, ◌%◌, ◌^◌, max, min, Bool, true, false, ◌&&◌, ◌||◌, ◌==◌, not, nat_le, nat_lt, if◌then◌else◌}
 use Rattle.enet_rtt.specs.Clock.{elapsed_time}
 use Rattle.enet_rtt.specs.Expiry.{gives_up}
 use Rattle.enet_rtt.specs.declared.expiry.Patience.{Patience}
+use Rattle.enet_rtt.specs.declared.transmission.Tick.{Tick}
 use Rattle.enet_rtt.specs.declared.transmission.Transmission.{Transmission}
 
 -- Sent for the first time.
@@ -25,13 +26,29 @@ is_late now t = not t.due && nat_le t.timeout (elapsed_time now t.last)
 abbrev pub ends : ℕ → Patience → ℕ → Transmission → Bool
 ends now patience heard t = is_late now t && gives_up patience now heard t
 
+-- The peer was heard since the last send: so it answers, and this was dropped.
+abbrev pub is_heard_since : Tick → Transmission → Bool
+is_heard_since tick t = nat_lt (elapsed_time tick.now tick.heard) (elapsed_time tick.now t.last)
+
 -- A timeout doubles, but to no more than the bound; one that is past it stays.
 abbrev pub grown_time : ℕ → ℕ → ℕ
 grown_time bound t = max t (min (2 * t) bound)
 
--- Where it is late, it is due to go again, and waits longer then, as far as the bound lets its timeout grow.
-abbrev pub marked : ℕ → ℕ → Transmission → Transmission
-marked bound now t = if is_late now t then record t { timeout = grown_time bound t.timeout; due = true } else t
+-- To so many milliseconds a timeout doubles where the peer answers.
+abbrev pub answered_bound : ℕ
+answered_bound = 100
+
+-- Then it is that of a first send, or twice what it was, as far as this bound, where that is longer.
+abbrev pub answered_time : ℕ → ℕ → ℕ
+answered_time present t = max present (min (2 * t) answered_bound)
+
+-- A timeout that ran out backs off in silence only.
+abbrev pub next_time : Tick → Transmission → ℕ
+next_time tick t = if is_heard_since tick t then answered_time tick.present t.timeout else grown_time tick.bound t.timeout
+
+-- Where it is late, it is due to go again, and has its next timeout then.
+abbrev pub marked : Tick → Transmission → Transmission
+marked tick t = if is_late tick.now t then record t { timeout = next_time tick t; due = true } else t
 
 -- A time of 16 bits is that of a send: of the first one or of the last one, or where it was sent three times or more, one between them.
 abbrev pub went_at : ℕ → Transmission → Bool

@@ -1,6 +1,6 @@
 //! When a command was sent.
 
-ghost use Rattle.std.specs.Prelude.{◌≡◌};
+ghost use Rattle.std.specs.Prelude.{◌≡◌, ◌==◌};
 ghost use Rattle.enet_rtt.specs.SendTimes.{no_sends, with_send, has_time};
 
 /// So many moments are kept.
@@ -13,6 +13,13 @@ pub struct SendTimes {
     pub times: [u16; KEPT],
     /// How many there are.
     pub count: u8,
+}
+
+/// Whether an acknowledgement that repeats this time is of this send.
+fn is_repeated(sent: u16, time: u16) -> bool
+    ensures { result ≡ (sent == time) }
+{
+    sent == time
 }
 
 impl SendTimes {
@@ -44,6 +51,6 @@ impl SendTimes {
         self.times
             .iter()
             .take(usize::from(self.count))
-            .any(|sent| *sent == time)
+            .any(|sent| is_repeated(*sent, time))
     }
 }

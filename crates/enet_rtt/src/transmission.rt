@@ -2,10 +2,26 @@
 
 ghost use Rattle.std.specs.Prelude.{◌≡◌, ℕ};
 ghost use Rattle.enet_rtt.specs.Clock.{HappensIn};
-ghost use Rattle.enet_rtt.specs.Transmission.{begun, again, is_late, ends, marked, went_at};
+ghost use Rattle.enet_rtt.specs.Transmission.{answered_time, begun, again, grown_time, is_heard_since, is_late, ends, marked, went_at};
 
 use crate::clock::elapsed;
 use crate::expiry::{Expiry, Patience, expired};
+
+/// To so many milliseconds a timeout doubles where the peer answers.
+const ANSWERED_BOUND: u32 = 100;
+
+/// A moment at which what is late becomes due to go again. Times are in milliseconds.
+#[derive(Clone, Copy)]
+pub struct Tick {
+    /// The clock.
+    pub now: u32,
+    /// When the peer was last heard, by the clock.
+    pub heard: u32,
+    /// To what a timeout may double where nothing was heard since the last send.
+    pub bound: u32,
+    /// How long a command that is sent for the first time now waits for its acknowledgement.
+    pub present: u32,
+}
 
 /// How a command that is not acknowledged yet was sent so far. Times are in milliseconds.
 #[derive(Clone, Copy)]
@@ -92,15 +108,40 @@ impl Transmission {
         !self.due && expiry == Expiry::End
     }
 
-    /// Where it is late at the time `now`, it is due to go again, and waits twice as long then, but no longer than `bound`
-    /// milliseconds, or as long as it did where that is longer (our profile).
-    pub fn mark(&mut self, now: u32, bound: u32)
-        ensures { self.new ≡ marked bound now self.old }
+    /// Whether the peer was heard since it was last sent: in less time than has passed since then (our profile).
+    pub fn is_heard_since(&self, tick: Tick) -> bool
+        ensures { result ≡ is_heard_since tick self.now }
     {
-        if self.is_late(now) {
-            let doubled = self.timeout.saturating_mul(2).min(bound);
-            self.timeout = self.timeout.max(doubled);
+        elapsed(tick.now, tick.heard) < elapsed(tick.now, self.last)
+    }
+
+    /// Where it is late at the moment `tick`, it is due to go again, and its timeout backs off in silence only. Where nothing was heard
+    /// since it was last sent, it waits twice as long then, but no longer than `tick.bound`, or as long as it did where that is longer.
+    /// Else it waits as long as a first send would, or twice as long as it did, but then no longer than 100 ms (our profile).
+    pub fn mark(&mut self, tick: Tick)
+        ensures { self.new ≡ marked tick self.old }
+    {
+        if self.is_late(tick.now) {
+            self.timeout = if self.is_heard_since(tick) {
+                answered(tick.present, self.timeout)
+            } else {
+                grown(tick.bound, self.timeout)
+            };
             self.due = true;
         }
     }
+}
+
+// The next timeout where the peer answers.
+fn answered(present: u32, timeout: u32) -> u32
+    ensures { result ≡ answered_time present timeout }
+{
+    present.max(timeout.saturating_mul(2).min(ANSWERED_BOUND))
+}
+
+// The next timeout in silence.
+fn grown(bound: u32, timeout: u32) -> u32
+    ensures { result ≡ grown_time bound timeout }
+{
+    timeout.max(timeout.saturating_mul(2).min(bound))
 }

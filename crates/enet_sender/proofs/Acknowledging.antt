@@ -7,8 +7,9 @@ use Rattle.std.proofs.lemmas.List.Elements.{All-set, All-get_or}
 use Rattle.enet_rtt.specs.Transmission.{went_at}
 use Rattle.enet_seq.specs.Windows.{ahead}
 use Rattle.enet_fragment.specs.declared.data.DataCommand.{DataCommand}
+use Rattle.enet_sender.specs.declared.outgoing.Acknowledged.{Acknowledged}
 use Rattle.enet_sender.specs.declared.sent.Sent.{Sent}
-use Rattle.enet_sender.specs.Sender.{position_of, without_place, size_at, size_of}
+use Rattle.enet_sender.specs.Sender.{position_of, without_place, matching, matching_at, told_of}
 use Rattle.enet_sender.specs.Invariant.{reliable_in}
 use Rattle.enet_sender.specs.Pending.{vacant, named, times, held, Passes}
 use Rattle.enet_sender.specs.Rings.{Rings, KeepsSent, Keeps, GoesOn, at_place, is_due, keys_of, commands_at, command_of}
@@ -141,25 +142,25 @@ goes-sent {at} {after} {r} {number} {place} {key} {p} h =
     now ∙ sym then
 
 -- whether it matches goes by the time alone
-pub goes-size : {at after : ℕ → Option Sent} {r : Rings} {number place key : ℕ} {p : Sent} → Goes at after r number place key p → (time : ℕ)
-    → size_at time (named at r.sent) (position_of number (named at r.sent)) ≡ size_of time (Some p)
-goes-size {at} {after} {r} {number} {place} {key} {p} h time =
+pub goes-matching : {at after : ℕ → Option Sent} {r : Rings} {number place key : ℕ} {p : Sent} → Goes at after r number place key p → (time : ℕ)
+    → matching_at time (named at r.sent) (position_of number (named at r.sent)) ≡ matching time (Some p)
+goes-matching {at} {after} {r} {number} {place} {key} {p} h time =
     let f = goes-found h in
     let fs = front place r.sent in
-    ap (size_at time (named at r.sent)) f.1 ∙ ap (λ xs. size_of time (slice_get xs (length (named at fs)))) f.0 ∙ ap (size_of time) (get_at (named at fs) (named at (back place r.sent)) p)
+    ap (matching_at time (named at r.sent)) f.1 ∙ ap (λ xs. matching time (slice_get xs (length (named at fs)))) f.0 ∙ ap (matching time) (get_at (named at fs) (named at (back place r.sent)) p)
 
-pub goes-bytes : {at after : ℕ → Option Sent} {r : Rings} {number place key : ℕ} {p : Sent} → Goes at after r number place key p → (time : ℕ) → went_at time p.transmission ≡ true
-    → size_at time (named at r.sent) (position_of number (named at r.sent)) ≡ Some (length p.command.body)
-goes-bytes {p = p} h time went = goes-size h time ∙ ap (λ b. cond b (Some (length p.command.body)) None) went
+pub goes-told : {at after : ℕ → Option Sent} {r : Rings} {number place key : ℕ} {p : Sent} → Goes at after r number place key p → (time : ℕ) → went_at time p.transmission ≡ true
+    → matching_at time (named at r.sent) (position_of number (named at r.sent)) ≡ Some (told_of time p)
+goes-told {p = p} h time went = let told : Option Acknowledged = Some (told_of time p) in goes-matching h time ∙ ap (λ b. cond b told None) went
 
 -- where it wasn't sent at the time, nothing matches
 pub goes-untimely : (at : ℕ → Option Sent) (r : Rings) (number place key : ℕ) (time : ℕ) → Keeps at r → number < 65536 → place + (ahead number r.passed + 1) ≡ length r.sent → get_or r.sent place vacant ≡ key
-    → test_at (λ (p : Sent). went_at time p.transmission) (at key) ≡ false → size_at time (named at r.sent) (position_of number (named at r.sent)) ≡ None
+    → test_at (λ (p : Sent). went_at time p.transmission) (at key) ≡ false → matching_at time (named at r.sent) (position_of number (named at r.sent)) ≡ None
 goes-untimely at r number place key time keeps low here is untimely = by (at key) refl untimely
   where
-    by : (o : Option Sent) → at key ≡ o → test_at (λ (p : Sent). went_at time p.transmission) o ≡ false → size_at time (named at r.sent) (position_of number (named at r.sent)) ≡ None
+    by : (o : Option Sent) → at key ≡ o → test_at (λ (p : Sent). went_at time p.transmission) o ≡ false → matching_at time (named at r.sent) (position_of number (named at r.sent)) ≡ None
     by None e u =
-        ap (size_at time (named at r.sent)) (acknowledges-none at r number keeps low (λ other there.
+        ap (matching_at time (named at r.sent)) (acknowledges-none at r number keeps low (λ other there.
         let same : other ≡ place = omega arith in
         ap (at_place at r.sent) same ∙ ap at is ∙ e))
     by (Some p) e u =
@@ -173,7 +174,8 @@ goes-untimely at r number place key time keeps low here is untimely = by (at key
           gone = ap (λ b. cond b None (at key)) (eq-eqb key key refl);
           others = λ k other. ap (λ b. cond b None (at k)) (ne_eqb k key other);
         } in
-        goes-size g time ∙ ap (λ b. cond b (Some (length p.command.body)) None) u
+        let told : Option Acknowledged = Some (told_of time p) in
+        goes-matching g time ∙ ap (λ b. cond b told None) u
 
 pub goes-queued : {at after : ℕ → Option Sent} {r : Rings} {number place key : ℕ} {p : Sent} → Goes at after r number place key p → named after r.queued ≡ named at r.queued
 goes-queued {at} {after} {r} {number} {place} {key} {p} h = named-other at after key r.queued (once h).queued h.others

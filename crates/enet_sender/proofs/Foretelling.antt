@@ -8,6 +8,7 @@ use Rattle.slab.specs.Slab.{Slab, get, with_value}
 use Rattle.enet_rtt.specs.Clock.{elapsed_time}
 use Rattle.enet_rtt.specs.Expiry.{gives_up}
 use Rattle.enet_rtt.specs.Transmission as transmission
+use Rattle.enet_rtt.specs.declared.transmission.Tick.{Tick}
 use Rattle.enet_rtt.specs.declared.transmission.Transmission.{Transmission}
 use Rattle.enet_rtt.specs.declared.expiry.Patience.{Patience}
 use Rattle.enet_deadlines.specs.Moments.{IsAt, IsNotDue}
@@ -184,25 +185,25 @@ ending-more clock now from key patience heard at moments shown h before ahead he
     ]
 
 -- what isn't late stays as it is where it is marked
-marked-by : (bound now : ℕ) (p : Sent) → is_late now p ≡ false → marked bound now p ≡ p
-marked-by bound now p e =
-    let late : Transmission = record p.transmission { timeout = transmission.grown_time bound p.transmission.timeout; due = true } in
+pub marked-by : (tick : Tick) (p : Sent) → is_late tick.now p ≡ false → marked tick p ≡ p
+marked-by tick p e =
+    let late : Transmission = record p.transmission { timeout = transmission.next_time tick p.transmission; due = true } in
     ap (λ b. record p { transmission = cond b late p.transmission }) e
 
-pub unmarked : (bound now : ℕ) (o : Option Sent) → ((p : Sent) → o ≡ Some p → is_late now p ≡ false) → option_map (marked bound now) o ≡ o
-unmarked bound now None none = refl
-unmarked bound now (Some p) none = ap (λ (q : Sent). Some q) (marked-by bound now p (none p refl))
+pub unmarked : (tick : Tick) (o : Option Sent) → ((p : Sent) → o ≡ Some p → is_late tick.now p ≡ false) → option_map (marked tick) o ≡ o
+unmarked tick None none = refl
+unmarked tick (Some p) none = ap (λ (q : Sent). Some q) (marked-by tick p (none p refl))
 
-pub untested : (bound now : ℕ) (o : Option Sent) → test_at (is_late now) o ≡ false → option_map (marked bound now) o ≡ o
-untested bound now None e = refl
-untested bound now (Some p) e = ap (λ (q : Sent). Some q) (marked-by bound now p e)
+pub untested : (tick : Tick) (o : Option Sent) → test_at (is_late tick.now) o ≡ false → option_map (marked tick) o ≡ o
+untested tick None e = refl
+untested tick (Some p) e = ap (λ (q : Sent). Some q) (marked-by tick p e)
 
 -- and what is late is due then
-pub marked-due : (bound now : ℕ) (o : Option Sent) (q : Sent) → test_at (is_late now) o ≡ true → option_map (marked bound now) o ≡ Some q → q.transmission.due ≡ true
-marked-due bound now None q late e = cc
-marked-due bound now (Some p) q late e =
-    let made : Transmission = record p.transmission { timeout = transmission.grown_time bound p.transmission.timeout; due = true } in
-    let is : marked bound now p ≡ q = cc in
+pub marked-due : (tick : Tick) (o : Option Sent) (q : Sent) → test_at (is_late tick.now) o ≡ true → option_map (marked tick) o ≡ Some q → q.transmission.due ≡ true
+marked-due tick None q late e = cc
+marked-due tick (Some p) q late e =
+    let made : Transmission = record p.transmission { timeout = transmission.next_time tick p.transmission; due = true } in
+    let is : marked tick p ≡ q = cc in
     sym (ap (λ (z : Sent). z.transmission.due) is) ∙ ap (λ b. (cond b made p.transmission).due) late
 
 -- the same stands under all keys
@@ -213,16 +214,16 @@ foretold-same clock at after moments same h = record {
 }
 
 -- what is marked under a key
-pub foretold-marked : (clock bound now key : ℕ) (at after : ℕ → Option Sent) (moments : List (Option ℕ)) → AreForetold clock at moments → key < length moments → test_at (is_late now) (at key) ≡ true
-    → after key ≡ option_map (marked bound now) (at key) → ((k : ℕ) → k ≢ key → after k ≡ at k) → AreForetold clock after (set moments key None)
-foretold-marked clock bound now key at after moments h inside late is others =
-    foretold-clear clock key at after moments h inside others (λ p there. marked-due bound now (at key) p late (sym is ∙ there))
+pub foretold-marked : (clock key : ℕ) (tick : Tick) (at after : ℕ → Option Sent) (moments : List (Option ℕ)) → AreForetold clock at moments → key < length moments → test_at (is_late tick.now) (at key) ≡ true
+    → after key ≡ option_map (marked tick) (at key) → ((k : ℕ) → k ≢ key → after k ≡ at k) → AreForetold clock after (set moments key None)
+foretold-marked clock key tick at after moments h inside late is others =
+    foretold-clear clock key at after moments h inside others (λ p there. marked-due tick (at key) p late (sym is ∙ there))
 
-pub foretold-unmarked : (clock bound now key : ℕ) (at after : ℕ → Option Sent) (moments : List (Option ℕ)) → AreForetold clock at moments → test_at (is_late now) (at key) ≡ false
-    → after key ≡ option_map (marked bound now) (at key) → ((k : ℕ) → k ≢ key → after k ≡ at k) → AreForetold clock after moments
-foretold-unmarked clock bound now key at after moments h early is others =
+pub foretold-unmarked : (clock key : ℕ) (tick : Tick) (at after : ℕ → Option Sent) (moments : List (Option ℕ)) → AreForetold clock at moments → test_at (is_late tick.now) (at key) ≡ false
+    → after key ≡ option_map (marked tick) (at key) → ((k : ℕ) → k ≢ key → after k ≡ at k) → AreForetold clock after moments
+foretold-unmarked clock key tick at after moments h early is others =
     foretold-same clock at after moments (λ k. elim (cases_eq k key) [
-      | inl same ↦ ap after same ∙ is ∙ untested bound now (at key) early ∙ ap at (sym same)
+      | inl same ↦ ap after same ∙ is ∙ untested tick (at key) early ∙ ap at (sym same)
       | inr other ↦ others k other
     ]) h
 

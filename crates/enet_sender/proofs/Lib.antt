@@ -11,6 +11,7 @@ pub mod Changing
 pub mod Sending
 pub mod Queueing
 pub mod Submitting
+pub mod Summing
 pub mod Piecing
 pub mod Skipping
 pub mod Rounds

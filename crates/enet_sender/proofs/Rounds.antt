@@ -7,6 +7,7 @@ use Rattle.std.proofs.lemmas.Bool.Decides.{nat_tests}
 use Rattle.std.proofs.lemmas.List.{take_more}
 use Rattle.std.proofs.lemmas.List.Elements.{All-nil}
 use Rattle.enet_rtt.specs.Transmission as transmission
+use Rattle.enet_rtt.specs.declared.transmission.Tick.{Tick}
 use Rattle.enet_rtt.specs.declared.transmission.Transmission.{Transmission}
 use Rattle.enet_fragment.specs.declared.data.DataCommand.{DataCommand}
 use Rattle.enet_sender.specs.declared.sent.Sent.{Sent}
@@ -57,34 +58,34 @@ changed-more f twice at mid after keys i k inside is so_far now others key =
     ]
 
 -- a command is marked twice as it is once
-transmission-twice : (bound now : ℕ) (t : Transmission) → transmission.marked bound now (transmission.marked bound now t) ≡ transmission.marked bound now t
-transmission-twice bound now t = by (transmission.is_late now t) refl
+transmission-twice : (tick : Tick) (t : Transmission) → transmission.marked tick (transmission.marked tick t) ≡ transmission.marked tick t
+transmission-twice tick t = by (transmission.is_late tick.now t) refl
   where
     late : Transmission
-    late = record t { timeout = transmission.grown_time bound t.timeout; due = true }
+    late = record t { timeout = transmission.next_time tick t; due = true }
 
-    by : (b : Bool) → transmission.is_late now t ≡ b → transmission.marked bound now (transmission.marked bound now t) ≡ transmission.marked bound now t
-    by true e = let is : transmission.marked bound now t ≡ late = ap (λ b. cond b late t) e in ap (transmission.marked bound now) is ∙ sym is
-    by false e = let is : transmission.marked bound now t ≡ t = ap (λ b. cond b late t) e in ap (transmission.marked bound now) is
+    by : (b : Bool) → transmission.is_late tick.now t ≡ b → transmission.marked tick (transmission.marked tick t) ≡ transmission.marked tick t
+    by true e = let is : transmission.marked tick t ≡ late = ap (λ b. cond b late t) e in ap (transmission.marked tick) is ∙ sym is
+    by false e = let is : transmission.marked tick t ≡ t = ap (λ b. cond b late t) e in ap (transmission.marked tick) is
 
-pub marked-twice : (bound now : ℕ) (o : Option Sent) → option_map (marked bound now) (option_map (marked bound now) o) ≡ option_map (marked bound now) o
-marked-twice bound now None = refl
-marked-twice bound now (Some p) = ap (λ t. Some (record p { transmission = t })) (transmission-twice bound now p.transmission)
+pub marked-twice : (tick : Tick) (o : Option Sent) → option_map (marked tick) (option_map (marked tick) o) ≡ option_map (marked tick) o
+marked-twice tick None = refl
+marked-twice tick (Some p) = ap (λ t. Some (record p { transmission = t })) (transmission-twice tick p.transmission)
 
 -- what stands under each key has the command that stood there
-pub marked-had : (bound now n : ℕ) (o : Option Sent) (q : Sent) → marked_at bound now n o ≡ Some q → (p : Sent) × (o ≡ Some p) × (q.command ≡ p.command)
-marked-had bound now zero o q e = (q, e, refl)
-marked-had bound now (suc n) None q e = cc
-marked-had bound now (suc n) (Some p) q e = let is : marked bound now p ≡ q = cc in (p, refl, ap (λ (z : Sent). z.command) (sym is))
+pub marked-had : (tick : Tick) (n : ℕ) (o : Option Sent) (q : Sent) → marked_at tick n o ≡ Some q → (p : Sent) × (o ≡ Some p) × (q.command ≡ p.command)
+marked-had tick zero o q e = (q, e, refl)
+marked-had tick (suc n) None q e = cc
+marked-had tick (suc n) (Some p) q e = let is : marked tick p ≡ q = cc in (p, refl, ap (λ (z : Sent). z.command) (sym is))
 
-pub marked-held : (bound now n : ℕ) (o : Option Sent) → one_if (is_some (marked_at bound now n o)) ≡ one_if (is_some o)
-marked-held bound now zero o = refl
-marked-held bound now (suc n) None = refl
-marked-held bound now (suc n) (Some p) = refl
+pub marked-held : (tick : Tick) (n : ℕ) (o : Option Sent) → one_if (is_some (marked_at tick n o)) ≡ one_if (is_some o)
+marked-held tick zero o = refl
+marked-held tick (suc n) None = refl
+marked-held tick (suc n) (Some p) = refl
 
-marked-none : (bound now n : ℕ) → marked_at bound now n None ≡ None
-marked-none bound now zero = refl
-marked-none bound now (suc n) = refl
+marked-none : (tick : Tick) (n : ℕ) → marked_at tick n None ≡ None
+marked-none tick zero = refl
+marked-none tick (suc n) = refl
 
 cons-map : (f : Sent → Sent) (o : Option Sent) (xs : List Sent) → cons_option (option_map f o) (map f xs) ≡ map f (cons_option o xs)
 cons-map f None xs = refl
@@ -98,22 +99,22 @@ named-map f at after (k ∷ keys) d same =
     ap (λ o. cons_option o (named after keys)) here ∙ ap (λ xs. cons_option (option_map f (at k)) xs) rest ∙ cons-map f (at k) (named at keys)
 
 -- what is known where all that is sent on a channel has just been marked
-pub record Marks (bound now : ℕ) (at after : ℕ → Option Sent) (r : Rings) : Type 0 where
+pub record Marks (tick : Tick) (at after : ℕ → Option Sent) (r : Rings) : Type 0 where
   pub keeps : Keeps at r
-  pub changed : (key : ℕ) → after key ≡ marked_at bound now (times key r.sent) (at key)
+  pub changed : (key : ℕ) → after key ≡ marked_at tick (times key r.sent) (at key)
 
-pub marks-sent : {bound now : ℕ} {at after : ℕ → Option Sent} {r : Rings} → Marks bound now at after r → named after r.sent ≡ map (marked bound now) (named at r.sent)
-marks-sent {bound} {now} {at} {after} {r} h =
-    named-map (marked bound now) at after r.sent vacant (λ i inside.
+pub marks-sent : {tick : Tick} {at after : ℕ → Option Sent} {r : Rings} → Marks tick at after r → named after r.sent ≡ map (marked tick) (named at r.sent)
+marks-sent {tick} {at} {after} {r} h =
+    named-map (marked tick) at after r.sent vacant (λ i inside.
     let key = get_or r.sent i vacant in
-    h.changed key ∙ changed-some (option_map (marked bound now)) (times key r.sent) (at key) (times-some r.sent i vacant inside))
+    h.changed key ∙ changed-some (option_map (marked tick)) (times key r.sent) (at key) (times-some r.sent i vacant inside))
 
 at-most-one : (b : Bool) → one_if b ≤ 1
 at-most-one true = omega arith
 at-most-one false = omega arith
 
-pub marks-queued : {bound now : ℕ} {at after : ℕ → Option Sent} {r : Rings} → Marks bound now at after r → named after r.queued ≡ named at r.queued
-marks-queued {bound} {now} {at} {after} {r} h =
+pub marks-queued : {tick : Tick} {at after : ℕ → Option Sent} {r : Rings} → Marks tick at after r → named after r.queued ≡ named at r.queued
+marks-queued {tick} {at} {after} {r} h =
     named-same at after r.queued vacant (λ i inside.
     let key = get_or r.queued i vacant in
     let low : key < vacant = h.keeps.keys i vacant inside in
@@ -121,28 +122,28 @@ marks-queued {bound} {now} {at} {after} {r} h =
     let most = h.keeps.names key low in
     let one = at-most-one (is_some (at key)) in
     let all = times-append key r.queued r.sent in
-    h.changed key ∙ changed-none (option_map (marked bound now)) (times key r.sent) (at key) (omega arith))
+    h.changed key ∙ changed-none (option_map (marked tick)) (times key r.sent) (at key) (omega arith))
 
-marks-had : {bound now : ℕ} {at after : ℕ → Option Sent} {r : Rings} → Marks bound now at after r → (key : ℕ) (q : Sent) → after key ≡ Some q → (p : Sent) × (at key ≡ Some p) × (q.command ≡ p.command)
-marks-had {bound} {now} {at} {after} {r} h key q e = marked-had bound now (times key r.sent) (at key) q (sym (h.changed key) ∙ e)
+marks-had : {tick : Tick} {at after : ℕ → Option Sent} {r : Rings} → Marks tick at after r → (key : ℕ) (q : Sent) → after key ≡ Some q → (p : Sent) × (at key ≡ Some p) × (q.command ≡ p.command)
+marks-had {tick} {at} {after} {r} h key q e = marked-had tick (times key r.sent) (at key) q (sym (h.changed key) ∙ e)
 
-marks-held : {bound now : ℕ} {at after : ℕ → Option Sent} {r : Rings} → Marks bound now at after r → (key : ℕ) → held after key ≡ held at key
-marks-held {bound} {now} {at} {after} {r} h key = ap (λ (o : Option Sent). one_if (is_some o)) (h.changed key) ∙ marked-held bound now (times key r.sent) (at key)
+marks-held : {tick : Tick} {at after : ℕ → Option Sent} {r : Rings} → Marks tick at after r → (key : ℕ) → held after key ≡ held at key
+marks-held {tick} {at} {after} {r} h key = ap (λ (o : Option Sent). one_if (is_some o)) (h.changed key) ∙ marked-held tick (times key r.sent) (at key)
 
-marks-nothing : {bound now : ℕ} {at after : ℕ → Option Sent} {r : Rings} → Marks bound now at after r → after vacant ≡ None
-marks-nothing {bound} {now} {at} {after} {r} h = h.changed vacant ∙ ap (λ o. marked_at bound now (times vacant r.sent) o) h.keeps.nothing ∙ marked-none bound now (times vacant r.sent)
+marks-nothing : {tick : Tick} {at after : ℕ → Option Sent} {r : Rings} → Marks tick at after r → after vacant ≡ None
+marks-nothing {tick} {at} {after} {r} h = h.changed vacant ∙ ap (λ o. marked_at tick (times vacant r.sent) o) h.keeps.nothing ∙ marked-none tick (times vacant r.sent)
 
-pub marks-passes : {bound now : ℕ} {at after : ℕ → Option Sent} {r : Rings} → Marks bound now at after r → Passes at after (keys_of r) (keys_of (with_due r 0))
-marks-passes {bound} {now} {at} {after} {r} h = record {
+pub marks-passes : {tick : Tick} {at after : ℕ → Option Sent} {r : Rings} → Marks tick at after r → Passes at after (keys_of r) (keys_of (with_due r 0))
+marks-passes {tick} {at} {after} {r} h = record {
   others = λ key p low none e.
       let all = times-append key r.queued r.sent in
-      h.changed key ∙ changed-none (option_map (marked bound now)) (times key r.sent) (at key) (omega arith) ∙ e;
+      h.changed key ∙ changed-none (option_map (marked tick)) (times key r.sent) (at key) (omega arith) ∙ e;
   balanced = λ key low. let same = marks-held h key in omega arith;
   nothing = marks-nothing h;
 }
 
-pub marks-keeps : {bound now : ℕ} {at after : ℕ → Option Sent} {r : Rings} → Marks bound now at after r → Keeps after (with_due r 0)
-marks-keeps {bound} {now} {at} {after} {r} h =
+pub marks-keeps : {tick : Tick} {at after : ℕ → Option Sent} {r : Rings} → Marks tick at after r → Keeps after (with_due r 0)
+marks-keeps {tick} {at} {after} {r} h =
     let same : commands_at after r.queued ≡ commands_at at r.queued = ap (map command_of) (marks-queued h) in record {
       nothing = marks-nothing h;
       short = λ key q e. let had = marks-had h key q e in subst (λ (c : DataCommand). length c.body ≤ 4068) (sym had.2) (h.keeps.short key had.0 had.1);

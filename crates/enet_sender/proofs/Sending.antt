@@ -1,5 +1,5 @@
 -- The head of the queue goes.
-use Rattle.std.proofs.Common.{not, ◌&&◌, ◌||◌, leb, inl, inr, ◌≡◌, ◌≢◌, ℕ, suc, ◌+◌, ◌-◌, ◌<◌, ◌≤◌, true, false, cond, ltb, List, [], ◌∷◌, ◌++◌, length, map, get_or, drop, Option, Some, None, refl, sym, ap, subst, ◌∙◌, arith, All}
+use Rattle.std.proofs.Common.{not, ◌&&◌, ◌||◌, inl, inr, ◌≡◌, ◌≢◌, ℕ, suc, ◌+◌, ◌-◌, ◌<◌, ◌≤◌, true, false, cond, ltb, List, [], ◌∷◌, ◌++◌, length, map, get_or, drop, Option, Some, None, refl, sym, ap, subst, ◌∙◌, arith, All}
 use Rattle.std.specs.List.{slice_get}
 use Rattle.std.proofs.lemmas.Bool.{cases_eq, cases_lt}
 use Rattle.std.proofs.lemmas.List.{get_or_append_left, get_or_past, get_or_at, length_push}
@@ -8,7 +8,8 @@ use Rattle.enet_seq.specs.Windows.{ahead, after}
 use Rattle.enet_seq.specs.Numbering.{wire}
 use Rattle.enet_fragment.specs.declared.data.DataCommand.{DataCommand}
 use Rattle.enet_sender.specs.declared.sent.Sent.{Sent}
-use Rattle.enet_sender.specs.Sender.{is_in_span, may_go}
+use Rattle.enet_sender.specs.declared.outgoing.Occasion.{Occasion}
+use Rattle.enet_sender.specs.Sender.{has_room, is_in_span, may_go}
 use Rattle.enet_sender.specs.Invariant.{reliable_in}
 use Rattle.enet_sender.proofs.Counting.{counted-less, counted-same}
 use Rattle.enet_sender.specs.Pending.{vacant, named, times, held, Passes}
@@ -289,11 +290,11 @@ head-there at r key rest keeps is =
     some-held (at key) (omega arith)
 
 -- whether a reliable command may go, by the length of the second ring
-pub may_go-is : (at : ℕ → Option Sent) (r : Rings) (transit most : ℕ) (c : DataCommand) → Keeps at r → c.number ≡ after r.passed 1 → c.reliable ≡ true
-    → may_go wire (named at r.sent) transit most c ≡ (ltb (length r.sent) 8192 && leb (transit + length c.body) most)
-may_go-is at r transit most c keeps is reliable =
-    ap (λ b. not b || (is_in_span wire (named at r.sent) c.number && leb (transit + length c.body) most)) reliable
-    ∙ ap (λ b. b && leb (transit + length c.body) most) (span-by_length at r keeps c.number is)
+pub may_go-is : (at : ℕ → Option Sent) (r : Rings) (o : Occasion) (c : DataCommand) → Keeps at r → c.number ≡ after r.passed 1 → c.reliable ≡ true
+    → may_go wire (named at r.sent) o c ≡ (ltb (length r.sent) 8192 && has_room o c)
+may_go-is at r o c keeps is reliable =
+    ap (λ b. not b || (is_in_span wire (named at r.sent) c.number && has_room o c)) reliable
+    ∙ ap (λ b. b && has_room o c) (span-by_length at r keeps c.number is)
 
 -- a ring by its first key
 pub by_first : (keys : List ℕ) (key : ℕ) → slice_get keys 0 ≡ Some key → keys ≡ key ∷ drop 1 keys

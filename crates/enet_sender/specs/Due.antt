@@ -36,9 +36,9 @@ pub record Buffer : Type 0 where
 
 -- what a call did, by what was due and what it answers: what is written has its numbers in their ranges, so its bytes spell it
 abbrev pub Did : Option Next → Due → SendingEnd → SendingEnd → Buffer → Type 0
-Did (Some n) (due.Sent past added kind) old new buf =
+Did (Some n) (due.Sent past added price kind) old new buf =
     Puts buf.old buf.at (canonical (message_of old.channel n.command)) buf.new past
-    × (added ≡ n.added) × (kind ≡ due_kind n.command) × (new ≡ record old { sender = n.sender })
+    × (added ≡ n.added) × (price ≡ n.price) × (kind ≡ due_kind n.command) × (new ≡ record old { sender = n.sender })
     × IsMessage (message_of old.channel n.command)
 Did (Some n) due.NoRoom old new buf =
     (length buf.old < buf.at + length (canonical (message_of old.channel n.command))) × (new ≡ old) × (buf.new ≡ buf.old)

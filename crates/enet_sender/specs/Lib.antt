@@ -6,6 +6,7 @@ pub mod Course
 pub mod Counting
 pub mod Pending
 pub mod Foretold
+pub mod Late
 pub mod Rings
 pub mod Private
 pub mod Waiting

@@ -7,3 +7,4 @@ pub mod Rings
 pub mod Rounds
 pub mod Trims
 pub mod Foretold
+pub mod Late

@@ -1,15 +1,17 @@
 -- One channel's sender: what is queued, and what is sent and not yet acknowledged. Times are in milliseconds.
-use Rattle.std.specs.Prelude.{ℕ, Bool, true, false, ◌+◌, ◌*◌, ◌&&◌, ◌||◌, not, ◌==◌, nat_lt, nat_le, if◌then◌else◌, List, [], ◌∷◌, ◌++◌, length, map, take, drop, Option, Some, None, slice_get, slice_set, sum_by, is_some}
+use Rattle.std.specs.Prelude.{ℕ, Bool, true, false, ◌+◌, ◌*◌, ◌%◌, ◌^◌, ◌&&◌, ◌||◌, not, ◌==◌, nat_lt, nat_le, if◌then◌else◌, List, [], ◌∷◌, ◌++◌, length, map, take, drop, Option, Some, None, slice_get, slice_set, sum_by, is_some}
 use Rattle.std.specs.List.{range_with_len, position, remove}
 use Rattle.enet_codec.specs.declared.command.Fragment.{Fragment}
 use Rattle.enet_seq.specs.Numbering.{Numbering}
 use Rattle.enet_rtt.specs.Transmission as transmission
+use Rattle.enet_rtt.specs.declared.transmission.Tick.{Tick}
 use Rattle.enet_rtt.specs.declared.expiry.Patience.{Patience}
 use Rattle.enet_rtt.specs.declared.expiry.Expiry.{Expiry}
 use Rattle.enet_rtt.specs.declared.expiry.Expiry.TheVariants.{No, Resend, End}
 use Rattle.enet_fragment.specs.Cutting.{piece_length}
 use Rattle.enet_fragment.specs.declared.data.DataCommand.{DataCommand}
 use Rattle.enet_sender.specs.declared.sent.Sent.{Sent}
+use Rattle.enet_sender.specs.declared.outgoing.Acknowledged.{Acknowledged}
 use Rattle.enet_sender.specs.declared.outgoing.Left.{Left}
 use Rattle.enet_sender.specs.declared.outgoing.Occasion.{Occasion}
 use Rattle.enet_sender.specs.CommandChoice.{Packet, ChosenPacket, carried_as, is_long}
@@ -74,39 +76,63 @@ abbrev pub is_in_span : Numbering → List Sent → ℕ → Bool
 is_in_span g [] number = true
 is_in_span g (oldest ∷ sent) number = nat_lt (g.ahead oldest.command.number number) 8192
 
--- whether the head of the queue may go: `transit` bytes are in transit, and `most` may be
-abbrev pub may_go : Numbering → List Sent → ℕ → ℕ → DataCommand → Bool
-may_go g sent transit most c = not c.reliable || (is_in_span g sent c.number && nat_le (transit + length c.body) most)
+-- what a datagram takes on the line beside ENet's own bytes: the headers of IP and UDP
+abbrev pub cover : ℕ
+cover = 28
+
+-- what a command counts in transit, if it is reliable: the bytes of its payload
+abbrev pub bytes_of : DataCommand → ℕ
+bytes_of c = if c.reliable then length c.body else 0
+
+-- and its price: these and the headers, since it may go alone
+abbrev pub price_of : DataCommand → ℕ
+price_of c = if c.reliable then length c.body + cover else 0
+
+-- whether there is room for it: payloads and prices of what is in transit, each with its own, are at most what they may be
+abbrev pub has_room : Occasion → DataCommand → Bool
+has_room o c = nat_le (o.transit + bytes_of c) o.most && nat_le (o.prices + price_of c) o.dearest
+
+-- whether the head of the queue may go
+abbrev pub may_go : Numbering → List Sent → Occasion → DataCommand → Bool
+may_go g sent o c = not c.reliable || (is_in_span g sent c.number && has_room o c)
 
 -- what is due next: a command with the sender after it
 pub record Next : Type 0 where
   pub command : DataCommand
   pub added : ℕ  -- bytes new in transit
+  pub price : ℕ  -- prices new in transit
   pub sender : Sender
 
+-- a command that goes again is in transit again
 abbrev pub resent : ℕ → Sender → ℕ → Sent → Next
-resent now s i p = record { command = p.command; added = 0; sender = record s { sent = slice_set s.sent i (again now p) } }
+resent now s i p = record {
+  command = p.command;
+  added = bytes_of p.command;
+  price = price_of p.command;
+  sender = record s { sent = slice_set s.sent i (again now p) };
+}
 
 abbrev pub first_sent : ℕ → ℕ → Sender → DataCommand → List DataCommand → Next
 first_sent now timeout s c rest = record {
   command = c;
-  added = if c.reliable then length c.body else 0;
+  added = bytes_of c;
+  price = price_of c;
   sender = record s { queued = rest; sent = if c.reliable then s.sent ++ begun now timeout c ∷ [] else s.sent };
 }
 
 abbrev pub next_queued : Numbering → Occasion → Sender → List DataCommand → Option Next
 next_queued g o s [] = None
-next_queued g o s (c ∷ rest) = if may_go g s.sent o.transit o.most c then Some (first_sent o.now o.timeout s c rest) else None
+next_queued g o s (c ∷ rest) = if may_go g s.sent o c then Some (first_sent o.now o.timeout s c rest) else None
 
-abbrev pub next_resent : ℕ → Sender → ℕ → Option Sent → Option Next
-next_resent now s i None = None
-next_resent now s i (Some p) = Some (resent now s i p)
+abbrev pub next_resent : Occasion → Sender → ℕ → Option Sent → Option Next
+next_resent o s i None = None
+next_resent o s i (Some p) = if has_room o p.command then Some (resent o.now s i p) else None
 
 abbrev pub next_of : Numbering → Occasion → Sender → Option ℕ → Option Next
 next_of g o s None = next_queued g o s s.queued
-next_of g o s (Some i) = next_resent o.now s i (slice_get s.sent i)
+next_of g o s (Some i) = next_resent o s i (slice_get s.sent i)
 
--- the first sent command that is due to go again, else the head of the queue where it may go
+-- the first sent command that is due to go again, where there is room for it; where none is due, the head of the queue, where it may go
 abbrev pub next : Numbering → Occasion → Sender → Option Next
 next g o s = next_of g o s (position (λ (p : Sent). p.transmission.due) s.sent)
 
@@ -139,40 +165,82 @@ without_place sent (Some i) = remove sent i
 abbrev pub after_acknowledgement : Sender → ℕ → Sender
 after_acknowledgement s number = record s { sent = without_place s.sent (position_of number s.sent) }
 
--- the bytes of its payload, where this time is that of a send of it
-abbrev pub size_of : ℕ → Option Sent → Option ℕ
-size_of time None = None
-size_of time (Some p) = if transmission.went_at time p.transmission then Some (length p.command.body) else None
+-- what is told of a command whose acknowledgement repeats this time: what it counts in transit, whether it was due to go again, and whether
+-- the time is that of its last send
+abbrev pub told_of : ℕ → Sent → Acknowledged
+told_of time p = record {
+  bytes = bytes_of p.command;
+  price = price_of p.command;
+  due = p.transmission.due;
+  last = time == p.transmission.last % 2 ^ 16;
+}
 
-abbrev pub size_at : ℕ → List Sent → Option ℕ → Option ℕ
-size_at time sent None = None
-size_at time sent (Some i) = size_of time (slice_get sent i)
+-- nothing where it wasn't sent then
+abbrev pub matching : ℕ → Option Sent → Option Acknowledged
+matching time None = None
+matching time (Some p) = if transmission.went_at time p.transmission then Some (told_of time p) else None
 
--- the bytes of the payload of the command that an acknowledgement matches: the sent one of its number, where the time that it repeats is
--- that of a send of it
-abbrev pub acknowledged_bytes : Sender → ℕ → ℕ → Option ℕ
-acknowledged_bytes s number time = size_at time s.sent (position_of number s.sent)
+abbrev pub matching_at : ℕ → List Sent → Option ℕ → Option Acknowledged
+matching_at time sent None = None
+matching_at time sent (Some i) = matching time (slice_get sent i)
+
+-- what is told of the command that an acknowledgement matches: the sent one of its number, where the time that it repeats is that of a
+-- send of it
+abbrev pub acknowledged : Sender → ℕ → ℕ → Option Acknowledged
+acknowledged s number time = matching_at time s.sent (position_of number s.sent)
 
 -- one that matches nothing changes nothing
-abbrev pub after_match : Sender → ℕ → Option ℕ → Sender
+abbrev pub after_match : Sender → ℕ → Option Acknowledged → Sender
 after_match s number None = s
-after_match s number (Some bytes) = after_acknowledgement s number
+after_match s number (Some told) = after_acknowledgement s number
 
--- the payload bytes of what is sent and not acknowledged, also where it waits to go again
+-- In transit is what is sent, not acknowledged and not due to go again. Its payload bytes, and its prices
+abbrev pub transit_bytes : Sent → ℕ
+transit_bytes p = if p.transmission.due then 0 else bytes_of p.command
+
 abbrev pub bytes_in_transit : Sender → ℕ
-bytes_in_transit s = sum_by (λ (p : Sent). length p.command.body) s.sent
+bytes_in_transit s = sum_by transit_bytes s.sent
+
+abbrev pub transit_price : Sent → ℕ
+transit_price p = if p.transmission.due then 0 else price_of p.command
+
+abbrev pub prices_in_transit : Sender → ℕ
+prices_in_transit s = sum_by transit_price s.sent
+
+-- what leaves the transit with an acknowledgement: nothing where the command was due to go again
+abbrev pub bytes_leaving : Option Acknowledged → ℕ
+bytes_leaving None = 0
+bytes_leaving (Some a) = if a.due then 0 else a.bytes
+
+abbrev pub price_leaving : Option Acknowledged → ℕ
+price_leaving None = 0
+price_leaving (Some a) = if a.due then 0 else a.price
 
 -- a sent command that waited out its timeout, and is not due to go again already
 abbrev pub is_late : ℕ → Sent → Bool
 is_late now p = transmission.is_late now p.transmission
 
--- where it is late, it is due to go again, and waits longer then, as far as the bound lets timeouts grow
-abbrev pub marked : ℕ → ℕ → Sent → Sent
-marked bound now p = record p { transmission = transmission.marked bound now p.transmission }
+-- where it is late, it is due to go again, and has its next timeout then
+abbrev pub marked : Tick → Sent → Sent
+marked tick p = record p { transmission = transmission.marked tick p.transmission }
 
 -- all that is late is due to go again
-abbrev pub with_marked : ℕ → ℕ → Sender → Sender
-with_marked bound now s = record s { sent = map (marked bound now) s.sent }
+abbrev pub with_marked : Tick → Sender → Sender
+with_marked tick s = record s { sent = map (marked tick) s.sent }
+
+-- So it leaves the transit: its payload bytes, and its prices
+abbrev pub late_bytes : Tick → Sent → ℕ
+late_bytes tick p = if is_late tick.now p then bytes_of p.command else 0
+
+abbrev pub late_price : Tick → Sent → ℕ
+late_price tick p = if is_late tick.now p then price_of p.command else 0
+
+-- it is late, and the peer was heard since its last send: so it was lost on a line that is up
+abbrev pub is_lost : Tick → Sent → Bool
+is_lost tick p = is_late tick.now p && transmission.is_heard_since tick p.transmission
+
+abbrev pub lost_price : Tick → Sent → ℕ
+lost_price tick p = if is_lost tick p then price_of p.command else 0
 
 -- it is late, and the peer, last heard at `heard`, has timed out over it
 abbrev pub ends : ℕ → Patience → ℕ → Sent → Bool
@@ -185,10 +253,10 @@ lateness now patience heard s =
     else (if is_some (position (is_late now) s.sent) then Resend else No)
 
 -- the end changes nothing here
-abbrev pub after_lateness : Expiry → ℕ → ℕ → Sender → Sender
-after_lateness No bound now s = s
-after_lateness Resend bound now s = with_marked bound now s
-after_lateness End bound now s = s
+abbrev pub after_lateness : Expiry → Tick → Sender → Sender
+after_lateness No tick s = s
+after_lateness Resend tick s = with_marked tick s
+after_lateness End tick s = s
 
 -- all that is queued or sent is dropped, and the numbers stay
 abbrev pub cleared : Sender → Sender

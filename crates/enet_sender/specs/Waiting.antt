@@ -1,8 +1,9 @@
 -- A sender that has to wait.
-use Rattle.std.specs.Prelude.{◌≡◌, ℕ, None}
+use Rattle.std.specs.Prelude.{◌≡◌, None}
 use Rattle.enet_seq.specs.Numbering.{wire}
 use Rattle.enet_sender.specs.Sender.{Sender, next}
+use Rattle.enet_sender.specs.declared.outgoing.Occasion.{Occasion}
 
--- nothing of it is due, at whatever time, while so many bytes of the peer are in transit and so many may be
-abbrev pub Waits : ℕ → ℕ → Sender → Type 0
-Waits transit most s = (now timeout : ℕ) → next wire (record { now = now; timeout = timeout; transit = transit; most = most }) s ≡ None
+-- nothing of it goes
+abbrev pub Waits : Occasion → Sender → Type 0
+Waits o s = next wire o s ≡ None

@@ -10,15 +10,18 @@ ghost use Rattle.std.specs.Option.{option_map};
 ghost use Rattle.enet_rtt.specs.Clock.{elapsed_time};
 ghost use Rattle.enet_sender.specs.declared.sent.Sent.{Sent};
 ghost use Rattle.enet_sender.specs.Foretold.{AreForetold, IsLateIn, KeepsTime, NonePasses, SomePasses};
+ghost use Rattle.enet_sender.specs.Late.{IsLate};
 ghost use Rattle.enet_sender.specs.Pending.{vacant};
+ghost use Rattle.enet_sender.specs.Private.Late.{IsLateOne, late_with};
 ghost use Rattle.enet_deadlines.specs.Moments.{IsNotDue};
 ghost use Rattle.enet_sender.specs.Private.Foretold.{IsLateAt, IsOvertaken, NonePast};
 ghost use Rattle.enet_sender.specs.Private.Rounds.{test_at};
 ghost use Rattle.enet_sender.specs.Sender.{ends, is_late, marked};
 
 use crate::Sent;
+use crate::writing::COVER;
 use enet_deadlines::{Deadlines, moment_at};
-use enet_rtt::{Patience, Transmission, elapsed};
+use enet_rtt::{Patience, Tick, Transmission, elapsed};
 use slab::Slab;
 
 /// The clock that does not wrap is set back to its beginning once it is so far. No host runs so long.
@@ -26,6 +29,17 @@ const FAR: u64 = 1 << 62;
 
 /// The clock that does not wrap begins with so many milliseconds, so that all times of the other one lie behind it.
 pub(crate) const BEGINNING: u64 = 4_294_967_296;
+
+/// What became due to go again at a moment. Each number is at most 4,294,967,295, and stops there.
+#[derive(Clone, Copy)]
+pub struct Late {
+    /// The bytes of its payloads.
+    pub bytes: u32,
+    /// Its prices: the payload of each command and 28 bytes.
+    pub prices: u32,
+    /// The prices of those commands since whose last send the peer was heard.
+    pub lost: u32,
+}
 
 /// Whether the command under a key is late at the time `now`.
 fn is_late(slab: &Slab<Sent>, key: usize, now: u32) -> bool
@@ -190,46 +204,93 @@ pub(crate) fn first_late(
 }
 
 /// Marks the command under a key as due to go again, where it is late; whether it is.
-pub(crate) fn mark_under(slab: &mut Slab<Sent>, key: usize, now: u32, bound: u32) -> bool
-    ensures updates { Updates slab.old slab.new key (option_map (marked bound now) (get slab.old key)) }
-    ensures late { result ≡ test_at (is_late now) (get slab.old key) }
+pub(crate) fn mark_under(slab: &mut Slab<Sent>, key: usize, tick: Tick) -> bool
+    ensures updates { Updates slab.old slab.new key (option_map (marked tick) (get slab.old key)) }
+    ensures late { result ≡ test_at (is_late tick.now) (get slab.old key) }
     ensures capacity { slab.new.capacity ≡ slab.old.capacity }
 {
     match slab.get_mut(key) {
         Some(sent) => {
-            let late = sent.transmission.is_late(now);
-            sent.transmission.mark(now, bound);
+            let late = sent.transmission.is_late(tick.now);
+            sent.transmission.mark(tick);
             late
         }
         None => false,
     }
 }
 
-/// Marks all that is late as due to go again. Where the moment of a command is past and it isn't late, its moment is noted anew.
+/// What the command under a key is of what is late.
+fn late_under(slab: &Slab<Sent>, key: usize, tick: Tick) -> Late
+    ensures { IsLateOne tick (get slab.now key) result }
+{
+    let Some(sent) = slab.get(key) else {
+        return Late::NOTHING;
+    };
+    if !sent.command.reliable || !sent.transmission.is_late(tick.now) {
+        return Late::NOTHING;
+    }
+    let bytes = sent.command.body.len().min(u32::MAX as usize) as u32;
+    let prices = bytes.saturating_add(COVER);
+    Late {
+        bytes,
+        prices,
+        lost: if sent.transmission.is_heard_since(tick) {
+            prices
+        } else {
+            0
+        },
+    }
+}
+
+impl Late {
+    /// Nothing is late.
+    const NOTHING: Late = Late {
+        bytes: 0,
+        prices: 0,
+        lost: 0,
+    };
+
+    /// The same with one command more.
+    fn with(self, one: Late) -> Late
+        ensures { result ≡ late_with self one }
+    {
+        Late {
+            bytes: self.bytes.saturating_add(one.bytes),
+            prices: self.prices.saturating_add(one.prices),
+            lost: self.lost.saturating_add(one.lost),
+        }
+    }
+}
+
+/// Marks all that is late as due to go again, and tells what it is together. Where the moment of a command is past and it isn't late, its
+/// moment is noted anew.
 pub(crate) fn mark_all(
     slab: &mut Slab<Sent>,
     deadlines: &mut Deadlines,
     clock: u64,
-    now: u32,
-    bound: u32,
-)
+    tick: Tick,
+) -> Late
     requires begun { 2 ^ 32 ≤ clock }
     requires small { clock < 2 ^ 63 }
-    requires shown { clock % 2 ^ 32 ≡ now }
+    requires shown { clock % 2 ^ 32 ≡ tick.now }
     requires few { length deadlines.old ≤ vacant }
     requires foretold { AreForetold clock (get slab.old) deadlines.old }
-    ensures marked { (key : ℕ) → get slab.new key ≡ option_map (marked bound now) (get slab.old key) }
+    ensures marked { (key : ℕ) → get slab.new key ≡ option_map (marked tick) (get slab.old key) }
+    ensures late { IsLate tick slab.old.slots result }
     ensures ahead { NonePast clock deadlines.new }
     ensures foretold { AreForetold clock (get slab.new) deadlines.new }
     ensures len { length deadlines.new ≡ length deadlines.old }
 {
+    let mut late = Late::NOTHING;
     let mut from = 0;
     'due: while let Some(key) = deadlines.next_due(from, clock) {
-        if mark_under(slab, key, now, bound) {
+        late = late.with(late_under(slab, key, tick));
+        if mark_under(slab, key, tick) {
             deadlines.clear(key);
         } else {
-            note_anew(slab, deadlines, key, clock, now);
+            note_anew(slab, deadlines, key, clock, tick.now);
         }
         from = key + 1;
     }
+    late
 }

@@ -7,14 +7,14 @@
 //! Each exactly by the definitions of specs/Sender and specs/CommandChoice:
 //! - `Outgoing::submit`: how a packet goes, its commands and their numbers, all or none; E5 exactly above 16,384 pieces (`too_large`);
 //!   a refused body is still there and nothing has changed (`refused`).
-//! - `next_due`: the first due resend, else the head of the queue exactly where the sender's span and the bytes in transit let it go,
-//!   written where it fits; NoRoom and Nothing change nothing. Where `has_to_wait` answers true, nothing goes, at whatever time
-//!   (`Waits`, specs/Waiting).
+//! - `next_due`: the first due resend, where there is room in transit for it, and where none is due the head of the queue, where the
+//!   sender's span and the room let it go (`has_room`), written where it fits; NoRoom and Nothing change nothing. Where `has_to_wait`
+//!   answers true, nothing goes (`Waits`, specs/Waiting).
 //! - `skip`, `acknowledge`, `late`, `ends`, `is_late`, `mark`, `clear`, `left`; and `next_late`, in how many milliseconds something is
 //!   late first.
-//! - Of all channels at once, by specs/Foretold: `Pending::any_late`, `any_ends`, `first_late` and `mark_all`. They look only at commands
-//!   whose timeout has passed, since when each is late is noted by its key from its sending until it is acknowledged or found late
-//!   (`KeepsTime`, which no contract shows).
+//! - Of all channels at once, by specs/Foretold and specs/Late: `Pending::any_late`, `any_ends`, `first_late` and `mark_all`, which also
+//!   sums up what became late and what of it was lost. They look only at commands whose timeout has passed, since when each is late is
+//!   noted by its key from its sending until it is acknowledged or found late (`KeepsTime`, which no contract shows).
 //! - An acknowledgement after which a channel has nothing unacknowledged gives room back, and so does a call of `next_due` that finds nothing
 //!   queued or unacknowledged: of the channel's rings, and of the commands, if there is none. Room for 64 stays at most (`most_unused`).
 //!
@@ -25,7 +25,7 @@
 //!   the place where the search for one begins;
 //! - the reliable numbers of the queue go on, one by one, from the last that went to the last that was given, and are counted.
 //!
-//! Laws: how the bytes in transit change (`transit_follows`) and what stays left (`reliable_stays_left`).
+//! Laws: how the bytes and prices in transit change (`transit_follows`, `prices_follow`) and what stays left (`reliable_stays_left`).
 //!
 //! # Only tested
 //!
@@ -43,7 +43,8 @@ mod tally;
 mod timed;
 mod writing;
 
-pub use laws::{reliable_stays_left, transit_follows};
-pub use outgoing::{Due, Kind, Left, Occasion, Outgoing};
+pub use lateness::Late;
+pub use laws::{prices_follow, reliable_stays_left, transit_follows};
+pub use outgoing::{Acknowledged, Due, Kind, Left, Occasion, Outgoing};
 pub use pending::Pending;
 pub use sent::Sent;

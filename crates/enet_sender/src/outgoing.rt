@@ -1,6 +1,6 @@
 //! One channel's sender over the commands of its peer.
 
-ghost use Rattle.std.specs.Prelude.{◌≡◌, ℕ, ◌+◌, ◌<◌, ◌≤◌, ◌∷◌, ◌++◌, [], if◌then◌else◌, IsTrue, IsOk, IfOk, OnOk, OnErr, IfErr, IsErrAnd, ◌⊎◌, ◌↔◌, List, Option, Some, None, IfSome, IfNone, length, map, take, drop, slice_get, true, false};
+ghost use Rattle.std.specs.Prelude.{◌≡◌, ℕ, ◌+◌, ◌<◌, ◌≤◌, ◌∷◌, ◌++◌, [], if◌then◌else◌, IsTrue, IsOk, IfOk, OnOk, OnErr, IfErr, IsErrAnd, ◌⊎◌, ◌↔◌, List, Option, Some, None, IfSome, IfNone, length, map, take, drop, slice_get, true, false, All};
 ghost use Rattle.std.specs.VecDeque.{deque_len, deque_capacity};
 ghost use Rattle.slab.specs.Slab.{get, slab_len, SameValues, HasRoomFor};
 ghost use Rattle.enet_rtt.specs.Clock.{HappensIn};
@@ -9,7 +9,7 @@ ghost use Rattle.enet_seq.specs.Windows.{after as number_after};
 ghost use Rattle.enet_fragment.specs.declared.data.DataCommand.{DataCommand};
 ghost use Rattle.enet_sender.specs.declared.pending.Pending.{Pending};
 ghost use Rattle.enet_sender.specs.declared.sent.Sent.{Sent};
-ghost use Rattle.enet_sender.specs.Sender.{with_marked, lateness, after_lateness, ends, is_late, cleared, after_match, acknowledged_bytes, next, next_queued, next_resent, first_sent, may_go, piece_of_body, is_more, skipped, with_skipped, left};
+ghost use Rattle.enet_sender.specs.Sender.{acknowledged, has_room, with_marked, lateness, after_lateness, ends, is_late, cleared, after_match, next, next_queued, next_resent, first_sent, may_go, piece_of_body, is_more, skipped, told_of, with_skipped, left};
 ghost use Rattle.enet_sender.specs.Due.{Did, new_end, with_submitted};
 ghost use Rattle.enet_sender.specs.Waiting.{Waits};
 ghost use Rattle.enet_fragment.specs.Cutting.{piece_length, piece_count};
@@ -23,6 +23,7 @@ ghost use Rattle.enet_sender.specs.Pending.{vacant, named};
 ghost use Rattle.enet_sender.specs.Rings.{Keeps, KeepsIn, PassesIn, HasRoom, no_rings, rings_of, sender_in, end_in, commands_at, NoneDue};
 ghost use Rattle.enet_sender.specs.Private.Rings.{IsFirstDue};
 
+use crate::Sent;
 use crate::course::{Course, cut};
 use crate::pending::Pending;
 use crate::ring::{
@@ -30,11 +31,11 @@ use crate::ring::{
     vacate,
 };
 use crate::tally::count_sent_again;
-use crate::writing::{bytes_of, due_kind, is_more, put};
+use crate::writing::{counted, due_kind, is_more, put};
 use bytes::Bytes;
 use enet_codec::Refusal;
 use enet_fragment::{DataCommand, piece_length};
-use enet_rtt::{Expiry, Patience};
+use enet_rtt::{Expiry, Patience, Tick};
 use std::alloc::Global;
 use std::collections::VecDeque;
 use std::mem;
@@ -60,22 +61,44 @@ pub struct Occasion {
     pub now: u32,
     /// How long a command that is sent for the first time waits for its acknowledgement, in milliseconds.
     pub timeout: u32,
-    /// The payload bytes of the peer that are sent and unacknowledged.
+    /// The payload bytes of the peer's data commands in transit: sent, not acknowledged and not due to go again.
     pub transit: u32,
     /// How many of them there may be.
     pub most: u32,
+    /// The prices of the same commands: the payload of each and 28 bytes.
+    pub prices: u32,
+    /// How much they may be together.
+    pub dearest: u32,
 }
 
 /// What `next_due` did.
 #[derive(Clone, Copy)]
 pub enum Due {
     /// A command was written, which ends before `past` and is carried as `kind` says; `added` payload bytes are new in
-    /// transit.
-    Sent { past: usize, added: u32, kind: Kind },
+    /// transit, and so is its `price`, 0 of an unreliable one.
+    Sent {
+        past: usize,
+        added: u32,
+        price: u32,
+        kind: Kind,
+    },
     /// A command may go, and does not fit.
     NoRoom,
     /// No command may go.
     Nothing,
+}
+
+/// What is told of a command that an acknowledgement matches.
+#[derive(Clone, Copy)]
+pub struct Acknowledged {
+    /// The bytes of its payload.
+    pub bytes: u32,
+    /// Its price: these and 28 bytes.
+    pub price: u32,
+    /// Whether it was due to go again, and so not in transit.
+    pub due: bool,
+    /// Whether the time that the acknowledgement repeats is that of its last send.
+    pub last: bool,
 }
 
 /// What a sender still has.
@@ -108,27 +131,36 @@ pub struct Outgoing {
 }
 
 impl Outgoing {
-    /// Takes out the one sent command of this number, where it was sent at this time, in milliseconds modulo 65,536, and answers the
-    /// bytes of its payload. None, with nothing changed, where no sent command has the number, or that one wasn't sent at the time
-    /// (our profile).
-    pub fn acknowledge(&mut self, pending: &mut Pending, number: u16, time: u16) -> Option<u32>
+    /// Takes out the one sent command of this number, where it was sent at this time, in milliseconds modulo 65,536, and tells of it. None,
+    /// with nothing changed, where no sent command has the number, or that one wasn't sent at the time (our profile).
+    pub fn acknowledge(
+        &mut self,
+        pending: &mut Pending,
+        number: u16,
+        time: u16,
+    ) -> Option<Acknowledged>
         requires { KeepsIn pending.old self.old }
-        ensures bytes { result ≡ acknowledged_bytes (sender_in pending.old self.old) number time }
+        ensures told { result ≡ acknowledged (sender_in pending.old self.old) number time }
         ensures removed { end_in pending.new self.new ≡ record (end_in pending.old self.old) { sender = after_match (sender_in pending.old self.old) number result } }
         ensures kept { KeepsIn pending.new self.new }
         ensures passes { PassesIn pending.old self.old pending.new self.new }
         ensures room { HasRoom self.old → HasRoom self.new }
     {
-        let bytes = self.take_acknowledged(pending, number, time)?;
+        let told = self.take_acknowledged(pending, number, time)?;
         self.give_unused_back(pending);
-        Some(bytes)
+        Some(told)
     }
 
     /// The same with all room.
     #[inline(always)]
-    fn take_acknowledged(&mut self, pending: &mut Pending, number: u16, time: u16) -> Option<u32>
+    fn take_acknowledged(
+        &mut self,
+        pending: &mut Pending,
+        number: u16,
+        time: u16,
+    ) -> Option<Acknowledged>
         requires { KeepsIn pending.old self.old }
-        ensures bytes { result ≡ acknowledged_bytes (sender_in pending.old self.old) number time }
+        ensures told { result ≡ acknowledged (sender_in pending.old self.old) number time }
         ensures removed { end_in pending.new self.new ≡ record (end_in pending.old self.old) { sender = after_match (sender_in pending.old self.old) number result } }
         ensures kept { KeepsIn pending.new self.new }
         ensures passes { PassesIn pending.old self.old pending.new self.new }
@@ -141,7 +173,7 @@ impl Outgoing {
         }
         let sent = pending.take(key)?;
         vacate(&mut self.sent, &mut self.due_from, place);
-        Some(sent.command.body.len() as u32)
+        Some(told_of(&sent, time))
     }
 
     /// Gives most room of the rings back, where nothing is in them, and most of the commands' where there is none.
@@ -162,10 +194,11 @@ impl Outgoing {
     /// Writes the next command at `at`, where one may go, and keeps it as sent if it is reliable: the first sent one that is
     /// due to go again, else the head of the queue where it may go.
     ///
-    /// A reliable command goes for the first time where its number is less than 8,192 past the oldest unacknowledged one,
-    /// and where the bytes in transit of the peer and its own are together at most `most` (our profile). Where it may
-    /// not, nothing behind it goes. A resend keeps its number and is not tested. Where no command may go, the answer is
-    /// `Nothing`; where one may and does not fit, `NoRoom`. Neither changes anything, and the buffer stays. It takes no memory.
+    /// A reliable command goes, for the first time or again, where the bytes in transit of the peer and its own are together at most
+    /// `most`, and the prices of what is in transit and its own at most `dearest`; for the first time only where its number is less than
+    /// 8,192 past the oldest unacknowledged one, too (our profile). Where it may not, nothing else of the channel goes. A resend keeps its
+    /// number. Where no command may go, the answer is `Nothing`; where one may and does not fit, `NoRoom`. Neither changes anything, and
+    /// the buffer stays. It takes no memory.
     pub fn next_due(
         &mut self,
         pending: &mut Pending,
@@ -182,17 +215,16 @@ impl Outgoing {
         ensures room { HasRoom self.new }
     {
         match self.next_resend(pending) {
-            Some(place) => self.resend(pending, place, occasion.now, buf, at),
+            Some(place) => self.resend(pending, place, occasion, buf, at),
             None => self.send_first(pending, occasion, buf, at),
         }
     }
 
-    /// Whether the channel surely has to wait: nothing that is sent is due to go again, and the head of the queue may not go yet, where
-    /// `transit` payload bytes of the peer are sent and unacknowledged, and `most` may be. Where it answers true, `next_due` with these two
-    /// answers `Nothing`; it may also answer false where nothing may go.
-    pub fn has_to_wait(&self, pending: &Pending, transit: u32, most: u32) -> bool
+    /// Whether the channel surely has to wait: nothing that is sent is due to go again, and the head of the queue may not go yet. Where it
+    /// answers true, `next_due` answers `Nothing`; it may also answer false where nothing may go.
+    pub fn has_to_wait(&self, pending: &Pending, occasion: Occasion) -> bool
         requires { KeepsIn pending.now self.now }
-        ensures { IsTrue result → Waits transit most (sender_in pending.now self.now) }
+        ensures { IsTrue result → Waits occasion (sender_in pending.now self.now) }
     {
         if self.due_from < self.sent.len() {
             return false;
@@ -203,7 +235,7 @@ impl Outgoing {
         let Some(head) = pending.get(key) else {
             return false;
         };
-        !self.may_go(&head.command, transit, most)
+        !self.may_go(&head.command, occasion)
     }
 
     /// The place of the first sent command that is due to go again.
@@ -226,18 +258,26 @@ impl Outgoing {
         }
     }
 
-    /// Writes the sent command of a place once more, where it fits.
+    /// Whether something that is sent may be due to go again.
+    pub fn may_be_due(&self, _pending: &Pending) -> bool
+        requires { KeepsIn _pending.now self.now }
+        ensures { result ≡ false → All (λ (p : Sent). p.transmission.due ≡ false) (sender_in _pending.now self.now).sent }
+    {
+        self.due_from < self.sent.len()
+    }
+
+    /// Writes the sent command of a place once more, where there is room for it and it fits.
     fn resend(
         &mut self,
         pending: &mut Pending,
         place: usize,
-        now: u32,
+        occasion: Occasion,
         buf: &mut [u8],
         at: usize,
     ) -> Due
         requires kept { KeepsIn pending.old self.old }
         requires first { IsFirstDue (get pending.old.slab) self.old.sent.items place }
-        ensures did { Did (next_resent now (sender_in pending.old self.old) (length (named (get pending.old.slab) (take place self.old.sent.items)))
+        ensures did { Did (next_resent occasion (sender_in pending.old self.old) (length (named (get pending.old.slab) (take place self.old.sent.items)))
             (slice_get (named (get pending.old.slab) self.old.sent.items) (length (named (get pending.old.slab) (take place self.old.sent.items))))) result
             (end_in pending.old self.old) (end_in pending.new self.new) (record { old = buf.old; at = at; new = buf.new }) }
         ensures rings { self.new ≡ record self.old { due_from = self.new.due_from } }
@@ -248,30 +288,34 @@ impl Outgoing {
         let Some(sent) = pending.get(key) else {
             unreachable!()
         };
+        if !has_room(&sent.command, occasion) {
+            return Due::Nothing;
+        }
         let kind = due_kind(&sent.command);
+        let (added, price) = counted(&sent.command);
         let Some(past) = put(buf, at, self.channel, &sent.command) else {
             return Due::NoRoom;
         };
-        pending.send_again(key, now);
+        pending.send_again(key, occasion.now);
         self.due_from = place + 1;
         Due::Sent {
             past,
-            added: 0,
+            added,
+            price,
             kind,
         }
     }
 
     /// Whether the head of the queue may go for the first time. Its number is the one after `passed` if it is reliable, so
     /// the span is kept where the places of what is sent are fewer.
-    fn may_go(&self, command: &DataCommand, transit: u32, most: u32) -> bool
+    fn may_go(&self, command: &DataCommand, occasion: Occasion) -> bool
         requires short { IsShort command.now }
         requires few { length self.now.sent.items ≤ 8192 }
         ensures reliable { result ≡ true → command.now.reliable ≡ true → length self.now.sent.items < 8192 }
         ensures value { (at : ℕ → Option Sent) → Keeps at (rings_of self.now) → (command.now.reliable ≡ true → command.now.number ≡ number_after self.now.passed 1)
-            → result ≡ may_go wire (named at self.now.sent.items) transit most command.now }
+            → result ≡ may_go wire (named at self.now.sent.items) occasion command.now }
     {
-        let after = u64::from(transit) + command.body.len() as u64;
-        !command.reliable || (self.sent.len() < SPAN && after <= u64::from(most))
+        !command.reliable || (self.sent.len() < SPAN && has_room(command, occasion))
     }
 
     /// Writes the head of the queue, where it may go and fits; nothing that is sent may be due to go again.
@@ -300,11 +344,11 @@ impl Outgoing {
             unreachable!()
         };
         let command = &head.command;
-        if !self.may_go(command, occasion.transit, occasion.most) {
+        if !self.may_go(command, occasion) {
             return Due::Nothing;
         }
         let kind = due_kind(command);
-        let added = bytes_of(command);
+        let (added, price) = counted(command);
         let (reliable, number) = (command.reliable, command.number);
         let Some(past) = put(buf, at, self.channel, command) else {
             return Due::NoRoom;
@@ -314,7 +358,12 @@ impl Outgoing {
         } else {
             self.leave(pending, key);
         }
-        Due::Sent { past, added, kind }
+        Due::Sent {
+            past,
+            added,
+            price,
+            kind,
+        }
     }
 
     /// Drops the rest of the unreliable packet whose first command was written last: its further commands at the head of the
@@ -349,28 +398,20 @@ impl Outgoing {
         }
     }
 
-    /// What the moment `now` brings: `End` where a sent command has waited out its timeout and its peer, heard last at
-    /// `heard`, has timed out over it by `patience`, which changes nothing; else `Resend` where a sent command has waited out
-    /// its timeout: each such one is then due to go again, and waits twice as long, but no longer than `bound` milliseconds, or as
-    /// long as it did where that is longer; else `No` (our profile).
-    pub fn late(
-        &mut self,
-        pending: &mut Pending,
-        now: u32,
-        patience: &Patience,
-        heard: u32,
-        bound: u32,
-    ) -> Expiry
+    /// What the moment `tick` brings: `End` where a sent command has waited out its timeout and its peer, heard last at
+    /// `tick.heard`, has timed out over it by `patience`, which changes nothing; else `Resend` where a sent command has waited out
+    /// its timeout: each such one is then due to go again, and has its next timeout (`Transmission::mark`); else `No` (our profile).
+    pub fn late(&mut self, pending: &mut Pending, tick: Tick, patience: &Patience) -> Expiry
         requires { KeepsIn pending.old self.old }
-        ensures found { result ≡ lateness now patience.now heard (sender_in pending.old self.old) }
-        ensures after { end_in pending.new self.new ≡ record (end_in pending.old self.old) { sender = after_lateness result bound now (sender_in pending.old self.old) } }
+        ensures found { result ≡ lateness tick.now patience.now tick.heard (sender_in pending.old self.old) }
+        ensures after { end_in pending.new self.new ≡ record (end_in pending.old self.old) { sender = after_lateness result tick (sender_in pending.old self.old) } }
         ensures kept { KeepsIn pending.new self.new }
         ensures passes { PassesIn pending.old self.old pending.new self.new }
         ensures room { HasRoom self.old → HasRoom self.new }
     {
-        let expiry = self.lateness(pending, now, patience, heard);
+        let expiry = self.lateness(pending, tick.now, patience, tick.heard);
         if expiry == Expiry::Resend {
-            self.mark(pending, now, bound);
+            self.mark(pending, tick);
         }
         expiry
     }
@@ -420,16 +461,16 @@ impl Outgoing {
         count_sent_again(&self.sent, pending, so_far)
     }
 
-    /// Each sent command that has waited out its timeout at the moment `now` is due to go again, and waits twice as long
-    /// then, but no longer than `bound` milliseconds, or as long as it did where that is longer (our profile).
-    pub fn mark(&mut self, pending: &mut Pending, now: u32, bound: u32)
+    /// Each sent command that has waited out its timeout at the moment `tick` is due to go again, and has its next timeout
+    /// (`Transmission::mark`).
+    pub fn mark(&mut self, pending: &mut Pending, tick: Tick)
         requires { KeepsIn pending.old self.old }
-        ensures marked { end_in pending.new self.new ≡ record (end_in pending.old self.old) { sender = with_marked bound now (sender_in pending.old self.old) } }
+        ensures marked { end_in pending.new self.new ≡ record (end_in pending.old self.old) { sender = with_marked tick (sender_in pending.old self.old) } }
         ensures kept { KeepsIn pending.new self.new }
         ensures passes { PassesIn pending.old self.old pending.new self.new }
         ensures room { HasRoom self.old → HasRoom self.new }
     {
-        mark_all(&self.sent, pending, now, bound);
+        mark_all(&self.sent, pending, tick);
         self.due_from = 0;
     }
 
@@ -718,6 +759,30 @@ impl Outgoing {
         self.unreliable = course.unreliable_number();
         *body = Bytes::new();
         Ok(())
+    }
+}
+
+/// Whether there is room for a reliable command.
+fn has_room(command: &DataCommand, occasion: Occasion) -> bool
+    requires { IsShort command.now }
+    ensures { result ≡ has_room occasion command.now }
+{
+    let (bytes, price) = counted(command);
+    u64::from(occasion.transit) + u64::from(bytes) <= u64::from(occasion.most)
+        && u64::from(occasion.prices) + u64::from(price) <= u64::from(occasion.dearest)
+}
+
+/// What is told of a command whose acknowledgement repeats this time.
+fn told_of(sent: &Sent, time: u16) -> Acknowledged
+    requires { IsShort sent.now.command }
+    ensures { result ≡ told_of time sent.now }
+{
+    let (bytes, price) = counted(&sent.command);
+    Acknowledged {
+        bytes,
+        price,
+        due: sent.transmission.due,
+        last: time == (sent.transmission.last % 65_536) as u16,
     }
 }
 

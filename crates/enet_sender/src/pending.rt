@@ -5,6 +5,7 @@ ghost use Rattle.std.specs.Option.{option_map};
 ghost use Rattle.enet_rtt.specs.Clock.{HappensIn};
 ghost use Rattle.enet_rtt.specs.Transmission.{went_at};
 ghost use Rattle.slab.specs.Slab.{get, slab_len, Updates, SameValues, HasRoomFor};
+ghost use Rattle.enet_sender.specs.Late.{IsLate};
 ghost use Rattle.enet_sender.specs.Pending.{vacant, most_unused};
 ghost use Rattle.enet_sender.specs.Private.Pending.{queued};
 ghost use Rattle.enet_sender.specs.Private.Rounds.{test_at};
@@ -14,11 +15,11 @@ ghost use Rattle.enet_sender.specs.Counting.{is_sent_again};
 ghost use Rattle.enet_sender.specs.Sender.{again, begun, ends, is_late, marked};
 ghost use Rattle.enet_sender.specs.Rings.{is_due, IsEmpty};
 
-use crate::Sent;
 use crate::timed::TimedSlab;
+use crate::{Late, Sent};
 use enet_codec::Refusal;
 use enet_fragment::DataCommand;
-use enet_rtt::Patience;
+use enet_rtt::{Patience, Tick};
 use std::alloc::Global;
 
 /// In a ring, the place of a command that was acknowledged.
@@ -123,10 +124,10 @@ impl Pending {
     }
 
     /// Marks the command under a key as due to go again, where it is late.
-    pub(crate) fn mark(&mut self, key: u32, now: u32, bound: u32)
-        ensures { Updates self.old.slab self.new.slab key (option_map (marked bound now) (get self.old.slab key)) }
+    pub(crate) fn mark(&mut self, key: u32, tick: Tick)
+        ensures { Updates self.old.slab self.new.slab key (option_map (marked tick) (get self.old.slab key)) }
     {
-        self.slab.mark(key, now, bound);
+        self.slab.mark(key, tick);
     }
 
     /// Whether the command under a key was sent at this time, in milliseconds modulo 65,536.
@@ -201,11 +202,13 @@ impl Pending {
         self.slab.first_late(now)
     }
 
-    /// All that is late at the moment `now`, in milliseconds, is due to go again, and waits twice as long then, on any channel, but no
-    /// longer than `bound` milliseconds, or as long as it did where that is longer. Each of these is to seek what is due anew (`Outgoing::seek_anew`). It looks only at what is late.
-    pub fn mark_all(&mut self, now: u32, bound: u32)
-        ensures { (key : ℕ) → get self.new.slab key ≡ option_map (marked bound now) (get self.old.slab key) }
+    /// All that is late at the moment `tick`, on any channel, is due to go again, and has its next timeout (`Transmission::mark`); tells what
+    /// it is together. Each channel is to seek what is due anew (`Outgoing::seek_anew`). It looks only at what is late.
+    pub fn mark_all(&mut self, tick: Tick) -> Late
+        ensures marked { (key : ℕ) → get self.new.slab key ≡ option_map (marked tick) (get self.old.slab key) }
+        ensures late { IsLate tick self.old.slab.slots result }
+        ensures low { (key : ℕ) (p : Sent) → get self.old.slab key ≡ Some p → key < vacant }
     {
-        self.slab.mark_all(now, bound);
+        self.slab.mark_all(tick)
     }
 }

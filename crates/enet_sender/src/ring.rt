@@ -16,7 +16,7 @@ ghost use Rattle.enet_sender.specs.Private.Trims.{Trims};
 use crate::Pending;
 use crate::pending::VACANT;
 use crate::timed::MOST_UNUSED;
-use enet_rtt::Patience;
+use enet_rtt::{Patience, Tick};
 use enet_seq::ahead;
 use std::collections::VecDeque;
 
@@ -149,12 +149,12 @@ pub(crate) fn next_late(ring: &VecDeque<u32>, pending: &Pending, now: u32) -> u3
 }
 
 /// Marks what is late of a ring's commands as due to go again.
-pub(crate) fn mark_all(ring: &VecDeque<u32>, pending: &mut Pending, now: u32, bound: u32)
-    ensures { (key : ℕ) → get pending.new.slab key ≡ marked_at bound now (times key ring.now.items) (get pending.old.slab key) }
+pub(crate) fn mark_all(ring: &VecDeque<u32>, pending: &mut Pending, tick: Tick)
+    ensures { (key : ℕ) → get pending.new.slab key ≡ marked_at tick (times key ring.now.items) (get pending.old.slab key) }
 {
     for place in 0..ring.len() {
         let key = ring[place];
-        pending.mark(key, now, bound);
+        pending.mark(key, tick);
     }
 }
 

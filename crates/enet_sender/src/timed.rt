@@ -5,17 +5,18 @@ ghost use Rattle.slab.specs.Slab.{Slab, get, slab_len, Updates, SameValues, HasR
 ghost use Rattle.std.specs.Option.{option_map};
 ghost use Rattle.enet_sender.specs.declared.sent.Sent.{Sent};
 ghost use Rattle.enet_sender.specs.Foretold.{IsLateIn, NonePasses, SomePasses};
+ghost use Rattle.enet_sender.specs.Late.{IsLate};
 ghost use Rattle.enet_sender.specs.Pending.{vacant, most_unused};
 ghost use Rattle.enet_sender.specs.Private.Pending.{queued};
 ghost use Rattle.enet_sender.specs.Sender.{again, begun, ends, is_late, marked};
 
-use crate::Sent;
 use crate::lateness::{
     BEGINNING, advance, any_ends, any_late, first_late, mark_all, mark_under, moment_of,
 };
+use crate::{Late, Sent};
 use enet_deadlines::{Deadlines, moment_at};
 use enet_fragment::DataCommand;
-use enet_rtt::{Patience, Transmission};
+use enet_rtt::{Patience, Tick, Transmission};
 use slab::Slab;
 use std::alloc::Global;
 use std::marker::Model;
@@ -211,20 +212,22 @@ impl TimedSlab {
     }
 
     /// Marks the command under a key as due to go again, where it is late.
-    pub(crate) fn mark(&mut self, key: u32, now: u32, bound: u32)
-        ensures { Updates self.old self.new key (option_map (marked bound now) (get self.old key)) }
+    pub(crate) fn mark(&mut self, key: u32, tick: Tick)
+        ensures { Updates self.old self.new key (option_map (marked tick) (get self.old key)) }
     {
-        if mark_under(&mut self.slab, key as usize, now, bound) {
+        if mark_under(&mut self.slab, key as usize, tick) {
             self.deadlines.clear(key as usize);
         }
     }
 
-    /// Marks all that is late as due to go again.
-    pub(crate) fn mark_all(&mut self, now: u32, bound: u32)
-        ensures { (key : ℕ) → get self.new key ≡ option_map (marked bound now) (get self.old key) }
+    /// Marks all that is late as due to go again, and tells what it is together.
+    pub(crate) fn mark_all(&mut self, tick: Tick) -> Late
+        ensures marked { (key : ℕ) → get self.new key ≡ option_map (marked tick) (get self.old key) }
+        ensures late { IsLate tick self.old.slots result }
+        ensures low { (key : ℕ) (p : Sent) → get self.old key ≡ Some p → key < vacant }
     {
-        self.clock = advance(self.clock, &self.slab, &mut self.deadlines, now);
-        mark_all(&mut self.slab, &mut self.deadlines, self.clock, now, bound);
+        self.clock = advance(self.clock, &self.slab, &mut self.deadlines, tick.now);
+        mark_all(&mut self.slab, &mut self.deadlines, self.clock, tick)
     }
 
     /// Whether a command is late at the time `now`.

@@ -1,10 +1,10 @@
 //! How a command is written.
 
-ghost use Rattle.std.specs.Prelude.{◌≡◌, ◌+◌, ◌<◌, IfSome, IfNone, if◌then◌else◌, length};
+ghost use Rattle.std.specs.Prelude.{◌≡◌, ◌+◌, ◌<◌, ◌≤◌, IfSome, IfNone, if◌then◌else◌, length};
 ghost use Rattle.enet_codec.specs.Message.{IsMessage, canonical};
 ghost use Rattle.enet_codec.specs.Writing.{Puts};
 ghost use Rattle.enet_fragment.specs.DataCommand.{message_of};
-ghost use Rattle.enet_sender.specs.Sender.{is_more};
+ghost use Rattle.enet_sender.specs.Sender.{bytes_of, is_more, price_of};
 ghost use Rattle.enet_sender.specs.Due.{due_kind};
 ghost use Rattle.enet_sender.specs.Private.Invariant.{IsShort};
 
@@ -35,15 +35,23 @@ pub(crate) fn due_kind(command: &DataCommand) -> Kind
     }
 }
 
-/// The bytes that a command adds to those in transit at its first send.
-pub(crate) fn bytes_of(command: &DataCommand) -> u32
+/// What a datagram takes on the line beside ENet's own bytes: the headers of IP and UDP. A command's price is its payload and these, since it may
+/// go alone (our profile).
+pub(crate) const COVER: u32 = 28;
+
+/// What a command counts in transit: the bytes of its payload, and its price. One that isn't reliable counts nothing.
+pub(crate) fn counted(command: &DataCommand) -> (u32, u32)
     requires { IsShort command.now }
-    ensures { result ≡ (if command.now.reliable then length command.now.body else 0) }
+    ensures bytes { result.0 ≡ bytes_of command.now }
+    ensures price { result.1 ≡ price_of command.now }
+    ensures small { result.1 ≤ 4096 }
+    ensures less { result.0 ≤ result.1 }
 {
     if command.reliable {
-        command.body.len() as u32
+        let bytes = command.body.len() as u32;
+        (bytes, bytes + COVER)
     } else {
-        0
+        (0, 0)
     }
 }
 

@@ -10,6 +10,7 @@ use Rattle.slab.specs.Slab.{Slab, get}
 use Rattle.enet_rtt.specs.Clock.{HappensIn}
 use Rattle.enet_rtt.specs.Expiry.{gives_up}
 use Rattle.enet_rtt.specs.declared.expiry.Patience.{Patience}
+use Rattle.enet_rtt.specs.declared.transmission.Tick.{Tick}
 use Rattle.enet_fragment.specs.declared.data.DataCommand.{DataCommand}
 use Rattle.enet_sender.specs.declared.sent.Sent.{Sent}
 use Rattle.enet_sender.specs.declared.outgoing.Outgoing.{Outgoing}
@@ -129,41 +130,41 @@ late-in now wait s channels all h = record {
 }
 
 -- all that is late has just been marked
-due-marked : (bound now : ℕ) (ps : List Sent) → All (λ (p : Sent). p.transmission.due ≡ true) ps → All (λ (p : Sent). p.transmission.due ≡ true) (map (marked bound now) ps)
-due-marked bound now [] h = All-nil (λ (p : Sent). p.transmission.due ≡ true)
-due-marked bound now (p ∷ ps) h =
+due-marked : (tick : Tick) (ps : List Sent) → All (λ (p : Sent). p.transmission.due ≡ true) ps → All (λ (p : Sent). p.transmission.due ≡ true) (map (marked tick) ps)
+due-marked tick [] h = All-nil (λ (p : Sent). p.transmission.due ≡ true)
+due-marked tick (p ∷ ps) h =
     let due : p.transmission.due ≡ true = All-head (λ (p : Sent). p.transmission.due ≡ true) p ps h in
-    let same : Some (marked bound now p) ≡ Some p = unmarked bound now (Some p) (λ q is. due-not_late now q (let one : p ≡ q = cc in ap (λ (z : Sent). z.transmission.due) (sym one) ∙ due)) in
-    let is : marked bound now p ≡ p = cc in
-    All-cons (λ (p : Sent). p.transmission.due ≡ true) (marked bound now p) (map (marked bound now) ps) (ap (λ (z : Sent). z.transmission.due) is ∙ due)
-    (due-marked bound now ps (All-tail (λ (p : Sent). p.transmission.due ≡ true) p ps h))
+    let same : Some (marked tick p) ≡ Some p = unmarked tick (Some p) (λ q is. due-not_late tick.now q (let one : p ≡ q = cc in ap (λ (z : Sent). z.transmission.due) (sym one) ∙ due)) in
+    let is : marked tick p ≡ p = cc in
+    All-cons (λ (p : Sent). p.transmission.due ≡ true) (marked tick p) (map (marked tick) ps) (ap (λ (z : Sent). z.transmission.due) is ∙ due)
+    (due-marked tick ps (All-tail (λ (p : Sent). p.transmission.due ≡ true) p ps h))
 
-commands-marked : (bound now : ℕ) (ps : List Sent) → map command_of (map (marked bound now) ps) ≡ map command_of ps
-commands-marked bound now [] = refl
-commands-marked bound now (p ∷ ps) = ap (λ (cs : List DataCommand). p.command ∷ cs) (commands-marked bound now ps)
+commands-marked : (tick : Tick) (ps : List Sent) → map command_of (map (marked tick) ps) ≡ map command_of ps
+commands-marked tick [] = refl
+commands-marked tick (p ∷ ps) = ap (λ (cs : List DataCommand). p.command ∷ cs) (commands-marked tick ps)
 
-named-marked : (bound now : ℕ) (at after : ℕ → Option Sent) (keys : List ℕ) → ((key : ℕ) → after key ≡ option_map (marked bound now) (at key)) → named after keys ≡ map (marked bound now) (named at keys)
-named-marked bound now at after keys changed = named-map (marked bound now) at after keys vacant (λ i inside. changed (get_or keys i vacant))
+named-marked : (tick : Tick) (at after : ℕ → Option Sent) (keys : List ℕ) → ((key : ℕ) → after key ≡ option_map (marked tick) (at key)) → named after keys ≡ map (marked tick) (named at keys)
+named-marked tick at after keys changed = named-map (marked tick) at after keys vacant (λ i inside. changed (get_or keys i vacant))
 
-commands-same : (bound now : ℕ) (at after : ℕ → Option Sent) (keys : List ℕ) → ((key : ℕ) → after key ≡ option_map (marked bound now) (at key)) → commands_at after keys ≡ commands_at at keys
-commands-same bound now at after keys changed = ap (map command_of) (named-marked bound now at after keys changed) ∙ commands-marked bound now (named at keys)
+commands-same : (tick : Tick) (at after : ℕ → Option Sent) (keys : List ℕ) → ((key : ℕ) → after key ≡ option_map (marked tick) (at key)) → commands_at after keys ≡ commands_at at keys
+commands-same tick at after keys changed = ap (map command_of) (named-marked tick at after keys changed) ∙ commands-marked tick (named at keys)
 
-held-same : (bound now : ℕ) (at after : ℕ → Option Sent) → ((key : ℕ) → after key ≡ option_map (marked bound now) (at key)) → (key : ℕ) → held after key ≡ held at key
-held-same bound now at after changed key = ap (λ (o : Option Sent). held (λ (k : ℕ). o) key) (changed key) ∙ marked-held bound now 1 (at key)
+held-same : (tick : Tick) (at after : ℕ → Option Sent) → ((key : ℕ) → after key ≡ option_map (marked tick) (at key)) → (key : ℕ) → held after key ≡ held at key
+held-same tick at after changed key = ap (λ (o : Option Sent). held (λ (k : ℕ). o) key) (changed key) ∙ marked-held tick 1 (at key)
 
-had : (bound now : ℕ) (at after : ℕ → Option Sent) → ((key : ℕ) → after key ≡ option_map (marked bound now) (at key)) → (key : ℕ) (q : Sent) → after key ≡ Some q → (p : Sent) × (at key ≡ Some p) × (q.command ≡ p.command)
-had bound now at after changed key q e = marked-had bound now 1 (at key) q (sym (changed key) ∙ e)
+had : (tick : Tick) (at after : ℕ → Option Sent) → ((key : ℕ) → after key ≡ option_map (marked tick) (at key)) → (key : ℕ) (q : Sent) → after key ≡ Some q → (p : Sent) × (at key ≡ Some p) × (q.command ≡ p.command)
+had tick at after changed key q e = marked-had tick 1 (at key) q (sym (changed key) ∙ e)
 
-keeps-marked : (bound now : ℕ) (at after : ℕ → Option Sent) (r : Rings) → ((key : ℕ) → after key ≡ option_map (marked bound now) (at key)) → Keeps at r → Keeps after (with_due r 0)
-keeps-marked bound now at after r changed keeps =
-    let same = commands-same bound now at after r.queued changed in record {
-      nothing = changed vacant ∙ ap (option_map (marked bound now)) keeps.nothing;
-      short = λ key q e. let p = had bound now at after changed key q e in subst (λ (c : DataCommand). length c.body ≤ 4068) (sym p.2) (keeps.short key p.0 p.1);
-      names = λ key low. let one = held-same bound now at after changed key in let most = keeps.names key low in omega arith;
+keeps-marked : (tick : Tick) (at after : ℕ → Option Sent) (r : Rings) → ((key : ℕ) → after key ≡ option_map (marked tick) (at key)) → Keeps at r → Keeps after (with_due r 0)
+keeps-marked tick at after r changed keeps =
+    let same = commands-same tick at after r.queued changed in record {
+      nothing = changed vacant ∙ ap (option_map (marked tick)) keeps.nothing;
+      short = λ key q e. let p = had tick at after changed key q e in subst (λ (c : DataCommand). length c.body ≤ 4068) (sym p.2) (keeps.short key p.0 p.1);
+      names = λ key low. let one = held-same tick at after changed key in let most = keeps.names key low in omega arith;
       keys = keeps.keys;
       sent = record {
         few = keeps.sent.few;
-        numbered = λ i q e. let p = had bound now at after changed (get_or r.sent i vacant) q e in ap (λ (c : DataCommand). c.number) p.2 ∙ keeps.sent.numbered i p.0 p.1;
+        numbered = λ i q e. let p = had tick at after changed (get_or r.sent i vacant) q e in ap (λ (c : DataCommand). c.number) p.2 ∙ keeps.sent.numbered i p.0 p.1;
         not_due = λ i from low. absurd (omega arith);
         fits = keeps.sent.fits;
       };
@@ -171,7 +172,7 @@ keeps-marked bound now at after r changed keeps =
       passed = keeps.passed;
       goes_on = subst (λ (cs : List DataCommand). GoesOn r.passed cs r.number) (sym same) keeps.goes_on;
       counted = keeps.counted ∙ ap reliable_in (sym same);
-      waits = subst (All (λ (p : Sent). p.transmission.due ≡ true)) (sym (named-marked bound now at after r.queued changed)) (due-marked bound now (named at r.queued) keeps.waits);
+      waits = subst (All (λ (p : Sent). p.transmission.due ≡ true)) (sym (named-marked tick at after r.queued changed)) (due-marked tick (named at r.queued) keeps.waits);
     }
 
 times-seeking : (key : ℕ) (channels : List Outgoing) → sum_by (times_in key) (map seeking channels) ≡ sum_by (times_in key) channels
@@ -179,19 +180,19 @@ times-seeking key [] = refl
 times-seeking key (o ∷ os) =
     sum_by-cons (times_in key) (seeking o) (map seeking os) ∙ ap (λ n. times_in key o + n) (times-seeking key os) ∙ sym (sum_by-cons (times_in key) o os)
 
-pub all-marked : (bound now : ℕ) (s t : Slab Sent) (channels : List Outgoing) → ((key : ℕ) → get t key ≡ option_map (marked bound now) (get s key)) → KeepsAll (get s) channels → KeepsAll (get t) (map seeking channels)
-all-marked bound now s t channels changed all = record {
-  each = All-map (λ (o : Outgoing). Keeps (get t) (rings_of o)) seeking channels (λ j d inside. keeps-marked bound now (get s) (get t) (rings_of (get_or channels j d)) changed (all.each j d inside));
-  nothing = changed vacant ∙ ap (option_map (marked bound now)) all.nothing;
-  names = λ key low. times-seeking key channels ∙ all.names key low ∙ sym (held-same bound now (get s) (get t) changed key);
+pub all-marked : (tick : Tick) (s t : Slab Sent) (channels : List Outgoing) → ((key : ℕ) → get t key ≡ option_map (marked tick) (get s key)) → KeepsAll (get s) channels → KeepsAll (get t) (map seeking channels)
+all-marked tick s t channels changed all = record {
+  each = All-map (λ (o : Outgoing). Keeps (get t) (rings_of o)) seeking channels (λ j d inside. keeps-marked tick (get s) (get t) (rings_of (get_or channels j d)) changed (all.each j d inside));
+  nothing = changed vacant ∙ ap (option_map (marked tick)) all.nothing;
+  names = λ key low. times-seeking key channels ∙ all.names key low ∙ sym (held-same tick (get s) (get t) changed key);
   room = All-map HasRoom seeking channels all.room;
 }
 
-pub ends-marked : (bound now : ℕ) (s t : Slab Sent) (channels : List Outgoing) → ((key : ℕ) → get t key ≡ option_map (marked bound now) (get s key)) → ends_of t (map seeking channels) ≡ map (marked_end bound now) (ends_of s channels)
-ends-marked bound now s t [] changed = refl
-ends-marked bound now s t (o ∷ os) changed =
-    let queued = commands-same bound now (get s) (get t) o.queued.items changed in
-    let sent = named-marked bound now (get s) (get t) o.sent.items changed in
-    let one : end_of t (seeking o) ≡ marked_end bound now (end_of s o) =
+pub ends-marked : (tick : Tick) (s t : Slab Sent) (channels : List Outgoing) → ((key : ℕ) → get t key ≡ option_map (marked tick) (get s key)) → ends_of t (map seeking channels) ≡ map (marked_end tick) (ends_of s channels)
+ends-marked tick s t [] changed = refl
+ends-marked tick s t (o ∷ os) changed =
+    let queued = commands-same tick (get s) (get t) o.queued.items changed in
+    let sent = named-marked tick (get s) (get t) o.sent.items changed in
+    let one : end_of t (seeking o) ≡ marked_end tick (end_of s o) =
     λ i. record { channel = o.channel; sender = record { number = o.number; unreliable = o.unreliable; queued = queued i; sent = sent i } } in
-    ap (λ (e : SendingEnd). e ∷ ends_of t (map seeking os)) one ∙ ap (λ (es : List SendingEnd). marked_end bound now (end_of s o) ∷ es) (ends-marked bound now s t os changed)
+    ap (λ (e : SendingEnd). e ∷ ends_of t (map seeking os)) one ∙ ap (λ (es : List SendingEnd). marked_end tick (end_of s o) ∷ es) (ends-marked tick s t os changed)

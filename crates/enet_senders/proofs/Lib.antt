@@ -5,3 +5,4 @@ pub mod Marking
 pub mod Nexts
 pub mod Lateness
 pub mod Sets
+pub mod Sums

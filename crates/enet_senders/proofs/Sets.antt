@@ -1,27 +1,27 @@
 -- Which channels surely have nothing that may go, and which nothing that is sent, as the senders change.
-use Rattle.std.proofs.Common.{◌⊎◌, All, cond, ltb, is_some, nat_lt, inl, inr, bit_or, bit_and, w64, ◌≡◌, ◌≢◌, ℕ, zero, suc, ◌+◌, ◌-◌, ◌*◌, ◌/◌, ◌%◌, ◌^◌, ◌<◌, ◌≤◌, Bool, true, false, ◌&&◌, ◌||◌, not, List, [], ◌∷◌, length, map, take, drop, get_or, set, Option, Some, None, refl, sym, ap, subst, ◌∙◌, arith}
+use Rattle.std.proofs.Common.{◌⊎◌, All, is_some, nat_lt, inl, inr, bit_or, bit_and, w64, ◌≡◌, ◌≢◌, ℕ, zero, suc, ◌+◌, ◌-◌, ◌*◌, ◌/◌, ◌%◌, ◌^◌, ◌<◌, ◌≤◌, Bool, true, false, ◌&&◌, ◌||◌, not, List, [], ◌∷◌, length, map, take, drop, get_or, set, Option, Some, None, refl, sym, ap, subst, ◌∙◌, arith}
 use Rattle.std.specs.Int.{bit_at, bit_not}
-use Rattle.std.specs.List.{range_with_len, slice_get, slice_set, list_all, list_any, position, position_or_len, remove}
-use Rattle.std.proofs.lemmas.Bool.{cases_eq, ltb-false}
+use Rattle.std.specs.List.{range_with_len, slice_get, slice_set, list_all, list_any, position, remove}
+use Rattle.std.proofs.lemmas.Bool.{cases_eq}
 use Rattle.std.proofs.lemmas.Bool.Decides.{nat_tests}
 use Rattle.std.proofs.lemmas.List.{length-set, get_or-set_same, get_or-set_other}
 use Rattle.std.proofs.lemmas.List.Elements.{All-nil, All-append, All-take, All-drop}
-use Rattle.std.proofs.lemmas.List.Quantifiers.{position-Some}
-use Rattle.std.proofs.lemmas.List.Sums.{fails_before_first}
 use Rattle.std.proofs.lemmas.Nat.Bits.{bit_at_or, bit_at_set_same, bit_at_set_other, bit_at_clear_other}
 use Rattle.std.proofs.lemmas.Nat.{pow-add}
 use Rattle.std.proofs.Math.Nat.{div-div-eq-div-mul}
 use Rattle.std.proofs.lemmas.Option.{get_or_from_slice_get}
 use Rattle.slab.specs.Slab.{Slab}
 use Rattle.enet_rtt.specs.Clock.{HappensIn}
+use Rattle.enet_rtt.specs.declared.transmission.Tick.{Tick}
 use Rattle.enet_rtt.proofs.Waits.{same-in}
 use Rattle.enet_fragment.specs.declared.data.DataCommand.{DataCommand}
 use Rattle.enet_sender.specs.declared.outgoing.Outgoing.{Outgoing}
 use Rattle.enet_sender.specs.declared.sent.Sent.{Sent}
 use Rattle.enet_sender.specs.Rings.{end_of}
 use Rattle.enet_seq.specs.Numbering.{Numbering, wire}
+use Rattle.enet_sender.specs.declared.outgoing.Acknowledged.{Acknowledged}
 use Rattle.enet_sender.specs.declared.outgoing.Occasion.{Occasion}
-use Rattle.enet_sender.specs.Sender.{Sender, Next, marked, left, after_acknowledgement, after_match, without_place, position_of, skipped, with_skipped, next, next_of, next_queued, next_resent}
+use Rattle.enet_sender.specs.Sender.{Sender, Next, marked, left, after_acknowledgement, after_match, without_place, position_of, skipped, with_skipped, next, next_of, next_queued}
 use Rattle.enet_sender.proofs.Lists.{position_none}
 use Rattle.enet_sender.specs.declared.outgoing.Due.{Due}
 use Rattle.enet_sender.specs.declared.outgoing.Due.TheVariants as due
@@ -172,14 +172,6 @@ pub not-true : (b : Bool) → not b ≡ true → b ≡ false
 not-true true e = absurd (cc)
 not-true false e = refl
 
--- where none is found none passes
-all-false : {X : Type 0} (p : X → Bool) (xs : List X) → position p xs ≡ None → All (λ x. p x ≡ false) xs
-all-false p xs none = by (ltb (position_or_len p xs) (length xs)) refl none
-  where
-    by : (b : Bool) → ltb (position_or_len p xs) (length xs) ≡ b → cond b (Some (position_or_len p xs)) None ≡ None → All (λ x. p x ≡ false) xs
-    by true is e = absurd (cc)
-    by false is e = λ k d inside. fails_before_first p xs k d (let past = ltb-false (position_or_len p xs) (length xs) is in omega arith)
-
 -- a list with one element replaced
 pub get-set : {A : Type 0} (xs : List A) (i : ℕ) (x y : A) → slice_get xs i ≡ Some x → slice_get (slice_set xs i y) i ≡ Some y
 get-set [] i x y e = cc
@@ -197,10 +189,6 @@ mapped-at : {A B : Type 0} (f : A → B) (xs : List A) (i : ℕ) (y : B) → sli
 mapped-at f [] i y e = absurd (cc)
 mapped-at f (x ∷ xs) zero y e = (x, (refl, cc))
 mapped-at f (x ∷ xs) (suc i) y e = mapped-at f xs i y e
-
-found-inside : {X : Type 0} (p : X → Bool) (xs : List X) (i : ℕ) → position p xs ≡ Some i → i < length xs
-found-inside p [] i e = absurd (cc)
-found-inside p (x ∷ xs) i e = (position-Some p (x ∷ xs) i x e).0
 
 -- one of the channels is changed, and the sets lack at most that one more
 pub keeps-one : (ready flying ready2 flying2 : ChannelSet) (es new : List SendingEnd) (c : ℕ) (s t : SendingEnd) → slice_get es c ≡ Some s → new ≡ slice_set es c t
@@ -247,9 +235,9 @@ still-acknowledged s number h = record { queued = h.queued; sent = by (position_
     by None = h.sent
     by (Some i) = All-remove (λ (p : Sent). p.transmission.due ≡ false) s.sent i h.sent
 
-pub still-matched : (s : Sender) (number : ℕ) (bytes : Option ℕ) → IsStill s → IsStill (after_match s number bytes)
+pub still-matched : (s : Sender) (number : ℕ) (told : Option Acknowledged) → IsStill s → IsStill (after_match s number told)
 still-matched s number None h = h
-still-matched s number (Some bytes) h = still-acknowledged s number h
+still-matched s number (Some told) h = still-acknowledged s number h
 
 pub still-skipped : (s : Sender) → IsStill s → IsStill (with_skipped s)
 still-skipped s h = record { queued = ap skipped h.queued; sent = h.sent }
@@ -259,18 +247,6 @@ pub next-none : (g : Numbering) (occasion : Occasion) (s : Sender) → IsStill s
 next-none g occasion s h =
     ap (λ (o : Option ℕ). next_of g occasion s o) (position_none (λ (p : Sent). p.transmission.due) s.sent h.sent)
     ∙ ap (λ (xs : List DataCommand). next_queued g occasion s xs) h.queued
-
--- where nothing is due now, nothing that is sent is due to go again
-pub none-due : (g : Numbering) (occasion : Occasion) (s : Sender) → next g occasion s ≡ None → All (λ (p : Sent). p.transmission.due ≡ false) s.sent
-none-due g occasion s none = by (position (λ (p : Sent). p.transmission.due) s.sent) refl none
-  where
-    by-sent : (i : ℕ) (o : Option Sent) → slice_get s.sent i ≡ o → i < length s.sent → next_resent occasion.now s i o ≡ None → All (λ (p : Sent). p.transmission.due ≡ false) s.sent
-    by-sent i None is inside e = let one = slice_get-some s.sent i inside in absurd (let y : ◌≡◌ {A = Option Sent} None (Some one.0) = sym is ∙ one.1 in cc)
-    by-sent i (Some p) is inside e = absurd (cc)
-
-    by : (o : Option ℕ) → position (λ (p : Sent). p.transmission.due) s.sent ≡ o → next_of g occasion s o ≡ None → All (λ (p : Sent). p.transmission.due ≡ false) s.sent
-    by None is e = all-false (λ (p : Sent). p.transmission.due) s.sent is
-    by (Some i) is e = by-sent i (slice_get s.sent i) refl (found-inside (λ (p : Sent). p.transmission.due) s.sent i is) e
 
 -- one channel's sender is changed, by which it stays still; what is said of what it has sent comes from outside
 pub keeps-changed : (ready flying flying2 : ChannelSet) (es new : List SendingEnd) (c : ℕ) (f : Sender → Sender) → c < length es → ((s : SendingEnd) → slice_get es c ≡ Some s → new ≡ slice_set es c (record s { sender = f s.sender }))
@@ -303,21 +279,17 @@ inside-changed es s channels c t inside is =
 
 -- what a call of next_due leaves of the channel on which it was made
 did-still : (n : Option Next) (result : Due) (s t : SendingEnd) (from : List ℕ) (at : ℕ) (to : List ℕ) → n ≡ None → Did n result s t (record { old = from; at = at; new = to }) → t ≡ s
-did-still None (due.Sent past added kind) s t from at to none d = absurd d
+did-still None (due.Sent past added price kind) s t from at to none d = absurd d
 did-still None due.NoRoom s t from at to none d = absurd d
 did-still None due.Nothing s t from at to none d = d.0
 did-still (Some n) result s t from at to none d = absurd (cc)
 
-did-unsent : (n : Option Next) (result : Due) (s t : SendingEnd) (from : List ℕ) (at : ℕ) (to : List ℕ) → ((past : ℕ) (added : ℕ) (kind : Kind) → result ≢ due.Sent past added kind) → Did n result s t (record { old = from; at = at; new = to }) → t ≡ s
-did-unsent n (due.Sent past added kind) s t from at to unsent d = absurd (unsent past added kind refl)
+did-unsent : (n : Option Next) (result : Due) (s t : SendingEnd) (from : List ℕ) (at : ℕ) (to : List ℕ) → ((past : ℕ) (added : ℕ) (price : ℕ) (kind : Kind) → result ≢ due.Sent past added price kind) → Did n result s t (record { old = from; at = at; new = to }) → t ≡ s
+did-unsent n (due.Sent past added price kind) s t from at to unsent d = absurd (unsent past added price kind refl)
 did-unsent (Some n) due.NoRoom s t from at to unsent d = d.1
 did-unsent None due.NoRoom s t from at to unsent d = absurd d
 did-unsent (Some n) due.Nothing s t from at to unsent d = absurd d
 did-unsent None due.Nothing s t from at to unsent d = d.0
-
-did-nothing : (n : Option Next) (s t : SendingEnd) (from : List ℕ) (at : ℕ) (to : List ℕ) → Did n due.Nothing s t (record { old = from; at = at; new = to }) → (n ≡ None) × (t ≡ s)
-did-nothing None s t from at to d = (refl, d.0)
-did-nothing (Some n) s t from at to d = absurd d
 
 -- what a call of next_due did on a channel
 abbrev pub DidOn : Occasion → ℕ → Due → List SendingEnd → List SendingEnd → List ℕ → ℕ → List ℕ → Type 0
@@ -348,7 +320,7 @@ keeps-sent ready flying flying2 occasion es new c result from at to inside did o
     (λ lacks. this t lacks (ap (λ (xs : List SendingEnd). slice_get xs c) r.1.0 ∙ get-set es c s t one.1)) h
 
 -- where nothing was sent all stays as it was
-pub same-unsent : (occasion : Occasion) (es new : List SendingEnd) (c : ℕ) (result : Due) (from : List ℕ) (at : ℕ) (to : List ℕ) → c < length es → ((past : ℕ) (added : ℕ) (kind : Kind) → result ≢ due.Sent past added kind)
+pub same-unsent : (occasion : Occasion) (es new : List SendingEnd) (c : ℕ) (result : Due) (from : List ℕ) (at : ℕ) (to : List ℕ) → c < length es → ((past : ℕ) (added : ℕ) (price : ℕ) (kind : Kind) → result ≢ due.Sent past added price kind)
     → DidOn occasion c result es new from at to → new ≡ es
 same-unsent occasion es new c result from at to inside unsent did =
     let one = slice_get-some es c inside in
@@ -356,19 +328,6 @@ same-unsent occasion es new c result from at to inside unsent did =
     let r = did s one.1 in
     let same : r.0 ≡ s = did-unsent (next wire occasion s.sender) result s r.0 from at to unsent r.1.1 in
     r.1.0 ∙ ap (λ (x : SendingEnd). slice_set es c x) same ∙ set-there es c s one.1
-
--- where nothing was due nothing that is sent is due to go again
-pub none-due-on : (occasion : Occasion) (es new : List SendingEnd) (c : ℕ) (from : List ℕ) (at : ℕ) (to : List ℕ) → c < length es → DidOn occasion c due.Nothing es new from at to
-    → (e : SendingEnd) → slice_get new c ≡ Some e → All (λ (p : Sent). p.transmission.due ≡ false) e.sender.sent
-none-due-on occasion es new c from at to inside did e there =
-    let one = slice_get-some es c inside in
-    let s = one.0 in
-    let r = did s one.1 in
-    let none = did-nothing (next wire occasion s.sender) s r.0 from at to r.1.1 in
-    let now : slice_get new c ≡ Some r.0 = ap (λ (xs : List SendingEnd). slice_get xs c) r.1.0 ∙ get-set es c s r.0 one.1 in
-    let both : Some r.0 ≡ Some e = sym now ∙ there in
-    let same : r.0 ≡ e = cc in
-    subst (λ (x : SendingEnd). All (λ (p : Sent). p.transmission.due ≡ false) x.sender.sent) (sym none.1 ∙ same) (none-due wire occasion s.sender none.0)
 
 -- the channel leaves the set of those that are ready, since it is still
 pub keeps-still : (ready flying ready2 : ChannelSet) (es : List SendingEnd) (c : ℕ) → ((i : ℕ) → i ≢ c → Lacks ready2 i → Lacks ready i)
@@ -394,11 +353,11 @@ keeps-submitted ready flying ready2 mtu flags body es new c inside queued others
     keeps-one ready flying ready2 flying es new c s (with_submitted mtu s flags body) one.1 (queued s one.1) others (λ i other lacks. lacks) (λ lacks. absurd (this lacks)) (λ lacks. h.grounded c s lacks one.1) h
 
 -- all that is late is due to go again, on channels that have something sent
-pub keeps-marked : (ready flying ready2 : ChannelSet) (bound now : ℕ) (es new : List SendingEnd) → new ≡ map (marked_end bound now) es → ((i : ℕ) → Lacks ready2 i → Lacks ready i × Lacks flying i) → KeepsSets ready flying es → KeepsSets ready2 flying new
-keeps-marked ready flying ready2 bound now es new is both h =
-    keeps-mapped ready2 flying (marked_end bound now) es new is
-    (λ i e lacks at. still-none (marked_end bound now e).sender (h.still i e (both i lacks).0 at).queued (ap (map (marked bound now)) (h.grounded i e (both i lacks).1 at)))
-    (λ i e lacks at. ap (map (marked bound now)) (h.grounded i e lacks at))
+pub keeps-marked : (ready flying ready2 : ChannelSet) (tick : Tick) (es new : List SendingEnd) → new ≡ map (marked_end tick) es → ((i : ℕ) → Lacks ready2 i → Lacks ready i × Lacks flying i) → KeepsSets ready flying es → KeepsSets ready2 flying new
+keeps-marked ready flying ready2 tick es new is both h =
+    keeps-mapped ready2 flying (marked_end tick) es new is
+    (λ i e lacks at. still-none (marked_end tick e).sender (h.still i e (both i lacks).0 at).queued (ap (map (marked tick)) (h.grounded i e (both i lacks).1 at)))
+    (λ i e lacks at. ap (map (marked tick)) (h.grounded i e lacks at))
 
 pub keeps-cleared : (ready flying : ChannelSet) (es new : List SendingEnd) → new ≡ map cleared_end es → KeepsSets ready flying new
 keeps-cleared ready flying es new is = keeps-mapped ready flying cleared_end es new is (λ i e lacks at. still-none (cleared_end e).sender refl refl) (λ i e lacks at. refl)

@@ -7,6 +7,7 @@ use Rattle.enet_seq.specs.Windows.{after, ahead}
 use Rattle.enet_rtt.specs.Clock.{elapsed_time}
 use Rattle.enet_rtt.specs.SendTimes.{no_sends, with_send, has_time}
 use Rattle.enet_rtt.specs.Transmission as transmission
+use Rattle.enet_rtt.specs.declared.transmission.Tick.{Tick}
 use Rattle.enet_rtt.specs.declared.expiry.Patience.{Patience}
 use Rattle.enet_rtt.specs.declared.expiry.Expiry.{Expiry}
 use Rattle.enet_rtt.specs.declared.expiry.Expiry.TheVariants.{No, Resend, End}
@@ -151,20 +152,20 @@ after_match c number (Some what) = after_acknowledgement c number
 abbrev pub is_late : ℕ → SentControl → Bool
 is_late now p = transmission.is_late now p.transmission
 
--- where it is late, it is due to go again, and waits longer then, as far as the bound lets timeouts grow
-abbrev pub marked : ℕ → ℕ → SentControl → SentControl
-marked bound now p = record p { transmission = transmission.marked bound now p.transmission }
+-- where it is late, it is due to go again, and has its next timeout then
+abbrev pub marked : Tick → SentControl → SentControl
+marked tick p = record p { transmission = transmission.marked tick p.transmission }
 
-abbrev pub with_marked : ℕ → ℕ → Commands → Commands
-with_marked bound now c = record c { sent = map (marked bound now) c.sent }
+abbrev pub with_marked : Tick → Commands → Commands
+with_marked tick c = record c { sent = map (marked tick) c.sent }
 
 -- where it is late, it counts as tried though nothing goes: it waits longer, from now on. The times of its sends stay
-abbrev pub held_back : ℕ → ℕ → SentControl → SentControl
-held_back bound now p =
-    if is_late now p then record p { transmission = transmission.again now (transmission.marked bound now p.transmission) } else p
+abbrev pub held_back : Tick → SentControl → SentControl
+held_back tick p =
+    if is_late tick.now p then record p { transmission = transmission.again tick.now (transmission.marked tick p.transmission) } else p
 
-abbrev pub with_held_back : ℕ → ℕ → Commands → Commands
-with_held_back bound now c = record c { sent = map (held_back bound now) c.sent }
+abbrev pub with_held_back : Tick → Commands → Commands
+with_held_back tick c = record c { sent = map (held_back tick) c.sent }
 
 -- so many milliseconds or more have passed since it first went
 abbrev pub has_waited : ℕ → ℕ → SentControl → Bool
@@ -181,10 +182,10 @@ lateness now patience heard c =
     else (if is_some (position (is_late now) c.sent) then Resend else No)
 
 -- the end changes nothing here
-abbrev pub after_lateness : Expiry → ℕ → ℕ → Commands → Commands
-after_lateness No bound now c = c
-after_lateness Resend bound now c = with_marked bound now c
-after_lateness End bound now c = c
+abbrev pub after_lateness : Expiry → Tick → Commands → Commands
+after_lateness No tick c = c
+after_lateness Resend tick c = with_marked tick c
+after_lateness End tick c = c
 
 -- all that is queued or sent is dropped, and the numbers stay
 abbrev pub cleared : Commands → Commands

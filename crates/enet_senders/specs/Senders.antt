@@ -1,8 +1,11 @@
 -- The channels of a peer: each key of theirs stands in one ring once, and there is no command that none of them names.
 use Rattle.std.specs.Prelude.{◌≡◌, ℕ, ◌<◌, false, List, [], map, All, sum_by, Option, None}
 use Rattle.slab.specs.Slab.{Slab, get}
+use Rattle.enet_rtt.specs.declared.transmission.Tick.{Tick}
+use Rattle.enet_sender.specs.declared.lateness.Late.{Late}
 use Rattle.enet_sender.specs.declared.sent.Sent.{Sent}
-use Rattle.enet_sender.specs.Sender.{Sender, with_marked, cleared}
+use Rattle.enet_sender.specs.Late.{capped}
+use Rattle.enet_sender.specs.Sender.{Sender, with_marked, late_bytes, late_price, lost_price, cleared}
 use Rattle.enet_sender.specs.Due.{SendingEnd}
 use Rattle.enet_sender.specs.declared.outgoing.Outgoing.{Outgoing}
 use Rattle.enet_sender.specs.declared.pending.Pending.{Pending}
@@ -14,8 +17,18 @@ abbrev pub ends_of : Slab Sent → List Outgoing → List SendingEnd
 ends_of s channels = map (end_of s) channels
 
 -- what is late there is due to go again
-abbrev pub marked_end : ℕ → ℕ → SendingEnd → SendingEnd
-marked_end bound now s = record s { sender = with_marked bound now s.sender }
+abbrev pub marked_end : Tick → SendingEnd → SendingEnd
+marked_end tick s = record s { sender = with_marked tick s.sender }
+
+-- what their sent commands weigh together
+abbrev pub sum_over : (Sent → ℕ) → List SendingEnd → ℕ
+sum_over weight senders = sum_by (λ (s : SendingEnd). sum_by weight s.sender.sent) senders
+
+-- the bytes and prices of what is late on all channels, and the prices of what was lost; each stops at the greatest number
+pub record IsLateOver (tick : Tick) (senders : List SendingEnd) (late : Late) : Type 0 where
+  pub bytes : late.bytes ≡ capped (sum_over (late_bytes tick) senders)
+  pub prices : late.prices ≡ capped (sum_over (late_price tick) senders)
+  pub lost : late.lost ≡ capped (sum_over (lost_price tick) senders)
 
 -- all that is queued or sent there is dropped
 abbrev pub cleared_end : SendingEnd → SendingEnd

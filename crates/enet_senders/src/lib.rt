@@ -4,8 +4,8 @@
 //! Contracts see the list of the channels' ends, as if each had lists of its own. Proved, each exactly by the definitions of
 //! `enet_sender`: `Senders::submit`, `next_due`, `skip` and `acknowledge` do what that call does on their channel, and leave
 //! every other as it was; `any_ends`, `any_late`, `have_no_packet` and `have_no_reliable` ask all channels; `count_sent_again` counts over
-//! all, also those of channel 0xFF; `mark` and `clear` do their work on each; `narrow` keeps the first ones. That each key stands in one ring once is an invariant, so no call
-//! asks it of its caller. `any_late`, `any_ends` and `mark` look only at commands whose timeout has passed, and `next_late` reads when
+//! all, also those of channel 0xFF; `mark` and `clear` do their work on each, and `mark` sums up what became late (`IsLateOver`); `narrow`
+//! keeps the first ones. That each key stands in one ring once is an invariant, so no call asks it of its caller. `any_late`, `any_ends` and `mark` look only at commands whose timeout has passed, and `next_late` reads when
 //! the first one's has (`Pending` of `enet_sender`). Two sets of channels are kept, of those that may have something to put out
 //! and of those that may have something sent: `have_no_packet` and `have_no_reliable` look at these alone.
 //! `next_ready` promises of each channel that it passes over that it has nothing queued, and nothing that is due to go again; where

@@ -13,7 +13,7 @@ use crate::queue::{
 };
 use crate::{Control, Numbered, SentControl};
 use enet_codec::Refusal;
-use enet_rtt::{Expiry, Patience};
+use enet_rtt::{Expiry, Patience, Tick};
 use enet_seq::after;
 use std::alloc::Global;
 use std::collections::VecDeque;
@@ -185,18 +185,17 @@ impl ControlChannel {
         Some(sent.command.control)
     }
 
-    /// What the moment `now` brings: `End` where a sent command has waited out its timeout and its peer, heard last at
-    /// `heard`, has timed out over it by `patience`, which changes nothing; else `Resend` where a sent command has waited out
-    /// its timeout: each such one is then due to go again, and waits twice as long, but no longer than `bound` milliseconds, or as
-    /// long as it did where that is longer; else `No` (our profile).
-    pub fn late(&mut self, now: u32, patience: &Patience, heard: u32, bound: u32) -> Expiry
-        ensures found { result ≡ lateness now patience.now heard self.old.commands }
-        ensures after { self.new.commands ≡ after_lateness result bound now self.old.commands }
+    /// What the moment `tick` brings: `End` where a sent command has waited out its timeout and its peer, heard last at
+    /// `tick.heard`, has timed out over it by `patience`, which changes nothing; else `Resend` where a sent command has waited out
+    /// its timeout: each such one is then due to go again, and has its next timeout (`Transmission::mark`); else `No` (our profile).
+    pub fn late(&mut self, tick: Tick, patience: &Patience) -> Expiry
+        ensures found { result ≡ lateness tick.now patience.now tick.heard self.old.commands }
+        ensures after { self.new.commands ≡ after_lateness result tick self.old.commands }
         ensures room { self.new.room ≡ self.old.room }
     {
-        let expiry = lateness(&self.sent, now, patience, heard);
+        let expiry = lateness(&self.sent, tick.now, patience, tick.heard);
         if expiry == Expiry::Resend {
-            mark(&mut self.sent, now, bound);
+            mark(&mut self.sent, tick);
         }
         expiry
     }
@@ -231,23 +230,22 @@ impl ControlChannel {
         count_sent_again(&self.sent, so_far)
     }
 
-    /// Each sent command that has waited out its timeout at the moment `now` is due to go again, and waits twice as long
-    /// then, but no longer than `bound` milliseconds, or as long as it did where that is longer (our profile).
-    pub fn mark(&mut self, now: u32, bound: u32)
-        ensures commands { self.new.commands ≡ with_marked bound now self.old.commands }
+    /// Each sent command that has waited out its timeout at the moment `tick` is due to go again, and has its next timeout
+    /// (`Transmission::mark`).
+    pub fn mark(&mut self, tick: Tick)
+        ensures commands { self.new.commands ≡ with_marked tick self.old.commands }
         ensures room { self.new.room ≡ self.old.room }
     {
-        mark(&mut self.sent, now, bound);
+        mark(&mut self.sent, tick);
     }
 
-    /// Each sent command that has waited out its timeout at the moment `now` counts as tried once more, though it doesn't go: it waits
-    /// twice as long from then on, but no longer than `bound` milliseconds, or as long as it did where that is longer (our profile). No
-    /// acknowledgement matches it by that moment.
-    pub fn hold_back(&mut self, now: u32, bound: u32)
-        ensures commands { self.new.commands ≡ with_held_back bound now self.old.commands }
+    /// Each sent command that has waited out its timeout at the moment `tick` counts as tried once more, though it doesn't go: it has its
+    /// next timeout (`Transmission::mark`), from then on. No acknowledgement matches it by that moment.
+    pub fn hold_back(&mut self, tick: Tick)
+        ensures commands { self.new.commands ≡ with_held_back tick self.old.commands }
         ensures room { self.new.room ≡ self.old.room }
     {
-        hold_back(&mut self.sent, now, bound);
+        hold_back(&mut self.sent, tick);
     }
 
     /// Whether at the moment `now` so many milliseconds have passed since a sent command first went.

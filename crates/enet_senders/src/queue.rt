@@ -15,7 +15,7 @@ ghost use Rattle.enet_senders.specs.Invariant.{KeepsRoom, room_of};
 
 use crate::{Numbered, SentControl};
 use enet_codec::write_command;
-use enet_rtt::{Expiry, Patience, SendTimes, Transmission, elapsed};
+use enet_rtt::{Expiry, Patience, SendTimes, Tick, Transmission, elapsed};
 use enet_seq::ahead;
 use std::collections::VecDeque;
 
@@ -190,35 +190,35 @@ pub fn count_sent_again(sent: &VecDeque<SentControl>, so_far: u64) -> u64
 
 /// Marks all that is late as due to go again.
 #[tactic(auto, using(crate::proofs::Marking::map_marked))]
-pub fn mark(sent: &mut VecDeque<SentControl>, now: u32, bound: u32)
-    ensures sent { sent.new.items ≡ map (marked bound now) sent.old.items }
+pub fn mark(sent: &mut VecDeque<SentControl>, tick: Tick)
+    ensures sent { sent.new.items ≡ map (marked tick) sent.old.items }
     ensures len { deque_len sent.new ≡ deque_len sent.old }
     ensures capacity { deque_capacity sent.new ≡ deque_capacity sent.old }
 {
     for place in 0..sent.len() {
-        sent[place].transmission.mark(now, bound);
+        sent[place].transmission.mark(tick);
     }
 }
 
 /// A command that is late counts as tried, though it doesn't go.
-fn hold_back_one(sent: &mut SentControl, now: u32, bound: u32)
-    ensures { sent.new ≡ held_back bound now sent.old }
+fn hold_back_one(sent: &mut SentControl, tick: Tick)
+    ensures { sent.new ≡ held_back tick sent.old }
 {
-    if sent.transmission.is_late(now) {
-        sent.transmission.mark(now, bound);
-        sent.transmission.send_again(now);
+    if sent.transmission.is_late(tick.now) {
+        sent.transmission.mark(tick);
+        sent.transmission.send_again(tick.now);
     }
 }
 
 /// All that is late counts as tried, though nothing goes.
 #[tactic(auto, using(crate::proofs::Marking::map_held_back))]
-pub fn hold_back(sent: &mut VecDeque<SentControl>, now: u32, bound: u32)
-    ensures sent { sent.new.items ≡ map (held_back bound now) sent.old.items }
+pub fn hold_back(sent: &mut VecDeque<SentControl>, tick: Tick)
+    ensures sent { sent.new.items ≡ map (held_back tick) sent.old.items }
     ensures len { deque_len sent.new ≡ deque_len sent.old }
     ensures capacity { deque_capacity sent.new ≡ deque_capacity sent.old }
 {
     for place in 0..sent.len() {
-        hold_back_one(&mut sent[place], now, bound);
+        hold_back_one(&mut sent[place], tick);
     }
 }
 

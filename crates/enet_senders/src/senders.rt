@@ -6,7 +6,7 @@ ghost use Rattle.enet_rtt.specs.Clock.{HappensIn};
 ghost use Rattle.enet_seq.specs.Numbering.{wire};
 ghost use Rattle.enet_fragment.specs.Cutting.{piece_count};
 ghost use Rattle.enet_sender.specs.CommandChoice.{fragment_limit};
-ghost use Rattle.enet_sender.specs.Sender.{after_match, acknowledged_bytes, next, with_skipped, ends, is_late, left};
+ghost use Rattle.enet_sender.specs.Sender.{after_match, acknowledged, next, with_skipped, ends, is_late, left};
 ghost use Rattle.enet_sender.specs.Due.{SendingEnd, Did, with_submitted, new_end};
 ghost use Rattle.enet_sender.specs.Waiting.{Waits};
 ghost use Rattle.enet_sender.specs.declared.outgoing.Outgoing.{Outgoing};
@@ -14,15 +14,15 @@ ghost use Rattle.enet_sender.specs.declared.sent.Sent.{Sent};
 ghost use Rattle.enet_sender.specs.Rings.{end_in, IsEmpty};
 ghost use Rattle.enet_sender.specs.Counting.{added};
 ghost use Rattle.enet_senders.specs.Counting.{count_over};
-ghost use Rattle.enet_senders.specs.Senders.{ends_in, IsStill, KeepsAllIn, marked_end, cleared_end};
+ghost use Rattle.enet_senders.specs.Senders.{ends_in, IsLateOver, IsStill, KeepsAllIn, marked_end, cleared_end};
 ghost use Rattle.enet_senders.specs.Sets.{Lacks};
 ghost use Rattle.enet_senders.specs.Private.Seeking.{Seek};
 
 use crate::channel_set::ChannelSet;
 use bytes::Bytes;
 use enet_codec::Refusal;
-use enet_rtt::Patience;
-use enet_sender::{Due, Occasion, Outgoing, Pending};
+use enet_rtt::{Patience, Tick};
+use enet_sender::{Acknowledged, Due, Late, Occasion, Outgoing, Pending};
 use std::alloc::Global;
 use std::marker::Model;
 
@@ -60,10 +60,10 @@ fn acknowledge_on(
     channel: u8,
     number: u16,
     time: u16,
-) -> Option<u32>
+) -> Option<Acknowledged>
     requires kept { KeepsAllIn pending.old channels.old.items }
     requires inside { channel < length channels.old.items }
-    ensures bytes { (s : SendingEnd) → slice_get (ends_in pending.old channels.old.items) channel ≡ Some s → result ≡ acknowledged_bytes s.sender number time }
+    ensures told { (s : SendingEnd) → slice_get (ends_in pending.old channels.old.items) channel ≡ Some s → result ≡ acknowledged s.sender number time }
     ensures ends { (s : SendingEnd) → slice_get (ends_in pending.old channels.old.items) channel ≡ Some s
         → ends_in pending.new channels.new.items ≡ slice_set (ends_in pending.old channels.old.items) channel (record s { sender = after_match s.sender number result }) }
     ensures kept { KeepsAllIn pending.new channels.new.items }
@@ -116,18 +116,12 @@ fn next_due_on(
 }
 
 /// Whether a channel surely has to wait.
-fn has_to_wait_on(
-    channels: &[Outgoing],
-    pending: &Pending,
-    channel: u8,
-    transit: u32,
-    most: u32,
-) -> bool
+fn has_to_wait_on(channels: &[Outgoing], pending: &Pending, channel: u8, occasion: Occasion) -> bool
     requires kept { KeepsAllIn pending.now channels.now }
     requires inside { channel < length channels.now }
-    ensures { (e : SendingEnd) → slice_get (ends_in pending.now channels.now) channel ≡ Some e → IsTrue result → Waits transit most e.sender }
+    ensures { (e : SendingEnd) → slice_get (ends_in pending.now channels.now) channel ≡ Some e → IsTrue result → Waits occasion e.sender }
 {
-    channels[usize::from(channel)].has_to_wait(pending, transit, most)
+    channels[usize::from(channel)].has_to_wait(pending, occasion)
 }
 
 /// The rest of a channel's unreliable packet is dropped: the other channels stay as they were.
@@ -162,13 +156,15 @@ fn seek_anew(channels: &mut Vec<Outgoing>)
 }
 
 /// What is late on any channel is due to go again.
-fn mark_late(channels: &mut Vec<Outgoing>, pending: &mut Pending, now: u32, bound: u32)
+fn mark_late(channels: &mut Vec<Outgoing>, pending: &mut Pending, tick: Tick) -> Late
     requires { KeepsAllIn pending.old channels.old.items }
-    ensures ends { ends_in pending.new channels.new.items ≡ map (marked_end bound now) (ends_in pending.old channels.old.items) }
+    ensures ends { ends_in pending.new channels.new.items ≡ map (marked_end tick) (ends_in pending.old channels.old.items) }
+    ensures late { IsLateOver tick (ends_in pending.old channels.old.items) result }
     ensures kept { KeepsAllIn pending.new channels.new.items }
 {
-    pending.mark_all(now, bound);
+    let late = pending.mark_all(tick);
     seek_anew(channels);
+    late
 }
 
 /// All that is queued or sent on any channel is dropped.
@@ -271,15 +267,15 @@ fn note_sent(channels: &[Outgoing], pending: &Pending, flying: &mut ChannelSet, 
     }
 }
 
-/// Nothing of a channel was due, nor is anything that was sent due to go again: where nothing is queued it leaves the set.
+/// Nothing of a channel went: where nothing is queued, and nothing that was sent is due to go again, it leaves the set.
 fn note_still(channels: &[Outgoing], pending: &Pending, ready: &mut ChannelSet, channel: u8)
     requires kept { KeepsAllIn pending.now channels.now }
     requires inside { channel < length channels.now }
-    requires none { (e : SendingEnd) → slice_get (ends_in pending.now channels.now) channel ≡ Some e → All (λ (p : Sent). p.transmission.due ≡ false) e.sender.sent }
     ensures this { (e : SendingEnd) → Lacks ready.new channel → slice_get (ends_in pending.now channels.now) channel ≡ Some e → IsStill e.sender ⊎ Lacks ready.old channel }
     ensures others { (i : ℕ) → i ≢ channel → Lacks ready.new i → Lacks ready.old i }
 {
-    if !channels[usize::from(channel)].left(pending).packets {
+    let sender = &channels[usize::from(channel)];
+    if !sender.left(pending).packets && !sender.may_be_due(pending) {
         ready.remove(channel);
     }
 }
@@ -374,14 +370,13 @@ impl Senders {
         due
     }
 
-    /// Whether a channel surely has to wait: nothing that is sent there is due to go again, and the head of its queue may not go yet, where
-    /// `transit` payload bytes of the peer are sent and unacknowledged, and `most` may be. Where it answers true, `next_due` with these
-    /// two answers `Nothing`; it may also answer false where nothing may go.
-    pub fn has_to_wait(&self, channel: u8, transit: u32, most: u32) -> bool
+    /// Whether a channel surely has to wait: nothing that is sent there is due to go again, and the head of its queue may not go yet.
+    /// Where it answers true, `next_due` answers `Nothing`; it may also answer false where nothing may go.
+    pub fn has_to_wait(&self, channel: u8, occasion: Occasion) -> bool
         requires { channel < length self.now }
-        ensures { (s : SendingEnd) → slice_get self.now channel ≡ Some s → IsTrue result → Waits transit most s.sender }
+        ensures { (s : SendingEnd) → slice_get self.now channel ≡ Some s → IsTrue result → Waits occasion s.sender }
     {
-        has_to_wait_on(&self.channels, &self.pending, channel, transit, most)
+        has_to_wait_on(&self.channels, &self.pending, channel, occasion)
     }
 
     /// The first channel from `from` on of which something may go. Those that are passed over have nothing queued, and nothing
@@ -402,16 +397,15 @@ impl Senders {
     }
 
     /// Takes out the one sent command of a channel with this number, where it was sent at this time, in milliseconds modulo 65,536, and
-    /// answers the bytes of its payload. None, with nothing changed, where no sent command has the number, or that one wasn't sent at the
-    /// time (our profile).
-    pub fn acknowledge(&mut self, channel: u8, number: u16, time: u16) -> Option<u32>
+    /// tells of it. None, with nothing changed, where no sent command has the number, or that one wasn't sent at the time (our profile).
+    pub fn acknowledge(&mut self, channel: u8, number: u16, time: u16) -> Option<Acknowledged>
         requires { channel < length self.old }
-        ensures bytes { (s : SendingEnd) → slice_get self.old channel ≡ Some s → result ≡ acknowledged_bytes s.sender number time }
+        ensures told { (s : SendingEnd) → slice_get self.old channel ≡ Some s → result ≡ acknowledged s.sender number time }
         ensures ends { (s : SendingEnd) → slice_get self.old channel ≡ Some s → self.new ≡ slice_set self.old channel (record s { sender = after_match s.sender number result }) }
     {
-        let bytes = acknowledge_on(&mut self.channels, &mut self.pending, channel, number, time);
+        let told = acknowledge_on(&mut self.channels, &mut self.pending, channel, number, time);
         note_sent(&self.channels, &self.pending, &mut self.flying, channel);
-        bytes
+        told
     }
 
     /// Whether at the moment `now`, in milliseconds, a sent command of a channel has waited out its timeout, and its peer,
@@ -455,13 +449,15 @@ impl Senders {
         count_each(&self.channels, &self.pending, so_far)
     }
 
-    /// All that is late at the moment `now`, in milliseconds, is due to go again, and waits twice as long then, but no longer than
-    /// `bound` milliseconds, or as long as it did where that is longer.
-    pub fn mark(&mut self, now: u32, bound: u32)
-        ensures { self.new ≡ map (marked_end bound now) self.old }
+    /// All that is late at the moment `tick` is due to go again, and has its next timeout (`Transmission::mark`); tells what it is
+    /// together. It looks only at commands whose timeout has passed.
+    pub fn mark(&mut self, tick: Tick) -> Late
+        ensures marked { self.new ≡ map (marked_end tick) self.old }
+        ensures late { IsLateOver tick self.old result }
     {
-        mark_late(&mut self.channels, &mut self.pending, now, bound);
+        let late = mark_late(&mut self.channels, &mut self.pending, tick);
         self.ready.join(&self.flying);
+        late
     }
 
     /// Whether no channel has a packet queued.

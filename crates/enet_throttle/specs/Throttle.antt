@@ -86,9 +86,9 @@ with_interval t interval acceleration deceleration =
 abbrev pub limited : Throttling → ℕ → Throttling
 limited t limit = record t { limit = min limit 32; value = min t.value (min limit 32) }
 
--- How many bytes of reliable packets may be in transit: the throttle's part of the window, at least the mtu.
+-- How many bytes of reliable packets may be in transit: of the window as much as the limit says, at least the mtu.
 abbrev pub transit : Throttling → ℕ → ℕ → ℕ
-transit t window mtu = max (t.value * window / 32) mtu
+transit t window mtu = max (t.limit * window / 32) mtu
 
 -- How many of the next packets go out, while the throttle stands still.
 unfoldable pub admitted_of : ℕ → Throttling → ℕ

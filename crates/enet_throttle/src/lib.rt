@@ -1,7 +1,7 @@
 //! The packet throttle, the size of a peer's window, and how a host shares its bandwidth.
 //!
 //! The throttle, 0 to 32, says how many unreliable and unsequenced packets go out, of 32 in a row one more than it says and
-//! all from 31 on; the rest is dropped. It also bounds how many bytes of reliable packets are in transit. Times are in
+//! all from 31 on; the rest is dropped. Its limit also bounds how many bytes of reliable packets are in transit. Times are in
 //! milliseconds, sizes in bytes, bandwidths in bytes per second.
 //!
 //! Proved: each move of the throttle, which packets it admits, the limit, the bytes in transit, windows and shares of

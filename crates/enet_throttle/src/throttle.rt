@@ -172,12 +172,12 @@ impl Throttle {
         self.value
     }
 
-    /// How many bytes of reliable packets may be in transit: of the window as much as the throttle says, and at
-    /// least the mtu (ENet 1.3).
+    /// How many bytes of reliable packets may be in transit: of the window as much as the throttle's limit says, and at
+    /// least the mtu. The throttle itself drops unreliable packets, and no more than that (our profile).
     pub fn transit_limit(&self, window: u32, mtu: u32) -> u32
         ensures { result ≡ transit self.now window mtu }
     {
-        let share = u64::from(self.value) * u64::from(window) / 32;
+        let share = u64::from(self.limit) * u64::from(window) / 32;
         (share as u32).max(mtu)
     }
 }

@@ -29,9 +29,9 @@ use Rattle.law_progress.specs.Outboxes.{WaitsForSome}
 use Rattle.law_progress.proofs.Ageing.{Aged}
 use Rattle.law_progress.proofs.Timed.{le-of, lt-of}
 use Rattle.law_progress.proofs.Waiting.{Each}
-use Rattle.enet_site.specs.Standing.{state_at}
+use Rattle.enet_site.specs.Standing.{peer_at, state_at}
 use Rattle.enet_world.specs.declared.calm.Calm.{Calm}
-use Rattle.enet_world.specs.Alone.{HasLeft, IsLeftAlone, TellsAlone}
+use Rattle.enet_world.specs.Alone.{HasLeft, IsLeftAlone, TellsAlone, queued_at, queued_in}
 use Rattle.enet_world.specs.Calm.{Round, Rounds}
 use Rattle.enet_world.specs.Ended.{share_of, is_ending}
 use Rattle.enet_world.specs.Worlds.{passed_by, passed_by_rounds}
@@ -40,12 +40,14 @@ use Rattle.enet_world.proofs.EndsAreTold.{IsHere, Begins, begins, told-so, round
 use Rattle.enet_world.proofs.Habits.{Habit, HostHabits, habits-in, clock-sum}
 use Rattle.enet_world.proofs.InRounds.{clock_at, Keeps, no-more, keeps-all}
 use Rattle.enet_world.proofs.Lasting.{is_past}
+use Rattle.enet_world.proofs.Modest.{IsModest}
+use Rattle.enet_world.proofs.Pings.{IsLone, is_ping}
 use Rattle.enet_world.proofs.LeftAlone.{IsSilentAt, Lone, Past, IsPastIn, lone-so, named-lone, past-step, At, near-out, far-out, near-takes, far-takes, tick-near, far-tick}
 use Rattle.enet_world.proofs.Reaching.{reached-step, reached-on}
-use Rattle.enet_world.proofs.StillSent.{HasControl, StillWaits, some-waits}
+use Rattle.enet_world.proofs.StillSent.{HasControl}
 use Rattle.enet_world.proofs.Through.{IsConnected, connected-at, end-has, shown-end-of, tick-clock, kept-round, reached-ticked, ticked-clocks, round-clocks, round-by}
 use Rattle.enet_world.proofs.TwoEnds.{from_start, sound, host-at}
-use Rattle.enet_world.proofs.Unanswered.{AllRest, Goes, Quiet, Asks, Waits, Pings, Old, old-now, stays-quiet, is-asked, still-waits}
+use Rattle.enet_world.proofs.Unanswered.{Goes, HasFew, Quiet, Sending, Waits, WaitsOn, Pings, both-go, stays-few, spends, waits-now, stays-quiet, is-asked, still-waits}
 use Rattle.enet_world.proofs.Untouched.{is_up}
 use Rattle.enet_world.proofs.UntouchedEnd.{IsEither, weaker}
 
@@ -132,44 +134,48 @@ lone-round joined P Q R x ms B told w v g d uncut r k = by (tick-near joined P Q
 -- ---- how far it has come after n rounds of d milliseconds each, at most a minute, before which so much time had passed
 -- nothing reliable is left, and it isn't to be pinged yet
 record Idle (d n c : ℕ) (p : Peering) : Type 0 where
-  rests : AllRest p
   done : is_done p.outbox ≡ true
   short : (n ≡ 1) ⊎ ((elapsed_time c p.heard < 500) × (n * d ≤ elapsed_time c p.heard + 2 * d))
 
--- something waits
-record Awaits (d n passed c : ℕ) (p : Peering) : Type 0 where
+-- something waits, and at first so many commands were queued
+record Awaits (d n passed most c : ℕ) (p : Peering) : Type 0 where
   since : ℕ
   now : ℕ
   time : ℕ
+  left : ℕ
   clock : c ≡ now % 2 ^ 32
-  waits : Waits since now time p
-  begun : n * d + since ≤ now + (500 + 3 * d)
+  waits : Waits since now time left p
+  begun : n * d + since + 90000 * left ≤ now + (500 + 3 * d) + 90000 * most
   within : time ≤ passed + 2 * (n * d)
 
-abbrev Stage : (d n passed c : ℕ) → Peering → Type 0
-Stage d n passed c p = (n ≡ 0) ⊎ (Idle d n c p ⊎ Awaits d n passed c p)
+abbrev Comes : (d n passed most c : ℕ) → Peering → Type 0
+Comes d n passed most c p = (n ≡ 0) ⊎ (Idle d n c p ⊎ Awaits d n passed most c p)
 
-stage-brief : (d n passed c : ℕ) (p : Peering) → 0 < d → Stage d n passed c p → n * d < 90500 + 3 * d
-stage-brief d n passed c p some (inl none) = let z : n * d ≡ 0 * d = ap (λ m. m * d) none in omega arith
-stage-brief d n passed c p some (inr (inl k)) = elim k.short [
+abbrev Stage : (d n passed most c : ℕ) → Peering → Type 0
+Stage d n passed most c p = Comes d n passed most c p × HasFew most p
+
+stage-brief : (d n passed most c : ℕ) (p : Peering) → 0 < d → Comes d n passed most c p → n * d < 90500 + 90000 * most + 3 * d
+stage-brief d n passed most c p some (inl none) = let z : n * d ≡ 0 * d = ap (λ m. m * d) none in omega arith
+stage-brief d n passed most c p some (inr (inl k)) = elim k.short [
   | inl one ↦ (let z : n * d ≡ 1 * d = ap (λ m. m * d) one in omega arith)
   | inr e ↦ (let x = e.0 in let y = e.1 in omega arith)
 ]
-stage-brief d n passed c p some (inr (inr k)) = (let b = k.begun in let w = k.waits in let x = w.brief in omega arith)
+stage-brief d n passed most c p some (inr (inr k)) = (let b = k.begun in let w = k.waits in let x = w.brief in omega arith)
 
 -- what a peer that is left alone has kept
 lone-habit : (passed : ℕ) (w : World) (x : ℕ) (side : Side) (P : Peering → Type 0) → (k : Lone P w x side) → (a : HostHabits passed (site_of w side).host) → Habit a.now passed k.p
 lone-habit passed w x side P k a = a.peers k.ends.e.name k.p (named-lone P w x side k)
 
 -- something waits from now on
-awaits-now : (d n before passed : ℕ) (joined : Bool) (w : World) (x : ℕ) (side : Side) (P : Peering → Type 0) → IsReachedIn passed joined w → passed < 4294967295 → passed ≤ before + 2 * (n * d) → n * d ≤ 500 + 3 * d → (k : Lone P w x side) → AllRest k.p → WaitsForSome k.p.outbox
-    → Awaits d n before (clock_at w side) k.p
-awaits-now d n before passed joined w x side P r low within few k rests some = record {
+awaits-now : (d n before passed most : ℕ) (joined : Bool) (w : World) (x : ℕ) (side : Side) (P : Peering → Type 0) → IsReachedIn passed joined w → passed < 4294967295 → passed ≤ before + 2 * (n * d) → n * d ≤ 500 + 3 * d → (k : Lone P w x side)
+    → k.p.outbox.control.queued ≡ [] → HasFew most k.p → WaitsForSome k.p.outbox → Awaits d n before most (clock_at w side) k.p
+awaits-now d n before passed most joined w x side P r low within short k spent few some = record {
   since = a.now;
   now = a.now;
   time = passed;
+  left = most;
   clock = a.clock;
-  waits = record { rests = rests; waits = some-waits (Old a.now a.now passed) k.p.outbox each some; brief = omega arith };
+  waits = waits-now a.now passed most k.p spent aged few some;
   begun = omega arith;
   within = within;
 }
@@ -180,8 +186,20 @@ awaits-now d n before passed joined w x side P r low within few k rests some = r
     aged : Each (Aged a.now passed) k.p.outbox.control.sent k.p.outbox.senders
     aged = (let h = lone-habit passed w x side P k a in let fair = h.aged (omega arith) in fair.0)
 
-    each : Each (Old a.now a.now passed) k.p.outbox.control.sent k.p.outbox.senders
-    each = ((λ t h. old-now a.now passed t.transmission (aged.0 t h)), (λ s h t j. old-now a.now passed t.transmission (aged.1 s h t j)))
+-- with what holds of it, it has a PING at most, and not more queued than at first
+abbrev With : ℕ → (Peering → Type 0) → Peering → Type 0
+With most P p = P p × (IsModest p × HasFew most p)
+
+abbrev WithPings : ℕ → (Peering → Type 0) → Peering → Type 0
+WithPings most Q p = Q p × (IsLone is_ping p.outbox.control × HasFew most p)
+
+abbrev WithNone : ℕ → (Peering → Type 0) → Peering → Type 0
+WithNone most R p = R p × ((p.outbox.control.queued ≡ []) × HasFew most p)
+
+with-few : (n most : ℕ) (P Q R : Peering → Type 0) → Goes n P Q R → Goes n (With most P) (WithPings most Q) (WithNone most R)
+with-few n most P Q R g =
+    both-go n P Q R (λ p. IsModest p × HasFew most p) (λ p. IsLone is_ping p.outbox.control × HasFew most p) (λ p. (p.outbox.control.queued ≡ []) × HasFew most p) g
+    (both-go n IsModest (λ p. IsLone is_ping p.outbox.control) (λ p. p.outbox.control.queued ≡ []) (HasFew most) (HasFew most) (HasFew most) (spends n) (stays-few n most))
 
 -- clocks
 later : (c now d : ℕ) → c ≡ now % 2 ^ 32 → (c + d) % 2 ^ 32 ≡ (now + d) % 2 ^ 32
@@ -190,8 +208,8 @@ later c now d e = ap (λ m. (m + d) % 2 ^ 32) e ∙ clock-sum now d
 elapsed-later : (c h d : ℕ) → h < 2 ^ 32 → d ≤ 60000 → elapsed_time c h < 500 → elapsed_time ((c + d) % 2 ^ 32) h ≡ elapsed_time c h + d
 elapsed-later c h d low small short = omega arith
 
-low-of : (n ms passed d : ℕ) → d ≡ min ms 60000 → passed < 4293000000 → n * d < 90500 + 4 * d → passed_by_rounds n ms passed < 4294967295
-low-of n ms passed d is early few = (let m : passed_by_rounds n ms passed ≤ passed + 2 * (n * d) = subst (λ k. passed_by_rounds n ms passed ≤ passed + 2 * (n * k)) (sym is) (passed-most n ms passed) in let small : d ≤ 60000 = at-most ms d is in omega arith)
+low-of : (n ms passed most d : ℕ) → d ≡ min ms 60000 → passed + 180000 * most < 4293000000 → n * d < 90500 + 90000 * most + 4 * d → passed_by_rounds n ms passed < 4294967295
+low-of n ms passed most d is early few = (let m : passed_by_rounds n ms passed ≤ passed + 2 * (n * d) = subst (λ k. passed_by_rounds n ms passed ≤ passed + 2 * (n * k)) (sym is) (passed-most n ms passed) in let small : d ≤ 60000 = at-most ms d is in omega arith)
   where
     at-most : (a b : ℕ) → b ≡ min a 60000 → b ≤ 60000
     at-most a b e = grind arith
@@ -203,9 +221,9 @@ one-round d n e = ap (λ m. suc m * d) e ∙ one d
     one : (k : ℕ) → 1 * k ≡ k
     one k = omega arith
 
-stage-round : (joined : Bool) (n ms passed x : ℕ) (side : Side) (told : Calm) (w v : World) → 0 < min ms 60000 → passed < 4293000000 → Round ms told w v → (share_of told side).cut_short ≡ 0 → IsReachedIn (passed_by_rounds n ms passed) joined w → IsReachedIn (passed_by_rounds (suc n) ms passed) joined v
-    → Lone (Stage (min ms 60000) n passed (clock_at w side)) w x side → Lone (Stage (min ms 60000) (suc n) passed (clock_at v side)) v x side ⊎ Past v x side
-stage-round joined n ms passed x side told w v some early round uncut r r_v k = by k.holds
+stage-round : (joined : Bool) (n ms passed most x : ℕ) (side : Side) (told : Calm) (w v : World) → 0 < min ms 60000 → passed + 180000 * most < 4293000000 → Round ms told w v → (share_of told side).cut_short ≡ 0 → IsReachedIn (passed_by_rounds n ms passed) joined w
+    → IsReachedIn (passed_by_rounds (suc n) ms passed) joined v → Lone (Stage (min ms 60000) n passed most (clock_at w side)) w x side → Lone (Stage (min ms 60000) (suc n) passed most (clock_at v side)) v x side ⊎ Past v x side
+stage-round joined n ms passed most x side told w v some early round uncut r r_v k = by k.holds.0
   where
     d : ℕ
     d = min ms 60000
@@ -228,44 +246,49 @@ stage-round joined n ms passed x side told w v some early round uncut r r_v k = 
     more : suc n * d ≡ n * d + d
     more = more-rounds n d
 
-    brief : n * d < 90500 + 3 * d
-    brief = stage-brief d n passed (clock_at w side) k.p some k.holds
+    brief : n * d < 90500 + 90000 * most + 3 * d
+    brief = stage-brief d n passed most (clock_at w side) k.p some k.holds.0
 
     low : passed_by_rounds n ms passed < 4294967295
-    low = low-of n ms passed d refl early (let b = brief in omega arith)
+    low = low-of n ms passed most d refl early (let b = brief in omega arith)
 
     low_v : passed_by_rounds (suc n) ms passed < 4294967295
-    low_v = low-of (suc n) ms passed d refl early (let m = more in let b = brief in omega arith)
+    low_v = low-of (suc n) ms passed most d refl early (let m = more in let b = brief in omega arith)
 
     a : HostHabits (passed_by_rounds n ms passed) (site_of w side).host
     a = habits-in (passed_by_rounds n ms passed) joined w r low side
 
     habit : Habit a.now (passed_by_rounds n ms passed) k.p
-    habit = lone-habit (passed_by_rounds n ms passed) w x side (Stage d n passed (clock_at w side)) k a
+    habit = lone-habit (passed_by_rounds n ms passed) w x side (Stage d n passed most (clock_at w side)) k a
 
     After : Type 0
-    After = Lone (Stage d (suc n) passed (clock_at v side)) v x side ⊎ Past v x side
+    After = Lone (Stage d (suc n) passed most (clock_at v side)) v x side ⊎ Past v x side
 
-    waits-now : (R : Peering → Type 0) (l : Lone R v x side) → suc n * d ≤ 500 + 3 * d → AllRest l.p → WaitsForSome l.p.outbox → Lone (Stage d (suc n) passed (clock_at v side)) v x side
-    waits-now R l few rests w' = lone-so R (Stage d (suc n) passed (clock_at v side)) v x side l
-        (inr (inr (awaits-now d (suc n) passed (passed_by_rounds (suc n) ms passed) joined v x side R r_v low_v (passed-most (suc n) ms passed) few l rests w')))
+    -- a round, of what holds of it
+    next : (P Q R : Peering → Type 0) → Goes c P Q R → P k.p → Lone (WithNone most R) v x side ⊎ Past v x side
+    next P Q R g h = lone-round joined (With most P) (WithPings most Q) (WithNone most R) x ms side told w v (with-few c most P Q R g) round uncut r.reached
+        (lone-so (Stage d n passed most (clock_at w side)) (With most P) w x side k (h, (habit.modest, k.holds.1)))
 
-    quiet : (l : Lone (Quiet h) v x side) → suc n * d ≤ 500 + 3 * d → (suc n ≡ 1) ⊎ ((elapsed_time c h < 500) × (suc n * d ≤ elapsed_time c h + 2 * d)) → Lone (Stage d (suc n) passed (clock_at v side)) v x side
-    quiet l few short = left l.holds.left
+    waits-from : (R : Peering → Type 0) (l : Lone (WithNone most R) v x side) → suc n * d ≤ 500 + 3 * d → WaitsForSome l.p.outbox → Lone (Stage d (suc n) passed most (clock_at v side)) v x side
+    waits-from R l few w' = lone-so (WithNone most R) (Stage d (suc n) passed most (clock_at v side)) v x side l
+        (inr (inr (awaits-now d (suc n) passed (passed_by_rounds (suc n) ms passed) most joined v x side (WithNone most R) r_v low_v (passed-most (suc n) ms passed) few l l.holds.1.0 l.holds.1.1 w')), l.holds.1.1)
+
+    quiet : (l : Lone (WithNone most (Quiet h)) v x side) → suc n * d ≤ 500 + 3 * d → (suc n ≡ 1) ⊎ ((elapsed_time c h < 500) × (suc n * d ≤ elapsed_time c h + 2 * d)) → Lone (Stage d (suc n) passed most (clock_at v side)) v x side
+    quiet l few short = left l.holds.0.left
       where
         there : (suc n ≡ 1) ⊎ ((elapsed_time (clock_at v side) l.p.heard < 500) × (suc n * d ≤ elapsed_time (clock_at v side) l.p.heard + 2 * d))
         there = subst (λ m. (suc n ≡ 1) ⊎ ((elapsed_time m l.p.heard < 500) × (suc n * d ≤ elapsed_time m l.p.heard + 2 * d))) (sym clock)
-            (subst (λ m. (suc n ≡ 1) ⊎ ((elapsed_time c m < 500) × (suc n * d ≤ elapsed_time c m + 2 * d))) (sym l.holds.silent) short)
+            (subst (λ m. (suc n ≡ 1) ⊎ ((elapsed_time c m < 500) × (suc n * d ≤ elapsed_time c m + 2 * d))) (sym l.holds.0.silent) short)
 
-        left : (is_done l.p.outbox ≡ true) ⊎ WaitsForSome l.p.outbox → Lone (Stage d (suc n) passed (clock_at v side)) v x side
-        left (inl done) = lone-so (Quiet h) (Stage d (suc n) passed (clock_at v side)) v x side l (inr (inl (record { rests = l.holds.rests; done = done; short = there })))
-        left (inr some') = waits-now (Quiet h) l few l.holds.rests some'
+        left : (is_done l.p.outbox ≡ true) ⊎ WaitsForSome l.p.outbox → Lone (Stage d (suc n) passed most (clock_at v side)) v x side
+        left (inl done) = lone-so (WithNone most (Quiet h)) (Stage d (suc n) passed most (clock_at v side)) v x side l (inr (inl (record { done = done; short = there })), l.holds.1.1)
+        left (inr some') = waits-from (Quiet h) l few some'
 
     Silent : Peering → Type 0
     Silent p = p.heard ≡ h
 
     still : (suc n * d ≤ 500 + 3 * d) → (suc n ≡ 1) ⊎ ((elapsed_time c h < 500) × (suc n * d ≤ elapsed_time c h + 2 * d)) → After
-    still few short = elim (lone-round joined Silent Silent (Quiet h) x ms side told w v (stays-quiet c h) round uncut r.reached (lone-so (Stage d n passed (clock_at w side)) Silent w x side k refl)) [
+    still few short = elim (next Silent Silent (Quiet h) (stays-quiet c h) refl) [
       | inl l ↦ inl (quiet l few short)
       | inr past ↦ inr past
     ]
@@ -277,11 +300,10 @@ stage-round joined n ms passed x side told w v some early round uncut r r_v k = 
     ]
 
     idle : Idle d n (clock_at w side) k.p → (b : Bool) → leb 500 (elapsed_time c h) ≡ b → After
-    idle i true e = elim (lone-round joined (Pings c) (λ p. HasControl p.outbox.control) Asks x ms side told w v (is-asked c) round uncut r.reached
-        (lone-so (Stage d n passed (clock_at w side)) (Pings c) w x side k (record { done = i.done; interval = habit.unset.1; long = le-of 500 (elapsed_time c h) e }))) [
-          | inl l ↦ inl (waits-now Asks l (few-idle i) l.holds.rests l.holds.waits)
-          | inr past ↦ inr past
-        ]
+    idle i true e = elim (next (Pings c) (λ p. HasControl p.outbox.control) (λ p. WaitsForSome p.outbox) (is-asked c) (record { done = i.done; interval = habit.unset.1; long = le-of 500 (elapsed_time c h) e })) [
+      | inl l ↦ inl (waits-from (λ p. WaitsForSome p.outbox) l (few-idle i) l.holds.0)
+      | inr past ↦ inr past
+    ]
     idle i false e = still (few-idle i) (inr (
       lt-of 500 (elapsed_time c h) e,
       elim i.short [
@@ -290,17 +312,9 @@ stage-round joined n ms passed x side told w v some early round uncut r r_v k = 
       ],
     ))
 
-    awaits : Awaits d n passed (clock_at w side) k.p → After
-    awaits u = elim (lone-round joined _ _ (Waits u.since (u.now + d) (u.time + d)) x ms side told w v goes round uncut r.reached (lone-so (Stage d n passed (clock_at w side)) _ w x side k (u.waits, patient))) [
-      | inl l ↦ inl (lone-so (Waits u.since (u.now + d) (u.time + d)) (Stage d (suc n) passed (clock_at v side)) v x side l (inr (inr (record {
-        since = u.since;
-        now = u.now + d;
-        time = u.time + d;
-        clock = clock ∙ later (clock_at w side) u.now d u.clock;
-        waits = l.holds;
-        begun = (let b = u.begun in let m = more in omega arith);
-        within = (let b = u.within in let m = more in omega arith);
-      }))))
+    awaits : Awaits d n passed most (clock_at w side) k.p → After
+    awaits u = elim (next (λ p. Waits u.since u.now u.time u.left p × (p.patience.maximum ≡ 30000)) (Sending u.since (u.now + d) (u.time + d) u.left) (WaitsOn u.since (u.now + d) (u.time + d) u.left) goes (u.waits, patient)) [
+      | inl l ↦ inl (lone-so (WithNone most (WaitsOn u.since (u.now + d) (u.time + d) u.left)) (Stage d (suc n) passed most (clock_at v side)) v x side l (inr (inr (on l.p l.holds.0)), l.holds.1.1))
       | inr past ↦ inr past
     ]
       where
@@ -310,34 +324,60 @@ stage-round joined n ms passed x side told w v some early round uncut r r_v k = 
         near : u.time + d < 2 ^ 32
         near = (let b = brief in let t = u.within in let s = small in omega arith)
 
-        goes : Goes c (λ p. Waits u.since u.now u.time p × (p.patience.maximum ≡ 30000)) (λ p. StillWaits (Old u.since (u.now + d) (u.time + d)) p.outbox × (u.now + d < u.since + 90000)) (Waits u.since (u.now + d) (u.time + d))
-        goes = subst (λ m. Goes m (λ p. Waits u.since u.now u.time p × (p.patience.maximum ≡ 30000)) (λ p. StillWaits (Old u.since (u.now + d) (u.time + d)) p.outbox × (u.now + d < u.since + 90000)) (Waits u.since (u.now + d) (u.time + d)))
-            (sym (later (clock_at w side) u.now d u.clock)) (still-waits u.since u.now u.time d near)
+        goes : Goes c (λ p. Waits u.since u.now u.time u.left p × (p.patience.maximum ≡ 30000)) (Sending u.since (u.now + d) (u.time + d) u.left) (WaitsOn u.since (u.now + d) (u.time + d) u.left)
+        goes = subst (λ m. Goes m (λ p. Waits u.since u.now u.time u.left p × (p.patience.maximum ≡ 30000)) (Sending u.since (u.now + d) (u.time + d) u.left) (WaitsOn u.since (u.now + d) (u.time + d) u.left))
+            (sym (later (clock_at w side) u.now d u.clock)) (still-waits u.since u.now u.time d u.left near)
 
-    by : Stage d n passed (clock_at w side) k.p → After
+        clock_then : clock_at v side ≡ (u.now + d) % 2 ^ 32
+        clock_then = clock ∙ later (clock_at w side) u.now d u.clock
+
+        -- it waits on, or less is queued than before
+        on : (p : Peering) → WaitsOn u.since (u.now + d) (u.time + d) u.left p → Awaits d (suc n) passed most (clock_at v side) p
+        on p (inl waits) = record {
+          since = u.since;
+          now = u.now + d;
+          time = u.time + d;
+          left = u.left;
+          clock = clock_then;
+          waits = waits;
+          begun = (let b = u.begun in let m = more in omega arith);
+          within = (let b = u.within in let m = more in omega arith);
+        }
+        on p (inr (less, fewer, soon, waits)) = record {
+          since = u.now + d;
+          now = u.now + d;
+          time = u.time + d;
+          left = less;
+          clock = clock_then;
+          waits = waits;
+          begun = (let b = u.begun in let m = more in omega arith);
+          within = (let b = u.within in let m = more in omega arith);
+        }
+
+    by : Comes d n passed most (clock_at w side) k.p → After
     by (inl none) = still (let o : suc n * d ≡ d = one-round d n none in omega arith) (inl (ap suc none))
     by (inr (inl i)) = idle i (leb 500 (elapsed_time c h)) refl
     by (inr (inr u)) = awaits u
 
 -- ---- rounds
-after-rounds : (joined : Bool) (n ms passed x : ℕ) (side : Side) (told : Calm) (w v : World) → 0 < min ms 60000 → passed < 4293000000 → Rounds ms n told w v → (share_of told side).cut_short ≡ 0 → IsReachedIn passed joined w → Lone (λ p. Unit {0}) w x side
-    → IsReachedIn (passed_by_rounds n ms passed) joined v × (Lone (Stage (min ms 60000) n passed (clock_at v side)) v x side ⊎ Past v x side)
-after-rounds joined zero ms passed x side told w v some early d uncut r k = (
+after-rounds : (joined : Bool) (n ms passed most x : ℕ) (side : Side) (told : Calm) (w v : World) → 0 < min ms 60000 → passed + 180000 * most < 4293000000 → Rounds ms n told w v → (share_of told side).cut_short ≡ 0 → IsReachedIn passed joined w → Lone (HasFew most) w x side
+    → IsReachedIn (passed_by_rounds n ms passed) joined v × (Lone (Stage (min ms 60000) n passed most (clock_at v side)) v x side ⊎ Past v x side)
+after-rounds joined zero ms passed most x side told w v some early d uncut r k = (
   subst (IsReachedIn passed joined) (sym d.1) r,
-  inl (subst (λ (u : World). Lone (Stage (min ms 60000) 0 passed (clock_at u side)) u x side) (sym d.1) (lone-so (λ p. Unit {0}) (Stage (min ms 60000) 0 passed (clock_at w side)) w x side k (inl refl))),
+  inl (subst (λ (u : World). Lone (Stage (min ms 60000) 0 passed most (clock_at u side)) u x side) (sym d.1) (lone-so (HasFew most) (Stage (min ms 60000) 0 passed most (clock_at w side)) w x side k (inl refl, k.holds))),
 )
-after-rounds joined (suc n) ms passed x side told w v some early d uncut r k = on (after-rounds joined n ms passed x side d.0 w d.2 some early d.3 cuts.0 r k)
+after-rounds joined (suc n) ms passed most x side told w v some early d uncut r k = on (after-rounds joined n ms passed most x side d.0 w d.2 some early d.3 cuts.0 r k)
   where
     cuts : ((share_of d.0 side).cut_short ≡ 0) × ((share_of d.1 side).cut_short ≡ 0)
     cuts = uncut-parts (share_of d.0 side) (share_of d.1 side) (share_of told side) (share-is told d.0 d.1 d.5 side) uncut
 
-    on : IsReachedIn (passed_by_rounds n ms passed) joined d.2 × (Lone (Stage (min ms 60000) n passed (clock_at d.2 side)) d.2 x side ⊎ Past d.2 x side)
-        → IsReachedIn (passed_by_rounds (suc n) ms passed) joined v × (Lone (Stage (min ms 60000) (suc n) passed (clock_at v side)) v x side ⊎ Past v x side)
+    on : IsReachedIn (passed_by_rounds n ms passed) joined d.2 × (Lone (Stage (min ms 60000) n passed most (clock_at d.2 side)) d.2 x side ⊎ Past d.2 x side)
+        → IsReachedIn (passed_by_rounds (suc n) ms passed) joined v × (Lone (Stage (min ms 60000) (suc n) passed most (clock_at v side)) v x side ⊎ Past v x side)
     on so_far =
         let r_v : IsReachedIn (passed_by_rounds (suc n) ms passed) joined v = in-round (passed_by_rounds n ms passed) joined ms d.1 d.2 v d.4 so_far.0 in (
           r_v,
           elim so_far.1 [
-            | inl lone ↦ stage-round joined n ms passed x side d.1 d.2 v some early d.4 cuts.1 so_far.0 r_v lone
+            | inl lone ↦ stage-round joined n ms passed most x side d.1 d.2 v some early d.4 cuts.1 so_far.0 r_v lone
             | inr past ↦ inr (let p = round-by (IsPastIn joined x side) (past-step joined x side) ms d.1 d.2 v d.4 (so_far.0.reached, past) in p.1)
           ],
         )
@@ -402,7 +442,7 @@ left-end w x side (inr (name, called, none)) =
     let f = named-end (site_of w side) x name called in
     record { e = f.0; there = f.1; silent = λ far shows. inl (none-left (site_of w side) x f.0 far f.1 none shows (there-or (site_of w side).host f.0.name shows.peer shows.shows)) }
 
-lone-first : (joined : Bool) (w : World) (x : ℕ) (side : Side) → IsReached joined w → IsLeftAlone w x side → Lone (λ p. Unit {0}) w x side
+lone-first : (joined : Bool) (w : World) (x : ℕ) (side : Side) → IsReached joined w → IsLeftAlone w x side → Lone (HasFew (queued_at w x side)) w x side
 lone-first joined w x side r k = record {
   own = v.own;
   far = v.far;
@@ -410,7 +450,7 @@ lone-first joined w x side r k = record {
   p = a.stands.peer;
   is = shows.has ∙ ap Some (same-peer (site_of w side).host a.stands.end.name shows.peer a.stands.peer shows.shows a.stands.is);
   on = a.connected;
-  holds = tt;
+  holds = (let e = ap queued_in standing in omega arith);
   gone = f.silent v.far shows_far;
 }
   where
@@ -419,6 +459,10 @@ lone-first joined w x side r k = record {
 
     a : IsConnected (site_of w side) x
     a = connected-at (site_of w side) x k.connected
+
+    -- the peer that stands there
+    standing : peer_at (site_of w side) x ≡ Some a.stands.peer
+    standing = ap (λ (o : Option HostEnd). option_and_then (λ (e : HostEnd). named (site_of w side).host.slots e.name) o) a.stands.there ∙ a.stands.is
 
     at : Has (site_of w side).ends a.stands.end × (a.stands.end.connection ≡ x)
     at = end-has (site_of w side).ends x a.stands.end a.stands.there
@@ -467,21 +511,21 @@ ends-past joined was w x side r d (inl k) = inl (record { e = k.e; there = k.the
     past : is_past k.p.state ≡ true
     past = ap (λ (p : Peering). is_past p.state) (same-some k.p d.past.0 (sym own ∙ d.past.1)) ∙ d.past.2
 
-long-enough : (d m : ℕ) → 0 < d → 90500 / d + 4 ≤ m → 90500 + 3 * d ≤ m * d
-long-enough d m some few =
-    let whole : 90500 / d * d + 90500 % d ≡ 90500 = div-add-mod' 90500 d in
-    let inside : 90500 % d < d = mod-lt 90500 some in
-    let most : (90500 / d + 4) * d ≤ m * d = mul-le-mul_right d few in
-    let parts : (90500 / d + 4) * d ≡ 90500 / d * d + 4 * d = spread (90500 / d) d in
+long-enough : (all d m : ℕ) → 0 < d → all / d + 4 ≤ m → all + 3 * d ≤ m * d
+long-enough all d m some few =
+    let whole : all / d * d + all % d ≡ all = div-add-mod' all d in
+    let inside : all % d < d = mod-lt all some in
+    let most : (all / d + 4) * d ≤ m * d = mul-le-mul_right d few in
+    let parts : (all / d + 4) * d ≡ all / d * d + 4 * d = spread (all / d) d in
     omega arith
   where
     spread : (q k : ℕ) → (q + 4) * k ≡ q * k + 4 * k
     spread q k = omega arith
 
-is-past-then : (joined : Bool) (n ms passed x : ℕ) (side : Side) (told : Calm) (w v : World) → 0 < min ms 60000 → passed < 4293000000 → Rounds ms n told w v → (share_of told side).cut_short ≡ 0 → IsReachedIn passed joined w → Lone (λ p. Unit {0}) w x side
-    → 90500 + 3 * min ms 60000 ≤ n * min ms 60000 → Past v x side
-is-past-then joined n ms passed x side told w v some early d uncut r k long = (let h = after-rounds joined n ms passed x side told w v some early d uncut r k in elim h.1 [
-  | inl l ↦ absurd (let b = stage-brief (min ms 60000) n passed (clock_at v side) l.p some l.holds in omega arith)
+is-past-then : (joined : Bool) (n ms passed most x : ℕ) (side : Side) (told : Calm) (w v : World) → 0 < min ms 60000 → passed + 180000 * most < 4293000000 → Rounds ms n told w v → (share_of told side).cut_short ≡ 0 → IsReachedIn passed joined w → Lone (HasFew most) w x side
+    → 500 + 90000 * (most + 1) + 3 * min ms 60000 ≤ n * min ms 60000 → Past v x side
+is-past-then joined n ms passed most x side told w v some early d uncut r k long = (let h = after-rounds joined n ms passed most x side told w v some early d uncut r k in elim h.1 [
+  | inl l ↦ absurd (let b = stage-brief (min ms 60000) n passed most (clock_at v side) l.p some l.holds.0 in omega arith)
   | inr past ↦ past
 ])
 
@@ -523,13 +567,14 @@ tells-alone joined ms (suc m) passed told old new r d x side alone uncut some ea
     a = begins (site_of old side) x state.Connected alone.connected
 
     past : Past d.2 x side
-    past = is-past-then joined m ms passed x side d.0 old d.2 (lesser ms some) early d.3 cuts.0 r (lone-first joined old x side r.reached alone) (long-enough (min ms 60000) m (lesser ms some) (few (90500 / min ms 60000) m long))
+    past = is-past-then joined m ms passed (queued_at old x side) x side d.0 old d.2 (lesser ms some) early d.3 cuts.0 r (lone-first joined old x side r.reached alone)
+        (long-enough (500 + 90000 * (queued_at old x side + 1)) (min ms 60000) m (lesser ms some) (few ((500 + 90000 * (queued_at old x side + 1)) / min ms 60000) m long))
 
     start : IsHere joined is_up a.was x side old
     start = (r.reached, inl (record { e = a.was; there = a.there; more = []; called = refl; took = sym (append-nil a.was.events); p = a.p; is = a.is; up = ap is_up a.in_it }))
 
     first : IsHere joined is_up a.was x side d.2
-    first = first-rounds joined a.was m ms x side d.0 old d.2 (some_rounds (90500 / min ms 60000) m long) d.3 cuts.0 start
+    first = first-rounds joined a.was m ms x side d.0 old d.2 (some_rounds ((500 + 90000 * (queued_at old x side + 1)) / min ms 60000) m long) d.3 cuts.0 start
 
     last : IsHere joined is_none a.was x side new
     last = last-round joined a.was ms x side d.1 d.2 new d.4 cuts.1 (first.0, ends-past joined a.was d.2 x side first.0 past first.1)

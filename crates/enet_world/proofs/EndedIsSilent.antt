@@ -8,6 +8,7 @@ use Rattle.enet_codec.specs.declared.refusal.Refusal.TheVariants.{NotConnected}
 use Rattle.enet_codec.specs.declared.stop.Stop.TheVariants as stop
 use Rattle.enet_codec.specs.Message.{Message}
 use Rattle.enet_rtt.specs.Clock.{elapsed_time, meant_time}
+use Rattle.enet_rtt.specs.declared.transmission.Tick.{Tick}
 use Rattle.enet_rtt.specs.declared.expiry.Expiry.{Expiry}
 use Rattle.enet_rtt.specs.declared.expiry.Expiry.TheVariants.{No, Resend, End}
 use Rattle.enet_connect.specs.declared.terms.Terms.{Terms}
@@ -24,7 +25,7 @@ use Rattle.enet_sender.specs.Sender.{next}
 use Rattle.enet_outbox.specs.declared.parts.Matched.{Matched}
 use Rattle.enet_outbox.specs.declared.parts.Matched.TheVariants as matched
 use Rattle.enet_outbox.specs.declared.parts.Pace.{Pace}
-use Rattle.enet_outbox.specs.Outbox.{Outbox, matched_by, after_acknowledgement, cleared_sender, marked_sender, has_nothing_reliable}
+use Rattle.enet_outbox.specs.Outbox.{Outbox, matched_by, told_by, with_growth, after_acknowledgement, cleared_sender, marked_sender, has_nothing_reliable}
 use Rattle.enet_outbox.specs.Outbox as outbox
 use Rattle.enet_outbox.specs.Emission.{filled}
 use Rattle.enet_outbox.proofs.Filled.{by-filling}
@@ -33,7 +34,7 @@ use Rattle.enet_peer.specs.declared.parts.PeerState.TheVariants as state
 use Rattle.enet_peer.specs.Peering.{Peering}
 use Rattle.enet_peer.specs.Endings.{settled, disconnecting, ended, is_later, freed, cut_off_in}
 use Rattle.enet_peer.specs.CommandEffect.{obeyed, unless_refused, stopped, is_allowed, is_connect, by_body, answered, answered_at, is_answered_in, is_connecting, on_acknowledge, on_match, sampled, with_answer, on_verify_in, welcomed, on_disconnect_in, on_last_disconnect}
-use Rattle.enet_peer.specs.Calls.{Leave, AtOnce, TellsOnce, Asks, AsksLater, Refused, expiry_of, is_connected, left, moved, pace_of, gone_on_in, submission_refusal, submitted, ticked, pinged, is_pinged, after_timeouts_by, growth_bound}
+use Rattle.enet_peer.specs.Calls.{Leave, AtOnce, TellsOnce, Asks, AsksLater, Refused, expiry_of, is_connected, left, moved, pace_of, gone_on_in, submission_refusal, submitted, ticked, pinged, is_pinged, after_timeouts_by, tick_of}
 use Rattle.enet_host.specs.Host.{named}
 use Rattle.law_connection.specs.Steps.{leave_by}
 use Rattle.law_connection.specs.Steps as event
@@ -66,12 +67,12 @@ empty-senders (x ∷ xs) = (refl, refl, empty-senders xs)
 cleared-empty : (o : Outbox) → IsEmpty (outbox.cleared o)
 cleared-empty o = record { acknowledgements = refl; unsequenced = refl; queued = refl; sent = refl; senders = empty-senders o.senders }
 
-marked-senders : (bound now : ℕ) (xs : List SendingEnd) → AreEmpty xs → AreEmpty (map (marked_sender bound now) xs)
-marked-senders bound now [] h = h
-marked-senders bound now (x ∷ xs) h = (h.0, ap (map (sender.marked bound now)) h.1, marked-senders bound now xs h.2)
+marked-senders : (tick : Tick) (xs : List SendingEnd) → AreEmpty xs → AreEmpty (map (marked_sender tick) xs)
+marked-senders tick [] h = h
+marked-senders tick (x ∷ xs) h = (h.0, ap (map (sender.marked tick)) h.1, marked-senders tick xs h.2)
 
-marked-empty : (bound now : ℕ) (o : Outbox) → IsEmpty o → IsEmpty (outbox.marked o bound now)
-marked-empty bound now o h = record { acknowledgements = h.acknowledgements; unsequenced = h.unsequenced; queued = h.queued; sent = ap (map (controlling.marked bound now)) h.sent; senders = marked-senders bound now o.senders h.senders }
+marked-empty : (tick : Tick) (o : Outbox) → IsEmpty o → IsEmpty (outbox.marked o tick)
+marked-empty tick o h = record { acknowledgements = h.acknowledgements; unsequenced = h.unsequenced; queued = h.queued; sent = ap (map (controlling.marked tick)) h.sent; senders = marked-senders tick o.senders h.senders }
 
 empty-at : (xs : List SendingEnd) (i : ℕ) (s : SendingEnd) → AreEmpty xs → slice_get xs i ≡ Some s → (s.sender.queued ≡ []) × (s.sender.sent ≡ [])
 empty-at [] i s h e = absurd (cc)
@@ -131,7 +132,7 @@ silent-acknowledge p now channel number told n = by-state (is_connecting p.state
     time = meant_time told (p.offset % 2 ^ 16)
 
     q : Peering
-    q = sampled (record p { outbox = after_acknowledgement p.outbox channel number }) now time
+    q = sampled (record p { outbox = with_growth (after_acknowledgement p.outbox channel number) (told_by p.outbox channel number time) }) now time
 
     h : IsSilent p
     h e = absurd (n e)
@@ -251,7 +252,7 @@ silent-ticked p n h = by (expiry_of p n)
 
     by : (e : Expiry) → IsSilent (pinged (after_timeouts_by e p n) n)
     by End = pings (cut_off_in p.state p) (cut p.state)
-    by Resend = pings (record p { outbox = outbox.marked p.outbox (growth_bound p) n }) (λ e. marked-empty (growth_bound p) n p.outbox (h e))
+    by Resend = pings (record p { outbox = outbox.marked p.outbox (tick_of p n) }) (λ e. marked-empty (tick_of p n) p.outbox (h e))
     by No = pings p h
 
 silent-moved : (short : Bool) (p : Peering) (n : ℕ) → IsSilent p → IsSilent (moved short p n)

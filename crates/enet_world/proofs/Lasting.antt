@@ -126,8 +126,8 @@ falls-changes f k = record {
   greets = λ p e h. absurd (let z : true ≡ false = sym h ∙ ap f e ∙ k.answering in cc);
   welcomes = λ p v terms e big word h. absurd (let z : true ≡ false = sym h ∙ ap f e ∙ k.connecting in cc);
   acknowledges = λ p j number here h. h;
-  marks = λ p bound now h. h;
-  holds_back = λ p bound now at h. h;
+  marks = λ p tick h. h;
+  holds_back = λ p tick at h. h;
   gives_way = λ p on h. h;
   takes = λ p j r c on there h. h;
   takes_unsequenced = λ p j group payload on h. h;

@@ -24,7 +24,7 @@ use Rattle.enet_peer.specs.declared.parts.PeerState.TheVariants as state
 use Rattle.enet_peer.specs.Peering.{Peering}
 use Rattle.enet_peer.specs.Endings.{settled, disconnecting, freed, cut_off_in, is_later}
 use Rattle.enet_peer.specs.CommandEffect.{obeyed, answered, on_acknowledge, on_match, acknowledged, welcomed, on_last_disconnect}
-use Rattle.enet_peer.specs.Calls.{Leave, AtOnce, TellsOnce, Asks, AsksLater, Refused, left, expiry_of, is_connected, moved, pace_of, pinged, is_pinged, after_timeouts_by, growth_bound, ticked, submitted, gone_on, gone_on_in}
+use Rattle.enet_peer.specs.Calls.{Leave, AtOnce, TellsOnce, Asks, AsksLater, Refused, left, expiry_of, is_connected, moved, pace_of, pinged, is_pinged, after_timeouts_by, tick_of, ticked, submitted, gone_on, gone_on_in}
 use Rattle.law_progress.specs.Waits.{after_leave}
 use Rattle.law_progress.proofs.Moving.{by-moved}
 use Rattle.law_network.proofs.Runs.{both}
@@ -156,12 +156,12 @@ modest-ticked p now h = pinged-modest (after_timeouts_by (expiry_of p now) p now
 
     by : (x : Expiry) → IsModest (after_timeouts_by x p now)
     by Ends = cut p.state
-    by Resend = controlled-by p.state p.outbox.control (controlling.with_marked (growth_bound p) now p.outbox.control) (λ f. marked-lone f (growth_bound p) now p.outbox.control) h
+    by Resend = controlled-by p.state p.outbox.control (controlling.with_marked (tick_of p now) p.outbox.control) (λ f. marked-lone f (tick_of p now) p.outbox.control) h
     by No = h
 
 pub modest-moved : (short : Bool) (p : Peering) (now : ℕ) → IsModest p → IsModest (moved short p now)
 modest-moved short p now h = by-moved IsModest short p now (modest-ticked p now h)
-    (λ at lasts. controlled-by p.state p.outbox.control (controlling.with_held_back (growth_bound p) now p.outbox.control) (λ f. held_back-lone f (growth_bound p) now p.outbox.control) h)
+    (λ at lasts. controlled-by p.state p.outbox.control (controlling.with_held_back (tick_of p now) p.outbox.control) (λ f. held_back-lone f (tick_of p now) p.outbox.control) h)
 
 -- ---- a datagram goes, or none
 settled-modest : (p : Peering) → IsModest p → IsModest (settled p)

@@ -6,6 +6,7 @@ use Rattle.enet_rtt.specs.Transmission as transmission
 use Rattle.enet_rtt.specs.Expiry.{gives_up, standard_patience}
 use Rattle.enet_rtt.specs.declared.expiry.Expiry.TheVariants.{No, Resend, End as Ends}
 use Rattle.enet_rtt.specs.declared.expiry.Patience.{Patience}
+use Rattle.enet_rtt.specs.declared.transmission.Tick.{Tick as Moment}
 use Rattle.enet_rtt.specs.declared.transmission.Transmission.{Transmission}
 use Rattle.enet_senders.specs.Controlling as controlling
 use Rattle.enet_senders.specs.declared.control.Control.TheVariants as control
@@ -19,7 +20,7 @@ use Rattle.enet_sender.specs.Due.{SendingEnd}
 use Rattle.enet_outbox.specs.Outbox.{has_ended, has_late, has_waited, marked_sender, with_control}
 use Rattle.enet_outbox.specs.Outbox as outbox
 use Rattle.enet_peer.specs.Peering.{Peering}
-use Rattle.enet_peer.specs.Calls.{answering_time, is_answering, is_over, ticked, pinged, is_pinged, after_timeouts_by, growth_bound, with_throttle_limit}
+use Rattle.enet_peer.specs.Calls.{answering_time, is_answering, is_over, ticked, pinged, is_pinged, after_timeouts_by, tick_of, with_throttle_limit}
 use Rattle.law_connection.proofs.Runs.{get-map}
 use Rattle.law_progress.specs.Exchanges.{HasSent}
 use Rattle.law_progress.specs.InTurn.{Ticks}
@@ -54,8 +55,8 @@ pub record Waited (now : ℕ) (p q : Peering) : Type 0 where
   pub heard : q.heard ≡ p.heard
   pub offset : q.offset ≡ p.offset
   pub acknowledgements : q.outbox.acknowledgements ≡ p.outbox.acknowledgements
-  pub controls : (t : SentControl) → Has q.outbox.control.sent t → (bound : ℕ) × (x : SentControl) × Has p.outbox.control.sent x × (controlling.marked bound now x ≡ t)
-  pub channels : (channel : ℕ) (t : Sent) → HasSent q.outbox.senders channel t → (bound : ℕ) × (x : Sent) × HasSent p.outbox.senders channel x × (sender.marked bound now x ≡ t)
+  pub controls : (t : SentControl) → Has q.outbox.control.sent t → (x : SentControl) × Has p.outbox.control.sent x × (controlling.marked (tick_of p now) x ≡ t)
+  pub channels : (channel : ℕ) (t : Sent) → HasSent q.outbox.senders channel t → (x : Sent) × HasSent p.outbox.senders channel x × (sender.marked (tick_of p now) x ≡ t)
 
 waited-pinged : (p q : Peering) (now : ℕ) → Waited now p q → Waited now p (pinged q now)
 waited-pinged p q now k = by (is_pinged q now)
@@ -64,14 +65,14 @@ waited-pinged p q now k = by (is_pinged q now)
     by true = record { state = k.state; heard = k.heard; offset = k.offset; acknowledgements = k.acknowledgements; controls = k.controls; channels = k.channels }
     by false = k
 
-sent-marked : (bound now : ℕ) (xs : List SendingEnd) (channel : ℕ) (t : Sent) → HasSent (map (marked_sender bound now) xs) channel t → (x : Sent) × HasSent xs channel x × (sender.marked bound now x ≡ t)
-sent-marked bound now xs channel t h =
-    let m = get-map (marked_sender bound now) xs channel h.0 h.1 in
-    let k = Has-mapped (sender.marked bound now) m.0.sender.sent t (subst (λ (y : SendingEnd). Has y.sender.sent t) (sym m.2) h.2) in
+sent-marked : (tick : Moment) (xs : List SendingEnd) (channel : ℕ) (t : Sent) → HasSent (map (marked_sender tick) xs) channel t → (x : Sent) × HasSent xs channel x × (sender.marked tick x ≡ t)
+sent-marked tick xs channel t h =
+    let m = get-map (marked_sender tick) xs channel h.0 h.1 in
+    let k = Has-mapped (sender.marked tick) m.0.sender.sent t (subst (λ (y : SendingEnd). Has y.sender.sent t) (sym m.2) h.2) in
     (k.0, (m.0, m.1, k.1), k.2)
 
-pub unmarked : (now : ℕ) (t : Transmission) → transmission.is_late now t ≡ false → transmission.marked 0 now t ≡ t
-unmarked now t e = ap (λ b. cond b (record t { timeout = transmission.grown_time 0 t.timeout; due = true }) t) e
+pub unmarked : (tick : Moment) (t : Transmission) → transmission.is_late tick.now t ≡ false → transmission.marked tick t ≡ t
+unmarked tick t e = ap (λ b. cond b (record t { timeout = transmission.next_time tick t; due = true }) t) e
 
 -- only a client that was answered is waited for no longer
 pub not-over : (p : Peering) (now : ℕ) → is_answering p.state ≡ false → is_over p now ≡ false
@@ -87,26 +88,25 @@ waited p now elsewhere lasts = subst (λ (x : Peering). Waited now p x) (sym is)
     is = (λ i. after (not-over p now elsewhere i) (lasts i) (has_late p.outbox now))
 
     by : (b : Bool) → has_late p.outbox now ≡ b → Waited now p (after false false b)
-    by true f = waited-pinged p (record p { outbox = outbox.marked p.outbox (growth_bound p) now }) now (record {
+    by true f = waited-pinged p (record p { outbox = outbox.marked p.outbox (tick_of p now) }) now (record {
       state = refl;
       heard = refl;
       offset = refl;
       acknowledgements = refl;
-      controls = λ t h. (let k = Has-mapped (controlling.marked (growth_bound p) now) p.outbox.control.sent t h in (growth_bound p, k.0, k.1, k.2));
-      channels = λ channel t h. (let k = sent-marked (growth_bound p) now p.outbox.senders channel t h in (growth_bound p, k.0, k.1, k.2));
+      controls = λ t h. Has-mapped (controlling.marked (tick_of p now)) p.outbox.control.sent t h;
+      channels = λ channel t h. sent-marked (tick_of p now) p.outbox.senders channel t h;
     })
     by false f = (let both = or-both (list_any (controlling.is_late now) p.outbox.control.sent) _ f in waited-pinged p p now (record {
       state = refl;
       heard = refl;
       offset = refl;
       acknowledgements = refl;
-      controls = λ t h. (0, t, h, ap (λ (y : Transmission). record t { transmission = y }) (unmarked now t.transmission (none-of (controlling.is_late now) p.outbox.control.sent t both.0 h)));
+      controls = λ t h. (t, h, ap (λ (y : Transmission). record t { transmission = y }) (unmarked (tick_of p now) t.transmission (none-of (controlling.is_late now) p.outbox.control.sent t both.0 h)));
       channels = λ channel t h. (
-        0,
         t,
         h,
         ap (λ (y : Transmission). record t { transmission = y })
-            (unmarked now t.transmission (none-of (sender.is_late now) h.0.sender.sent t (none-of (λ (x : SendingEnd). list_any (sender.is_late now) x.sender.sent) p.outbox.senders h.0 both.1 (Has-at p.outbox.senders channel h.0 h.1)) h.2)),
+            (unmarked (tick_of p now) t.transmission (none-of (sender.is_late now) h.0.sender.sent t (none-of (λ (x : SendingEnd). list_any (sender.is_late now) x.sender.sent) p.outbox.senders h.0 both.1 (Has-at p.outbox.senders channel h.0 h.1)) h.2)),
       );
     }))
 

@@ -4,6 +4,7 @@ use Rattle.std.specs.List.{position}
 use Rattle.enet_codec.specs.declared.command.Fragment.{Fragment}
 use Rattle.enet_codec.specs.declared.command.Offer.{Offer}
 use Rattle.enet_codec.specs.Message.{Message, connect}
+use Rattle.enet_rtt.specs.declared.transmission.Tick.{Tick}
 use Rattle.enet_senders.specs.declared.control.Control.{Control}
 use Rattle.enet_senders.specs.declared.control.Control.TheVariants as control
 use Rattle.enet_senders.specs.declared.control.Numbered.{Numbered}
@@ -104,20 +105,20 @@ gone-plain o channel number a = by (channel == 0xFF)
     by true = without-plain o.control (position_of number o.control.sent) a
     by false = at (slice_get o.senders channel)
 
-marked-plain : (bound now : ℕ) (c : Commands) → NoOffers c → NoOffers (controlling.with_marked bound now c)
-marked-plain bound now c a = record {
+marked-plain : (tick : Tick) (c : Commands) → NoOffers c → NoOffers (controlling.with_marked tick c)
+marked-plain tick c a = record {
   queued = a.queued;
-  sent = λ x h. (let r = Has-from_map (marked bound now) c.sent x h in subst (λ (y : SentControl). is_offer y.command.control ≡ false) r.2 (a.sent r.0 r.1));
+  sent = λ x h. (let r = Has-from_map (marked tick) c.sent x h in subst (λ (y : SentControl). is_offer y.command.control ≡ false) r.2 (a.sent r.0 r.1));
 }
 
-held_back-plain : (bound now : ℕ) (c : Commands) → NoOffers c → NoOffers (controlling.with_held_back bound now c)
-held_back-plain bound now c a = record {
+held_back-plain : (tick : Tick) (c : Commands) → NoOffers c → NoOffers (controlling.with_held_back tick c)
+held_back-plain tick c a = record {
   queued = a.queued;
-  sent = λ x h. (let r = Has-from_map (controlling.held_back bound now) c.sent x h in subst (λ (y : SentControl). is_offer y.command.control ≡ false) r.2 (stays r.0 (a.sent r.0 r.1)));
+  sent = λ x h. (let r = Has-from_map (controlling.held_back tick) c.sent x h in subst (λ (y : SentControl). is_offer y.command.control ≡ false) r.2 (stays r.0 (a.sent r.0 r.1)));
 }
   where
-    stays : (x : SentControl) → is_offer x.command.control ≡ false → is_offer (controlling.held_back bound now x).command.control ≡ false
-    stays x plain = ap (λ (m : Numbered). is_offer m.control) (held_back-same bound now x) ∙ plain
+    stays : (x : SentControl) → is_offer x.command.control ≡ false → is_offer (controlling.held_back tick x).command.control ≡ false
+    stays x plain = ap (λ (m : Numbered). is_offer m.control) (held_back-same tick x) ∙ plain
 
 -- only a client that asks has one
 unfoldable pub AsksAlone : Peering → Type 0
@@ -138,8 +139,8 @@ asks-changes = record {
   greets = λ p e h. elim h [ inl f ↦ absurd (let z : state.Answering ≡ state.Connecting = sym e ∙ f in cc) | inr a ↦ inr a ];
   welcomes = λ p v terms e big word h. inr (none-offered p.outbox.control.number);
   acknowledges = λ p j number here h. elim h [ inl e ↦ inl e | inr a ↦ inr (gone-plain p.outbox j number a) ];
-  marks = λ p bound now h. elim h [ inl e ↦ inl e | inr a ↦ inr (marked-plain bound now p.outbox.control a) ];
-  holds_back = λ p bound now at h. elim h [ inl e ↦ inl e | inr a ↦ inr (held_back-plain bound now p.outbox.control a) ];
+  marks = λ p tick h. elim h [ inl e ↦ inl e | inr a ↦ inr (marked-plain tick p.outbox.control a) ];
+  holds_back = λ p tick at h. elim h [ inl e ↦ inl e | inr a ↦ inr (held_back-plain tick p.outbox.control a) ];
   gives_way = λ p on h. h;
   takes = λ p j r c on there h. h;
   takes_unsequenced = λ p j group payload on h. h;

@@ -10,12 +10,14 @@ use Rattle.enet_codec.specs.declared.stop.Stop.TheVariants as stop
 use Rattle.enet_codec.specs.declared.command.Verify.{Verify}
 use Rattle.enet_rtt.specs.Clock.{meant_time}
 use Rattle.enet_rtt.specs.Transmission as transmission
+use Rattle.enet_rtt.specs.declared.transmission.Tick.{Tick}
 use Rattle.enet_senders.specs.declared.control.Control.{Control}
 use Rattle.enet_senders.specs.declared.control.Control.TheVariants as control
 use Rattle.enet_senders.specs.declared.control.Numbered.{Numbered}
 use Rattle.enet_senders.specs.declared.control.SentControl.{SentControl}
 use Rattle.enet_senders.specs.Controlling.{Commands}
 use Rattle.enet_senders.specs.Controlling as controlling
+use Rattle.enet_sender.specs.declared.outgoing.Acknowledged.{Acknowledged}
 use Rattle.enet_sender.specs.Due.{SendingEnd}
 use Rattle.enet_inbox.specs.Inbox.{Inbox}
 use Rattle.enet_inbox.specs.DataEffect.{arrival, passed_over}
@@ -88,23 +90,23 @@ pub next-lone : (f : Control → Bool) (now wait : ℕ) (c : Commands) (n : cont
 next-lone f now wait c n e h = goes-lone f now wait c n (goes-control now wait c n e) h
 
 -- a command that is held back stays the same
-pub held_back-same : (bound now : ℕ) (t : SentControl) → (controlling.held_back bound now t).command ≡ t.command
-held_back-same bound now t = by (controlling.is_late now t)
+pub held_back-same : (tick : Tick) (t : SentControl) → (controlling.held_back tick t).command ≡ t.command
+held_back-same tick t = by (controlling.is_late tick.now t)
   where
-    by : (b : Bool) → (cond b (record t { transmission = transmission.again now (transmission.marked bound now t.transmission) }) t).command ≡ t.command
+    by : (b : Bool) → (cond b (record t { transmission = transmission.again tick.now (transmission.marked tick t.transmission) }) t).command ≡ t.command
     by true = refl
     by false = refl
 
-pub held_back-lone : (f : Control → Bool) (bound now : ℕ) (c : Commands) → IsLone f c → IsLone f (controlling.with_held_back bound now c)
-held_back-lone f bound now c (Idle a b) = Idle a (ap (map (controlling.held_back bound now)) b)
-held_back-lone f bound now c (Queued m ok a b) = Queued m ok a (ap (map (controlling.held_back bound now)) b)
-held_back-lone f bound now c (Sent t ok a b) =
-    Sent (controlling.held_back bound now t) (ap (λ (m : Numbered). f m.control) (held_back-same bound now t) ∙ ok) a (ap (map (controlling.held_back bound now)) b)
+pub held_back-lone : (f : Control → Bool) (tick : Tick) (c : Commands) → IsLone f c → IsLone f (controlling.with_held_back tick c)
+held_back-lone f tick c (Idle a b) = Idle a (ap (map (controlling.held_back tick)) b)
+held_back-lone f tick c (Queued m ok a b) = Queued m ok a (ap (map (controlling.held_back tick)) b)
+held_back-lone f tick c (Sent t ok a b) =
+    Sent (controlling.held_back tick t) (ap (λ (m : Numbered). f m.control) (held_back-same tick t) ∙ ok) a (ap (map (controlling.held_back tick)) b)
 
-pub marked-lone : (f : Control → Bool) (bound now : ℕ) (c : Commands) → IsLone f c → IsLone f (controlling.with_marked bound now c)
-marked-lone f bound now c (Idle a b) = Idle a (ap (map (controlling.marked bound now)) b)
-marked-lone f bound now c (Queued m ok a b) = Queued m ok a (ap (map (controlling.marked bound now)) b)
-marked-lone f bound now c (Sent t ok a b) = Sent (controlling.marked bound now t) ok a (ap (map (controlling.marked bound now)) b)
+pub marked-lone : (f : Control → Bool) (tick : Tick) (c : Commands) → IsLone f c → IsLone f (controlling.with_marked tick c)
+marked-lone f tick c (Idle a b) = Idle a (ap (map (controlling.marked tick)) b)
+marked-lone f tick c (Queued m ok a b) = Queued m ok a (ap (map (controlling.marked tick)) b)
+marked-lone f tick c (Sent t ok a b) = Sent (controlling.marked tick t) ok a (ap (map (controlling.marked tick)) b)
 
 -- one is queued where there is none
 pub queued-lone : (f : Control → Bool) (c : Commands) (what : Control) → f what ≡ true → c.queued ≡ [] → c.sent ≡ [] → IsLone f (controlling.with_queued c what)
@@ -160,9 +162,9 @@ taken-lone f g c time (Some i) what e (Sent t ok a b) = by i (subst (λ (l : Lis
 pub answered-lone : (f g : Control → Bool) (o : Outbox) (channel number time : ℕ) (what : Control) → matched_by o channel number time ≡ matched.Control what → IsLone f o.control → IsLone g (outbox.after_acknowledgement o channel number).control
 answered-lone f g o channel number time what e h = by (channel == 0xFF) e
   where
-    never : (n : Option ℕ) → outbox.as_data n ≡ matched.Control what → ⊥
+    never : (n : Option Acknowledged) → outbox.as_data n ≡ matched.Control what → ⊥
     never None k = cc
-    never (Some bytes) k = cc
+    never (Some told) k = cc
 
     no-data : (s : Option SendingEnd) → outbox.matched_on s number time ≡ matched.Control what → ⊥
     no-data None k = cc

@@ -4,6 +4,7 @@ use Rattle.std.specs.List.{list_any}
 use Rattle.enet_rtt.specs.Clock.{elapsed_time}
 use Rattle.enet_rtt.specs.Timing.{timeout}
 use Rattle.enet_rtt.specs.Transmission as transmission
+use Rattle.enet_rtt.specs.declared.transmission.Tick.{Tick}
 use Rattle.enet_rtt.specs.declared.transmission.Transmission.{Transmission}
 use Rattle.enet_senders.specs.Controlling as controlling
 use Rattle.enet_senders.specs.declared.control.Control.TheVariants as control
@@ -21,7 +22,7 @@ use Rattle.enet_peer.specs.declared.parts.PeerState.{PeerState}
 use Rattle.enet_peer.specs.declared.parts.PeerState.TheVariants as state
 use Rattle.enet_peer.specs.Peering.{Peering}
 use Rattle.enet_peer.specs.Endings.{cut_off_in}
-use Rattle.enet_peer.specs.Calls.{pace_of, gone_on_in, moved, ticked, pinged, is_pinged, after_timeouts_by, growth_bound}
+use Rattle.enet_peer.specs.Calls.{pace_of, gone_on_in, moved, ticked, pinged, is_pinged, after_timeouts_by, tick_of}
 use Rattle.law_progress.proofs.Ageing.{most}
 use Rattle.law_progress.proofs.Moving.{by-expiry, by-moved}
 use Rattle.law_progress.proofs.Waiting.{Fair, Sends, each-filled, fair-went, none-of, or-both, Has-mapped}
@@ -40,16 +41,19 @@ rests-now : (now wait : ℕ) → now < 2 ^ 32 → (now < 2 ^ 32) × (elapsed_tim
 rests-now now wait low = (low, (let z = no-time now in omega arith))
 
 -- time comes: what isn't late then has time left
-rests-marked : (bound now : ℕ) (t : Transmission) → (t.due ≡ true) ⊎ (t.last < 2 ^ 32) → Rests now (transmission.marked bound now t)
-rests-marked bound now t k = by t.due refl (leb t.timeout (elapsed_time now t.last)) refl k
+rests-marked : (tick : Tick) (t : Transmission) → (t.due ≡ true) ⊎ (t.last < 2 ^ 32) → Rests tick.now (transmission.marked tick t)
+rests-marked tick t k = by t.due refl (leb t.timeout (elapsed_time now t.last)) refl k
   where
-    grows : Transmission
-    grows = record t { timeout = transmission.grown_time bound t.timeout; due = true }
+    now : ℕ
+    now = tick.now
 
-    same : transmission.is_late now t ≡ false → Rests now t → Rests now (transmission.marked bound now t)
+    grows : Transmission
+    grows = record t { timeout = transmission.next_time tick t; due = true }
+
+    same : transmission.is_late now t ≡ false → Rests now t → Rests now (transmission.marked tick t)
     same e r = subst (λ b. Rests now (cond b grows t)) (sym e) r
 
-    by : (due : Bool) → t.due ≡ due → (late : Bool) → leb t.timeout (elapsed_time now t.last) ≡ late → (t.due ≡ true) ⊎ (t.last < 2 ^ 32) → Rests now (transmission.marked bound now t)
+    by : (due : Bool) → t.due ≡ due → (late : Bool) → leb t.timeout (elapsed_time now t.last) ≡ late → (t.due ≡ true) ⊎ (t.last < 2 ^ 32) → Rests now (transmission.marked tick t)
     by true e late f j = same (ap (λ b. not b && leb t.timeout (elapsed_time now t.last)) e) (inl e)
     by false e false f (inl due) = absurd (let z : true ≡ false = sym due ∙ e in cc)
     by false e false f (inr low) = same (λ i. not (e i) && f i) (inr (low, (let z = lt-of t.timeout (elapsed_time now t.last) f in omega arith)))
@@ -64,19 +68,22 @@ none-cleared R xs s h t k = let c = Has-mapped cleared_sender xs s h in absurd (
 
 rests-ticked : (now next : ℕ) (p : Peering) → Fair (Rests now) most p → Fair (Rests next) most (ticked p next)
 rests-ticked now next p h = by-expiry (λ e. Fair (Rests next) most (pinged (after_timeouts_by e p next) next)) p next (pings (cut_off_in p.state p) (cut p.state))
-    (λ lasts late. pings (record p { outbox = outbox.marked p.outbox (growth_bound p) next }) (marks (growth_bound p)))
+    (λ lasts late. pings (record p { outbox = outbox.marked p.outbox (tick_of p next) }) marks)
     (λ lasts none. pings p (stays none))
   where
-    goes : (bound : ℕ) (t : Transmission) → Rests now t → Rests next (transmission.marked bound next t)
-    goes bound t r = rests-marked bound next t (dated now t r)
+    tick : Tick
+    tick = tick_of p next
 
-    marks : (bound : ℕ) → Fair (Rests next) most (record p { outbox = outbox.marked p.outbox bound next })
-    marks bound = (
+    goes : (t : Transmission) → Rests now t → Rests next (transmission.marked tick t)
+    goes t r = rests-marked tick t (dated now t r)
+
+    marks : Fair (Rests next) most (record p { outbox = outbox.marked p.outbox tick })
+    marks = (
       (
-        (λ t k. (let c = Has-mapped (controlling.marked bound next) p.outbox.control.sent t k in subst (λ (x : SentControl). Rests next x.transmission) c.2 (goes bound c.0.transmission (h.0.0 c.0 c.1)))),
-        (λ s k t j. (let d = Has-mapped (marked_sender bound next) p.outbox.senders s k in
-            let c = Has-mapped (sender.marked bound next) d.0.sender.sent t (subst (λ (x : SendingEnd). Has x.sender.sent t) (sym d.2) j) in
-            subst (λ (x : Sent). Rests next x.transmission) c.2 (goes bound c.0.transmission (h.0.1 d.0 d.1 c.0 c.1)))),
+        (λ t k. (let c = Has-mapped (controlling.marked tick) p.outbox.control.sent t k in subst (λ (x : SentControl). Rests next x.transmission) c.2 (goes c.0.transmission (h.0.0 c.0 c.1)))),
+        (λ s k t j. (let d = Has-mapped (marked_sender tick) p.outbox.senders s k in
+            let c = Has-mapped (sender.marked tick) d.0.sender.sent t (subst (λ (x : SendingEnd). Has x.sender.sent t) (sym d.2) j) in
+            subst (λ (x : Sent). Rests next x.transmission) c.2 (goes c.0.transmission (h.0.1 d.0 d.1 c.0 c.1)))),
       ),
       h.1,
       h.2,
@@ -86,10 +93,10 @@ rests-ticked now next p h = by-expiry (λ e. Fair (Rests next) most (pinged (aft
     stays : has_late p.outbox next ≡ false → Fair (Rests next) most p
     stays f = (let both = or-both (list_any (controlling.is_late next) p.outbox.control.sent) _ f in (
       (
-        (λ t k. subst (λ (x : Transmission). Rests next x) (unmarked next t.transmission (none-of (controlling.is_late next) p.outbox.control.sent t both.0 k)) (goes 0 t.transmission (h.0.0 t k))),
+        (λ t k. subst (λ (x : Transmission). Rests next x) (unmarked tick t.transmission (none-of (controlling.is_late next) p.outbox.control.sent t both.0 k)) (goes t.transmission (h.0.0 t k))),
         (λ s k t j. subst (λ (x : Transmission). Rests next x)
-            (unmarked next t.transmission (none-of (sender.is_late next) s.sender.sent t (none-of (λ (x : SendingEnd). list_any (sender.is_late next) x.sender.sent) p.outbox.senders s both.1 k) j))
-            (goes 0 t.transmission (h.0.1 s k t j))),
+            (unmarked tick t.transmission (none-of (sender.is_late next) s.sender.sent t (none-of (λ (x : SendingEnd). list_any (sender.is_late next) x.sender.sent) p.outbox.senders s both.1 k) j))
+            (goes t.transmission (h.0.1 s k t j))),
       ),
       h.1,
       h.2,
@@ -107,19 +114,22 @@ rests-ticked now next p h = by-expiry (λ e. Fair (Rests next) most (pinged (aft
         by false = k
 
 -- or what is late counts as tried
-rests-held : (now next bound : ℕ) (t : SentControl) → next < 2 ^ 32 → Rests now t.transmission → Rests next (controlling.held_back bound next t).transmission
-rests-held now next bound t low r = by (controlling.is_late next t) refl
+rests-held : (now : ℕ) (tick : Tick) (t : SentControl) → tick.now < 2 ^ 32 → Rests now t.transmission → Rests tick.now (controlling.held_back tick t).transmission
+rests-held now tick t low r = by (controlling.is_late next t) refl
   where
+    next : ℕ
+    next = tick.now
+
     by : (b : Bool) → controlling.is_late next t ≡ b
-        → Rests next (cond b (record t { transmission = transmission.again next (transmission.marked bound next t.transmission) }) t).transmission
-    by true e = inr (rests-now next (transmission.marked bound next t.transmission).timeout low)
-    by false e = subst (λ (x : Transmission). Rests next x) (unmarked next t.transmission e) (rests-marked 0 next t.transmission (dated now t.transmission r))
+        → Rests next (cond b (record t { transmission = transmission.again next (transmission.marked tick t.transmission) }) t).transmission
+    by true e = inr (rests-now next (transmission.marked tick t.transmission).timeout low)
+    by false e = subst (λ (x : Transmission). Rests next x) (unmarked tick t.transmission e) (rests-marked tick t.transmission (dated now t.transmission r))
 
 pub rests-moved : (now next : ℕ) (short : Bool) (p : Peering) → next < 2 ^ 32 → IsUnsent p → Fair (Rests now) most p → Fair (Rests next) most (moved short p next)
 rests-moved now next short p low unsent h = by-moved (Fair (Rests next) most) short p next (rests-ticked now next p h) (λ at lasts. (
   (
-    (λ t k. (let c = Has-mapped (controlling.held_back (growth_bound p) next) p.outbox.control.sent t k in
-        subst (λ (x : SentControl). Rests next x.transmission) c.2 (rests-held now next (growth_bound p) c.0 low (h.0.0 c.0 c.1)))),
+    (λ t k. (let c = Has-mapped (controlling.held_back (tick_of p next)) p.outbox.control.sent t k in
+        subst (λ (x : SentControl). Rests next x.transmission) c.2 (rests-held now (tick_of p next) c.0 low (h.0.0 c.0 c.1)))),
     (λ s k t j. (let i = has-place p.outbox.senders s k in
         let none : s.sender.sent ≡ [] = ap (λ (o : Option SendingEnd). (sender_in o).sent) (sym i.1) ∙ ap (λ (x : Sender). x.sent) (unsent at i.0) in
         absurd (subst (λ (l : List Sent). Has l t) none j))),

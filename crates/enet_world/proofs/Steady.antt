@@ -1,5 +1,5 @@
 -- A round without losses between two connected peers: patience outlasts it, and what waits after it waited before, or was acknowledged since.
-use Rattle.std.proofs.Common.{◌≡◌, ℕ, ◌%◌, ◌<◌, Bool, true, false, List, refl, sym, ap, subst, ◌∙◌, inl, inr, ◌⊎◌, Some, ◌^◌, arith}
+use Rattle.std.proofs.Common.{◌≡◌, ℕ, ◌-◌, ◌*◌, ◌%◌, ◌<◌, ◌≤◌, Bool, true, false, List, refl, sym, ap, subst, ◌∙◌, inl, inr, ◌⊎◌, Some, ◌^◌, arith}
 use Rattle.std.specs.List.{slice_get}
 use Rattle.enet_rtt.specs.Clock.{meant_time}
 use Rattle.enet_rtt.specs.Expiry.{gives_up, standard_patience}
@@ -10,19 +10,18 @@ use Rattle.law_connection.specs.LinkSteps.{Has}
 use Rattle.enet_sender.specs.declared.sent.Sent.{Sent}
 use Rattle.enet_sender.specs.Due.{SendingEnd}
 use Rattle.enet_outbox.specs.declared.parts.Acknowledgement.{Acknowledgement}
-use Rattle.enet_outbox.specs.Emission.{occasion}
 use Rattle.enet_outbox.specs.Outbox.{has_ended}
 use Rattle.enet_peer.specs.declared.parts.PeerState.{PeerState}
 use Rattle.enet_peer.specs.declared.parts.PeerState.TheVariants as state
 use Rattle.enet_peer.specs.Peering.{Peering}
-use Rattle.enet_peer.specs.Calls.{is_answering, pace_of, ticked, with_throttle_limit}
+use Rattle.enet_peer.specs.Calls.{is_answering, tick_of, ticked, with_throttle_limit}
 use Rattle.law_connection.specs.Connection.{End, Connection}
 use Rattle.law_connection.specs.Invariant.{Invariant}
 use Rattle.law_progress.specs.Exchanges.{HasSent}
 use Rattle.law_progress.specs.InTurn.{Ticks, RoundInTurn}
 use Rattle.law_progress.proofs.BothRounds.{AnswersAt, OnItsWay, went-marked, Sending, Exchanged, exchanged, answers-all, tick-peer}
 use Rattle.law_progress.proofs.Exchanges.{Joint, joint-swap, same-peer, Came, took-all}
-use Rattle.law_progress.proofs.Found.{sender-rests, controls-rest}
+use Rattle.law_progress.proofs.Found.{controls-rest}
 use Rattle.law_progress.proofs.Waiting.{Each, Sends}
 use Rattle.enet_world.specs.Stands.{AllYoung}
 use Rattle.enet_world.proofs.Modest.{Controlled, modest-ticked, modest-pings}
@@ -30,8 +29,8 @@ use Rattle.enet_world.proofs.Moments.{outlasts, Waited, waited, waited-limited, 
 use Rattle.enet_world.proofs.Pinged.{Stood, stood-takes}
 use Rattle.enet_world.proofs.Pings.{IsLone, is_ping}
 use Rattle.enet_world.proofs.Punctual.{Rests}
-use Rattle.enet_world.proofs.Trips.{puts-stood, puts-each, Pinging, pinging-many, answers-pinged}
-use Rattle.enet_world.proofs.Youth.{moment, IsOld, IsOlder, HasARound, old-lasts, round-lasts, old-marked, older-stays, old-since, older-since, round-since, begun-has, again-has, young-old}
+use Rattle.enet_world.proofs.Trips.{OnChannels, puts-stood, puts-each, puts-controls, puts-channels, Pinging, pinging-many, answers-pinged}
+use Rattle.enet_world.proofs.Youth.{moment, IsOld, IsOlder, HasARound, old-lasts, round-lasts, old-marked, older-stays, old-since, older-since, round-since, begun-has, again-has, young-old, IsOldFor, HasRounds, old-for-lasts, rounds-last, old-for-marked, old-for-since, rounds-since, begun-rounds, again-rounds}
 
 -- ---- before a round
 -- a connected peer of which nothing was set
@@ -40,30 +39,40 @@ pub record IsPlain (p : Peering) : Type 0 where
   pub patience : p.patience ≡ standard_patience
   pub lone : IsLone is_ping p.outbox.control
 
--- what waits at the one end was sent before the rounds; and so what waits at the other, or its acknowledgement waits to go at the one
-pub record Ready (d a b : ℕ) (p q : Peering) : Type 0 where
-  pub one_channels : (channel : ℕ) (t : Sent) → HasSent p.outbox.senders channel t → IsOld d a p.heard t.transmission
+-- what waits at the one end was sent before the rounds; and so what waits at the other, or its acknowledgement waits to go at the one. What
+-- waits on the channels has so many milliseconds left
+pub record Ready (left d a b : ℕ) (p q : Peering) : Type 0 where
+  pub one_channels : (channel : ℕ) (t : Sent) → HasSent p.outbox.senders channel t → IsOldFor left a p.heard t.transmission
   pub one_controls : (t : SentControl) → Has p.outbox.control.sent t → IsOld d a p.heard t.transmission
-  pub two_channels : (channel : ℕ) (t : Sent) → HasSent q.outbox.senders channel t → IsOld d b q.heard t.transmission ⊎ (HasARound d b q.heard t.transmission × AnswersAt q.offset p channel t.command.number t.transmission)
+  pub two_channels : (channel : ℕ) (t : Sent) → HasSent q.outbox.senders channel t → IsOldFor left b q.heard t.transmission ⊎ (HasRounds left b q.heard t.transmission × AnswersAt q.offset p channel t.command.number t.transmission)
   pub two_controls : (t : SentControl) → Has q.outbox.control.sent t → IsOld d b q.heard t.transmission ⊎ (HasARound d b q.heard t.transmission × AnswersAt q.offset p 0xFF t.command.number t.transmission)
 
--- so no patience is over by the next moments
-pub one-lasts : (d a b : ℕ) (p q : Peering) → d < 30000 → IsPlain p → Ready d a b p q → has_ended p.outbox (moment a d) p.patience p.heard ≡ false
-one-lasts d a b p q low plain r = outlasts p (moment a d) plain.patience (λ t h. old-lasts d a p.heard t.transmission low (r.one_controls t h)) (λ channel t h. old-lasts d a p.heard t.transmission low (r.one_channels channel t h))
+-- where something waits on a channel, a round more is left
+abbrev pub HasMore : (left d : ℕ) → Peering → Type 0
+HasMore left d p = (channel : ℕ) (t : Sent) → HasSent p.outbox.senders channel t → d ≤ left
 
-pub two-lasts : (d a b : ℕ) (p q : Peering) → d < 30000 → IsPlain q → Ready d a b p q → has_ended q.outbox (moment b d) q.patience q.heard ≡ false
-two-lasts d a b p q low plain r = outlasts q (moment b d) plain.patience (λ t h. by t.transmission (r.two_controls t h)) (λ channel t h. by t.transmission (r.two_channels channel t h))
+-- so no patience is over by the next moments
+pub one-lasts : (left d a b : ℕ) (p q : Peering) → d < 30000 → IsPlain p → HasMore left d p → Ready left d a b p q → has_ended p.outbox (moment a d) p.patience p.heard ≡ false
+one-lasts left d a b p q low plain more r =
+    outlasts p (moment a d) plain.patience (λ t h. old-lasts d a p.heard t.transmission low (r.one_controls t h)) (λ channel t h. old-for-lasts d left a p.heard t.transmission (more channel t h) low (r.one_channels channel t h))
+
+pub two-lasts : (left d a b : ℕ) (p q : Peering) → d < 30000 → IsPlain q → HasMore left d q → Ready left d a b p q → has_ended q.outbox (moment b d) q.patience q.heard ≡ false
+two-lasts left d a b p q low plain more r = outlasts q (moment b d) plain.patience (λ t h. by t.transmission (r.two_controls t h)) (λ channel t h. on t.transmission (more channel t h) (r.two_channels channel t h))
   where
+    on : {X : Type 0} (t : Transmission) → d ≤ left → IsOldFor left b q.heard t ⊎ (HasRounds left b q.heard t × X) → gives_up standard_patience (moment b d) q.heard t ≡ false
+    on t some (inl old) = old-for-lasts d left b q.heard t some low old
+    on t some (inr k) = rounds-last d left b q.heard t some low k.0
+
     by : {X : Type 0} (t : Transmission) → IsOld d b q.heard t ⊎ (HasARound d b q.heard t × X) → gives_up standard_patience (moment b d) q.heard t ≡ false
     by t (inl old) = old-lasts d b q.heard t low old
     by t (inr k) = round-lasts d b q.heard t low k.0
 
 -- where all that waits is young
-pub ready-first : (d a b : ℕ) (p q : Peering) → AllYoung d a p → AllYoung d b q → Each (Rests a) p.outbox.control.sent p.outbox.senders → Each (Rests b) q.outbox.control.sent q.outbox.senders → Ready d a b p q
-ready-first d a b p q young_p young_q rests_p rests_q = record {
-  one_channels = λ channel t h. (let s = at p.outbox.senders channel h.0 h.1 in young-old d a p.heard t.transmission (young_p.channels h.0 s t h.2) (rests_p.1 h.0 s t h.2));
+pub ready-first : (lasts d a b : ℕ) (p q : Peering) → AllYoung d lasts a p → AllYoung d lasts b q → Each (Rests a) p.outbox.control.sent p.outbox.senders → Each (Rests b) q.outbox.control.sent q.outbox.senders → Ready (lasts * d) d a b p q
+ready-first lasts d a b p q young_p young_q rests_p rests_q = record {
+  one_channels = λ channel t h. young_p.channels h.0 (at p.outbox.senders channel h.0 h.1) t h.2;
   one_controls = λ t h. young-old d a p.heard t.transmission (young_p.controls t h) (rests_p.0 t h);
-  two_channels = λ channel t h. (let s = at q.outbox.senders channel h.0 h.1 in inl (young-old d b q.heard t.transmission (young_q.channels h.0 s t h.2) (rests_q.1 h.0 s t h.2)));
+  two_channels = λ channel t h. inl (young_q.channels h.0 (at q.outbox.senders channel h.0 h.1) t h.2);
   two_controls = λ t h. inl (young-old d b q.heard t.transmission (young_q.controls t h) (rests_q.0 t h));
 }
   where
@@ -114,16 +123,16 @@ anything : (now wait : ℕ) → Sends (λ t. Unit {0}) now wait
 anything now wait = record { first = tt; again = λ t r due. tt }
 
 -- both ends are ready for another
-pub record ReadyAgain (d a b : ℕ) (e : Connection) : Type 0 where
+pub record ReadyAgain (left d a b : ℕ) (e : Connection) : Type 0 where
   pub one : Peering
   pub is_one : e.one.peer ≡ Some one
   pub two : Peering
   pub is_two : e.two.peer ≡ Some two
-  pub ready : Ready d a b one two
+  pub ready : Ready left d a b one two
 
-pub steady-round : (joined : Bool) (d a b : ℕ) (c e : Connection) (p q : Peering) → d < 30000 → Invariant joined c → c.one.peer ≡ Some p → c.two.peer ≡ Some q → IsPlain p → IsPlain q → Ready d a b p q → RoundInTurn (moment a d) (moment b d) c e
-    → ReadyAgain d (moment a d) (moment b d) e
-steady-round joined d a b c e p q low i is_p is_q plain_p plain_q ready r = record {
+pub steady-round : (joined : Bool) (left d a b : ℕ) (c e : Connection) (p q : Peering) → d < 30000 → Invariant joined c → c.one.peer ≡ Some p → c.two.peer ≡ Some q → IsPlain p → IsPlain q → HasMore left d p → HasMore left d q → Ready left d a b p q
+    → RoundInTurn (moment a d) (moment b d) c e → ReadyAgain (left - d) d (moment a d) (moment b d) e
+steady-round joined left d a b c e p q low i is_p is_q plain_p plain_q more_p more_q ready r = record {
   one = u;
   is_one = s3.is;
   two = v;
@@ -138,10 +147,10 @@ steady-round joined d a b c e p q low i is_p is_q plain_p plain_q ready r = reco
     there = moment b d
 
     t1 : Timed now p r.one
-    t1 = timed now c.one c.two r.one p r.ticks_one is_p plain_p (one-lasts d a b p q low plain_p ready)
+    t1 = timed now c.one c.two r.one p r.ticks_one is_p plain_p (one-lasts left d a b p q low plain_p more_p ready)
 
     t2 : Timed there q r.two
-    t2 = timed there c.two r.one r.two q r.ticks_two is_q plain_q (two-lasts d a b p q low plain_q ready)
+    t2 = timed there c.two r.one r.two q r.ticks_two is_q plain_q (two-lasts left d a b p q low plain_q more_q ready)
 
     p0 : Peering
     p0 = t1.peer
@@ -159,36 +168,48 @@ steady-round joined d a b c e p q low i is_p is_q plain_p plain_q ready r = reco
     Q : Transmission → Type 0
     Q t = IsOlder d there q.heard t
 
-    d0 : (channel : ℕ) (t : Sent) → HasSent p0.outbox.senders channel t → P t.transmission
-    d0 channel t h = (let w = t1.waited.channels channel t h in subst (λ (y : Sent). P y.transmission) w.3 (old-marked d a p.heard w.0 w.1.transmission low (ready.one_channels channel w.1 w.2)))
+    -- and on the channels
+    rest : ℕ
+    rest = left - d
+
+    P' : Transmission → Type 0
+    P' t = IsOldFor rest now p.heard t
+
+    Q' : Transmission → Type 0
+    Q' t = IsOldFor rest there q.heard t
+
+    d0 : (channel : ℕ) (t : Sent) → HasSent p0.outbox.senders channel t → P' t.transmission
+    d0 channel t h = (let w = t1.waited.channels channel t h in subst (λ (y : Sent). P' y.transmission) w.2 (old-for-marked d left a p.heard p w.0.transmission (more_p channel w.0 w.1) (ready.one_channels channel w.0 w.1)))
 
     c0 : (t : SentControl) → Has p0.outbox.control.sent t → P t.transmission
-    c0 t h = (let w = t1.waited.controls t h in subst (λ (y : SentControl). P y.transmission) w.3 (old-marked d a p.heard w.0 w.1.transmission low (ready.one_controls w.1 w.2)))
+    c0 t h = (let w = t1.waited.controls t h in subst (λ (y : SentControl). P y.transmission) w.2 (old-marked d a p w.0.transmission low (ready.one_controls w.0 w.1)))
 
     -- an acknowledgement that waited at the one end waits when it begins to put out
     waits-yet : (channel m n : ℕ) (x t : Transmission) → m ≡ n → ((time : ℕ) → went_at time x ≡ went_at time t) → AnswersAt q.offset p channel m x → AnswersAt q0.offset p0 channel n t
     waits-yet channel m n x t same went w =
         (w.0, subst (λ (l : List Acknowledgement). Has l (record { channel = channel; number = n; time = w.0 })) (sym t1.waited.acknowledgements) (subst (λ k. Has p.outbox.acknowledgements (record { channel = channel; number = k; time = w.0 })) same w.1), ap (λ k. went_at (meant_time w.0 (k % 2 ^ 16)) t) t2.waited.offset ∙ sym (went (meant_time w.0 (q.offset % 2 ^ 16))) ∙ w.2)
 
-    at_two : (channel : ℕ) (t : Sent) → HasSent q0.outbox.senders channel t → Q t.transmission ⊎ AnswersAt q0.offset p0 channel t.command.number t.transmission
-    at_two channel t h = (let w = t2.waited.channels channel t h in by w.0 w.1 w.3 (ready.two_channels channel w.1 w.2))
+    at_two : (channel : ℕ) (t : Sent) → HasSent q0.outbox.senders channel t → Q' t.transmission ⊎ AnswersAt q0.offset p0 channel t.command.number t.transmission
+    at_two channel t h = (let w = t2.waited.channels channel t h in by w.0 w.2 (more_q channel w.0 w.1) (ready.two_channels channel w.0 w.1))
       where
-        by : (bound : ℕ) (x : Sent) → Rattle.enet_sender.specs.Sender.marked bound there x ≡ t → IsOld d b q.heard x.transmission ⊎ (HasARound d b q.heard x.transmission × AnswersAt q.offset p channel x.command.number x.transmission) → Q t.transmission ⊎ AnswersAt q0.offset p0 channel t.command.number t.transmission
-        by bound x same (inl old) = inl (subst (λ (y : Sent). Q y.transmission) same (old-marked d b q.heard bound x.transmission low old))
-        by bound x same (inr k) = inr (waits-yet channel x.command.number t.command.number x.transmission t.transmission (ap (λ (y : Sent). y.command.number) same)
-            (λ time. sym (went-marked bound there x.transmission time) ∙ ap (λ (y : Sent). went_at time y.transmission) same) k.1)
+        by : (x : Sent) → Rattle.enet_sender.specs.Sender.marked (tick_of q there) x ≡ t → d ≤ left → IsOldFor left b q.heard x.transmission ⊎ (HasRounds left b q.heard x.transmission × AnswersAt q.offset p channel x.command.number x.transmission)
+            → Q' t.transmission ⊎ AnswersAt q0.offset p0 channel t.command.number t.transmission
+        by x same some (inl old) = inl (subst (λ (y : Sent). Q' y.transmission) same (old-for-marked d left b q.heard q x.transmission some old))
+        by x same some (inr k) = inr (waits-yet channel x.command.number t.command.number x.transmission t.transmission (ap (λ (y : Sent). y.command.number) same)
+            (λ time. sym (went-marked (tick_of q there) x.transmission time) ∙ ap (λ (y : Sent). went_at time y.transmission) same) k.1)
 
     controls_two : (t : SentControl) → Has q0.outbox.control.sent t → Q t.transmission ⊎ AnswersAt q0.offset p0 0xFF t.command.number t.transmission
-    controls_two t h = (let w = t2.waited.controls t h in by w.0 w.1 w.3 (ready.two_controls w.1 w.2))
+    controls_two t h = (let w = t2.waited.controls t h in by w.0 w.2 (ready.two_controls w.0 w.1))
       where
-        by : (bound : ℕ) (x : SentControl) → Rattle.enet_senders.specs.Controlling.marked bound there x ≡ t → IsOld d b q.heard x.transmission ⊎ (HasARound d b q.heard x.transmission × AnswersAt q.offset p 0xFF x.command.number x.transmission) → Q t.transmission ⊎ AnswersAt q0.offset p0 0xFF t.command.number t.transmission
-        by bound x same (inl old) = inl (subst (λ (y : SentControl). Q y.transmission) same (old-marked d b q.heard bound x.transmission low old))
-        by bound x same (inr k) = inr (waits-yet 0xFF x.command.number t.command.number x.transmission t.transmission (ap (λ (y : SentControl). y.command.number) same)
-            (λ time. sym (went-marked bound there x.transmission time) ∙ ap (λ (y : SentControl). went_at time y.transmission) same) k.1)
+        by : (x : SentControl) → Rattle.enet_senders.specs.Controlling.marked (tick_of q there) x ≡ t → IsOld d b q.heard x.transmission ⊎ (HasARound d b q.heard x.transmission × AnswersAt q.offset p 0xFF x.command.number x.transmission)
+            → Q t.transmission ⊎ AnswersAt q0.offset p0 0xFF t.command.number t.transmission
+        by x same (inl old) = inl (subst (λ (y : SentControl). Q y.transmission) same (old-marked d b q x.transmission low old))
+        by x same (inr k) = inr (waits-yet 0xFF x.command.number t.command.number x.transmission t.transmission (ap (λ (y : SentControl). y.command.number) same)
+            (λ time. sym (went-marked (tick_of q there) x.transmission time) ∙ ap (λ (y : SentControl). went_at time y.transmission) same) k.1)
 
     -- the channels
-    x : Exchanged joined (λ channel t. P t.transmission) now p0 q0 r.one_out r.two_in r.two_out r.one_in
-    x = exchanged joined (λ channel t. P t.transmission) now there p0 q0 r.one r.two r.one_out r.two_in r.two_out r.one_in joint t1.is t1.on t2.is t2.on r.forth r.back (λ channel t h. inl (d0 channel t h))
+    x : Exchanged joined (λ channel t. P' t.transmission) now p0 q0 r.one_out r.two_in r.two_out r.one_in
+    x = exchanged joined (λ channel t. P' t.transmission) now there p0 q0 r.one r.two r.one_out r.two_in r.two_out r.one_in joint t1.is t1.on t2.is t2.on r.forth r.back (λ channel t h. inl (d0 channel t h))
 
     -- the one end has put out all
     s : Pinging (λ t. P t.transmission) r.one_out r.two_in
@@ -208,9 +229,9 @@ steady-round joined d a b c e p q low i is_p is_q plain_p plain_q ready r = reco
     q1_heard : (q1.heard ≡ q.heard) ⊎ (q1.heard ≡ there)
     q1_heard = since-by q1.heard q0.heard q.heard there f1.leaves.heard (inl t2.waited.heard)
 
-    mid : (channel : ℕ) (t : Sent) → HasSent q1.outbox.senders channel t → Q t.transmission
+    mid : (channel : ℕ) (t : Sent) → HasSent q1.outbox.senders channel t → Q' t.transmission
     mid channel t h =
-        let m = answers-all joined (λ k y. Q y.transmission) now there r.forth.datagrams r.one r.two r.one_out r.two_in p0 q0 r.forth.puts joint t1.is t1.on t2.is t2.on at_two in
+        let m = answers-all joined (λ k y. Q' y.transmission) now there r.forth.datagrams r.one r.two r.one_out r.two_in p0 q0 r.forth.puts joint t1.is t1.on t2.is t2.on at_two in
         let rests = r.forth.spent m.2 m.3 in
         elim (m.4 channel t (subst (λ (y : Peering). HasSent y.outbox.senders channel t) (same-peer r.two_in q1 m.0 f1.is m.1) h)) [
           | inl k ↦ k
@@ -260,14 +281,17 @@ steady-round joined d a b c e p q low i is_p is_q plain_p plain_q ready r = reco
     k1 : Came r.one_in e.one x.then'.other
     k1 = took-all r.events_one r.one_in r.two_out e.one x.then'.other r.takes_one x.then'.other_is x.then'.other_connected
 
-    u_channels : (channel : ℕ) (t : Sent) → HasSent u.outbox.senders channel t → IsOld d now u.heard t.transmission
+    u_channels : (channel : ℕ) (t : Sent) → HasSent u.outbox.senders channel t → IsOldFor rest now u.heard t.transmission
     u_channels channel t h =
         let k = k1.kept.sent channel t (subst (λ (y : Peering). HasSent y.outbox.senders channel t) (same-peer e.one u k1.peer s3.is k1.is) h) in
-        old-since d now p.heard u.heard t.transmission u_heard (older-stays d now p.heard t.transmission (x.due channel t k) (x.none channel t k))
+        old-for-since rest now p.heard u.heard t.transmission u_heard (x.none channel t k)
 
     -- what waits at the other end has been there, or was sent now
     R : Transmission → Type 0
     R t = IsOlder d there q1.heard t ⊎ ((t.due ≡ false) × HasARound d there q1.heard t)
+
+    R' : Transmission → Type 0
+    R' t = IsOldFor rest there q1.heard t ⊎ ((t.due ≡ false) × HasRounds rest there q1.heard t)
 
     below : there < 2 ^ 32
     below = omega arith
@@ -279,11 +303,19 @@ steady-round joined d a b c e p q low i is_p is_q plain_p plain_q ready r = reco
         again' t (inl o) due = inr (refl, again-has d there q1.heard t below o)
         again' t (inr k) due = absurd (let z : true ≡ false = sym due ∙ k.0 in cc)
 
-    each : (q2 : Peering) × (r.two_out.peer ≡ Some q2) × (q2.heard ≡ q1.heard) × Each R q2.outbox.control.sent q2.outbox.senders
-    each = puts-each R there now r.back.datagrams r.two_in r.one_out r.two_out r.one_in q1 r.back.puts f1.is f1.on sends (
-      (λ t h. inl (older-since d there q.heard q1.heard t.transmission q1_heard (mid_controls t h))),
-      (λ y k t h. (let place = has-place q1.outbox.senders y k in inl (older-since d there q.heard q1.heard t.transmission q1_heard (mid place.0 t (y, place.1, h))))),
-    )
+    sends' : (wait : ℕ) → Sends R' there wait
+    sends' wait = record { first = inr (refl, begun-rounds rest there q1.heard wait); again = again' }
+      where
+        again' : (t : Transmission) → R' t → t.due ≡ true → R' (Rattle.enet_rtt.specs.Transmission.again there t)
+        again' t (inl o) due = inr (refl, again-rounds rest there q1.heard t below o)
+        again' t (inr k) due = absurd (let z : true ≡ false = sym due ∙ k.0 in cc)
+
+    each : (q2 : Peering) × (r.two_out.peer ≡ Some q2) × (q2.heard ≡ q1.heard) × ((t : SentControl) → Has q2.outbox.control.sent t → R t.transmission)
+    each = puts-controls R there now r.back.datagrams r.two_in r.one_out r.two_out r.one_in q1 r.back.puts f1.is f1.on sends (λ t h. inl (older-since d there q.heard q1.heard t.transmission q1_heard (mid_controls t h)))
+
+    each' : (q2 : Peering) × (r.two_out.peer ≡ Some q2) × OnChannels R' q2.outbox.senders
+    each' = puts-channels R' there now r.back.datagrams r.two_in r.one_out r.two_out r.one_in q1 r.back.puts f1.is f1.on sends'
+        (λ y k t h. (let place = has-place q1.outbox.senders y k in inl (old-for-since rest there q.heard q1.heard t.transmission q1_heard (mid place.0 t (y, place.1, h)))))
 
     f2 : Pinging (λ t. Has q1.outbox.control.sent t) r.two_out r.one_in
     f2 = pinging-many (λ t. Has q1.outbox.control.sent t) there now r.back.datagrams r.two_in r.one_out r.two_out r.one_in r.back.puts
@@ -334,7 +366,7 @@ steady-round joined d a b c e p q low i is_p is_q plain_p plain_q ready r = reco
 
         by : Has q1.outbox.control.sent t ⊎ AnswersAt q2.offset f2.other 0xFF t.command.number t.transmission → IsOld d there v.heard t.transmission ⊎ (HasARound d there v.heard t.transmission × AnswersAt v.offset u 0xFF t.command.number t.transmission)
         by (inl old) = inl (old-since d there q.heard v.heard t.transmission v_heard (older-stays d there q.heard t.transmission due (mid_controls t old)))
-        by (inr w) = new t.transmission (AnswersAt v.offset u 0xFF t.command.number t.transmission) (each.3.0 t (subst (λ (y : Peering). Has y.outbox.control.sent t) (sym same_q2) at_out)) due (waits-at-last q2.offset 0xFF t.command.number w.0 t.transmission f2.other f2.other_is w.1 w.2 f3.leaves.offset)
+        by (inr w) = new t.transmission (AnswersAt v.offset u 0xFF t.command.number t.transmission) (each.3 t (subst (λ (y : Peering). Has y.outbox.control.sent t) (sym same_q2) at_out)) due (waits-at-last q2.offset 0xFF t.command.number w.0 t.transmission f2.other f2.other_is w.1 w.2 f3.leaves.offset)
 
     b2 : Sending joined (HasSent x.first.other.outbox.senders) x.first.other x.first.peer r.two_out r.one_in
     b2 = x.then'
@@ -342,20 +374,21 @@ steady-round joined d a b c e p q low i is_p is_q plain_p plain_q ready r = reco
     k2 : Came r.two_out e.two b2.peer
     k2 = took-all r.events_two r.two_out e.one e.two b2.peer r.takes_two b2.is b2.connected
 
-    v_channels : (channel : ℕ) (t : Sent) → HasSent v.outbox.senders channel t → IsOld d there v.heard t.transmission ⊎ (HasARound d there v.heard t.transmission × AnswersAt v.offset u channel t.command.number t.transmission)
+    -- of what was put in now on a channel
+    new' : (t : Transmission) (X : Type 0) → R' t → X → IsOldFor rest there v.heard t ⊎ (HasRounds rest there v.heard t × X)
+    new' t X (inl o) w = inl (old-for-since rest there q1.heard v.heard t v_since o)
+    new' t X (inr k) w = inr (rounds-since rest there q1.heard v.heard t v_since k.1, w)
+
+    v_channels : (channel : ℕ) (t : Sent) → HasSent v.outbox.senders channel t → IsOldFor rest there v.heard t.transmission ⊎ (HasRounds rest there v.heard t.transmission × AnswersAt v.offset u channel t.command.number t.transmission)
     v_channels channel t h = by (b2.all channel t at_out)
       where
         at_out : HasSent b2.peer.outbox.senders channel t
         at_out = k2.kept.sent channel t (subst (λ (y : Peering). HasSent y.outbox.senders channel t) (same-peer e.two v k2.peer f3.is k2.is) h)
 
-        at_each : HasSent each.0.outbox.senders channel t
-        at_each = subst (λ (y : Peering). HasSent y.outbox.senders channel t) (same-peer r.two_out b2.peer each.0 b2.is each.1) at_out
+        at_each : HasSent each'.0.outbox.senders channel t
+        at_each = subst (λ (y : Peering). HasSent y.outbox.senders channel t) (same-peer r.two_out b2.peer each'.0 b2.is each'.1) at_out
 
-        due : t.transmission.due ≡ false
-        due = (let rests = r.back.spent b2.peer b2.is in sender-rests (occasion (pace_of b2.peer there) b2.peer.outbox) at_out.0.sender (rests.channels channel at_out.0 at_out.1) t at_out.2)
-
-        by : HasSent x.first.other.outbox.senders channel t ⊎ OnItsWay b2.peer.offset r.one_in channel t → IsOld d there v.heard t.transmission ⊎ (HasARound d there v.heard t.transmission × AnswersAt v.offset u channel t.command.number t.transmission)
-        by (inl old) = inl (old-since d there q.heard v.heard t.transmission v_heard
-            (older-stays d there q.heard t.transmission due (mid channel t (subst (λ (y : Peering). HasSent y.outbox.senders channel t) (same-peer r.two_in x.first.other q1 x.first.other_is f1.is) old))))
-        by (inr w) = new t.transmission (AnswersAt v.offset u channel t.command.number t.transmission) (each.3.1 at_each.0 (Rattle.law_progress.proofs.Waiting.Has-at each.0.outbox.senders channel at_each.0 at_each.1) t at_each.2) due
+        by : HasSent x.first.other.outbox.senders channel t ⊎ OnItsWay b2.peer.offset r.one_in channel t → IsOldFor rest there v.heard t.transmission ⊎ (HasRounds rest there v.heard t.transmission × AnswersAt v.offset u channel t.command.number t.transmission)
+        by (inl old) = inl (old-for-since rest there q.heard v.heard t.transmission v_heard (mid channel t (subst (λ (y : Peering). HasSent y.outbox.senders channel t) (same-peer r.two_in x.first.other q1 x.first.other_is f1.is) old)))
+        by (inr w) = new' t.transmission (AnswersAt v.offset u channel t.command.number t.transmission) (each'.2 at_each.0 (Rattle.law_progress.proofs.Waiting.Has-at each'.0.outbox.senders channel at_each.0 at_each.1) t at_each.2)
             (waits-at-last b2.peer.offset channel t.command.number w.0 t.transmission w.1 w.2 w.3 w.4 (f3.leaves.offset ∙ ap (λ (y : Peering). y.offset) (same-peer r.two_out q2 b2.peer f2.is b2.is)))

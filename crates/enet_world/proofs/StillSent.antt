@@ -5,6 +5,7 @@ use Rattle.std.proofs.lemmas.Bool.Decides.{nat_tests}
 use Rattle.std.specs.List.{position, slice_get, slice_set}
 use Rattle.enet_seq.specs.Numbering.{wire}
 use Rattle.enet_rtt.specs.Transmission as transmission
+use Rattle.enet_rtt.specs.declared.transmission.Tick.{Tick}
 use Rattle.enet_rtt.specs.declared.transmission.Transmission.{Transmission}
 use Rattle.enet_senders.specs.Controlling as controlling
 use Rattle.enet_senders.specs.Controlling.{Commands}
@@ -25,7 +26,6 @@ use Rattle.enet_outbox.proofs.Filled.{by-filling}
 use Rattle.law_connection.proofs.Runs.{and-left, and-right}
 use Rattle.law_connection.proofs.Lists.{Has-push}
 use Rattle.law_connection.proofs.CarriageLemmas.{Has-append_left}
-use Rattle.law_progress.specs.Outboxes.{WaitsForSome}
 use Rattle.law_progress.proofs.PutsOut.{found-passes}
 use Rattle.law_progress.proofs.Spent.{Goes, First, Again, goes-of}
 use Rattle.law_progress.proofs.Trips.{Has-map}
@@ -128,10 +128,10 @@ still-filled R pace o again some = by-filling pace o (λ f. StillWaits R f.outbo
 }) some
 
 -- time goes on
-pub still-marked : (R Q : Transmission → Type 0) (bound now : ℕ) (o : Outbox) → ((t : Transmission) → R t → Q (transmission.marked bound now t)) → StillWaits R o → StillWaits Q (outbox.marked o bound now)
-still-marked R Q bound now o goes (inl (t, h, r)) = inl (controlling.marked bound now t, Has-map (controlling.marked bound now) o.control.sent t h, goes t.transmission r)
-still-marked R Q bound now o goes (inr (s, k, (t, h, r))) =
-    inr (marked_sender bound now s, Has-map (marked_sender bound now) o.senders s k, (sender.marked bound now t, Has-map (sender.marked bound now) s.sender.sent t h, goes t.transmission r))
+pub still-marked : (R Q : Transmission → Type 0) (tick : Tick) (o : Outbox) → ((t : Transmission) → R t → Q (transmission.marked tick t)) → StillWaits R o → StillWaits Q (outbox.marked o tick)
+still-marked R Q tick o goes (inl (t, h, r)) = inl (controlling.marked tick t, Has-map (controlling.marked tick) o.control.sent t h, goes t.transmission r)
+still-marked R Q tick o goes (inr (s, k, (t, h, r))) =
+    inr (marked_sender tick s, Has-map (marked_sender tick) o.senders s k, (sender.marked tick t, Has-map (sender.marked tick) s.sender.sent t h, goes t.transmission r))
 
 -- what is known of some, and of all
 pub still-so : (R Q : Transmission → Type 0) (o : Outbox) → ((t : Transmission) → R t → Q t) → StillWaits R o → StillWaits Q o
@@ -141,10 +141,6 @@ still-so R Q o more (inr (s, k, (t, h, r))) = inr (s, k, (t, h, more t.transmiss
 pub still-with : (R S : Transmission → Type 0) (o : Outbox) → Each S o.control.sent o.senders → StillWaits R o → StillWaits (λ t. R t × S t) o
 still-with R S o all (inl (t, h, r)) = inl (t, h, (r, all.0 t h))
 still-with R S o all (inr (s, k, (t, h, r))) = inr (s, k, (t, h, (r, all.1 s k t h)))
-
-pub some-waits : (S : Transmission → Type 0) (o : Outbox) → Each S o.control.sent o.senders → WaitsForSome o → StillWaits S o
-some-waits S o all (inl (t, h)) = inl (t, h, all.0 t h)
-some-waits S o all (inr (s, k, t, h)) = inr (s, k, (t, h, all.1 s k t h))
 
 pub none-waits : (R : Transmission → Type 0) (o : Outbox) → ((t : Transmission) → R t → ⊥) → StillWaits R o → ⊥
 none-waits R o never (inl (t, h, r)) = never t.transmission r

@@ -14,6 +14,8 @@ use Rattle.enet_peer.specs.declared.parts.PeerState.TheVariants as state
 use Rattle.enet_peer.specs.Peering.{Peering}
 use Rattle.enet_sender.specs.CommandChoice.{carried_from, goes_reliable, is_long, is_flagged_unreliable_fragment}
 use Rattle.enet_sender.specs.CommandChoice as command_choice
+use Rattle.enet_sender.specs.declared.sent.Sent.{Sent}
+use Rattle.enet_sender.specs.Due.{SendingEnd}
 use Rattle.enet_outbox.specs.Outbox.{has_ended, is_unsequenced, is_flagged_unsequenced}
 use Rattle.enet_slot.specs.Calls.{event_of}
 use Rattle.enet_host.specs.Host.{named}
@@ -41,7 +43,7 @@ use Rattle.law_network.proofs.Own.{of-the-host}
 use Rattle.law_network.proofs.Runs.{Sound, both as both-so}
 use Rattle.law_network.proofs.Submitting.{same-some}
 use Rattle.law_network.proofs.Worlds.{IsHost, KeptEither, Pair, acts-of}
-use Rattle.law_progress.specs.Exchanges.{IsOpen, BothThrough, IsThrough, AllOver, outstanding_over}
+use Rattle.law_progress.specs.Exchanges.{IsOpen, BothThrough, IsThrough, AllOver, HasSent, outstanding_over}
 use Rattle.law_progress.specs.InTurn.{RoundInTurn, RoundsInTurn}
 use Rattle.law_progress.specs.Links.{AllDispatched}
 use Rattle.law_progress.proofs.Exchanges.{Joint, joint-swap}
@@ -53,7 +55,7 @@ use Rattle.enet_site.specs.Standing.{peer_at, state_at}
 use Rattle.enet_world.specs.declared.calm.Calm.{Calm}
 use Rattle.enet_world.specs.declared.calm.Share.{Share}
 use Rattle.enet_world.specs.Calm.{Round, Rounds, both, is_smooth, sum}
-use Rattle.enet_world.specs.Progress.{clock_by_rounds, AllCame, WasTaken, GetsThrough}
+use Rattle.enet_world.specs.Progress.{clock_by_rounds, AllCame, AreConnected, AreEnough, WasTaken, GetsThrough}
 use Rattle.enet_world.specs.Private.Worlds.{IsReached}
 use Rattle.law_headline.proofs.Delivering.{standing}
 use Rattle.enet_world.proofs.Habits.{Habits, habits-step}
@@ -61,7 +63,7 @@ use Rattle.enet_world.proofs.InRounds.{clock_at, StandStill, Keeps, kept-out, ke
 use Rattle.enet_world.proofs.Lasting.{is_past, not-past}
 use Rattle.enet_world.proofs.Living.{named-fits}
 use Rattle.enet_world.proofs.Reaching.{reached-step}
-use Rattle.enet_world.proofs.TwoEnds.{from_start, sound, IsDown, down-step, Up, up-swapped}
+use Rattle.enet_world.proofs.TwoEnds.{from_start, sound, host-at, IsDown, down-step, Up, up-swapped}
 
 -- ---- the clocks in a round
 pub tick-clock : (w v : World) (side : Side) (ms : ℕ) (told : Result Answer Refusal) → Steps w (happen.Tick side ms) told v → (clock_at v side ≡ clock_after (clock_at w side) ms) × (clock_at v (other side) ≡ clock_at w (other side))
@@ -559,6 +561,109 @@ parted n zero h = (n, omega arith)
 parted zero (suc m) h = absurd (omega arith)
 parted (suc n) (suc m) h = (let g = parted n m (omega arith) in (g.0, let e : n ≡ g.0 + m = g.1 in omega arith))
 
+-- both ends of a connection whose peers are connected
+begun-at : (joined : Bool) (old : World) (x : ℕ) → IsReached joined old → (before : AreConnected old x) → Begun joined old x (connected-at old.a x before.0).stands.peer (connected-at old.b x before.1).stands.peer
+begun-at joined old x r before = begun joined old x r (connected-at old.a x before.0) (connected-at old.b x before.1)
+
+-- where the rounds are enough, nothing is outstanding at either
+through-by : (joined : Bool) (ms rounds : ℕ) (old new : World) (x : ℕ) (r : IsReached joined old) (before : AreConnected old x) → AreEnough ms rounds old x
+    → (k : AllRounded joined rounds ms old new x (begun-at joined old x r before).own (begun-at joined old x r before).far) → BothThrough (record { one = k.one; two = k.two })
+through-by joined ms rounds old new x r before enough k = by (waits-suc enough.waits refl)
+  where
+    here : IsConnected old.a x
+    here = connected-at old.a x before.0
+
+    there : IsConnected old.b x
+    there = connected-at old.b x before.1
+
+    first : Begun joined old x here.stands.peer there.stands.peer
+    first = begun-at joined old x r before
+
+    -- so many rounds, and the others
+    waits-suc : (n : ℕ) → enough.waits ≡ n → (m : ℕ) × (enough.waits ≡ suc m)
+    waits-suc zero e = absurd (let z : 0 < enough.waits = enough.some in omega arith)
+    waits-suc (suc m) e = (m, e)
+
+    same_p : enough.p ≡ here.stands.peer
+    same_p = sym (peer-stands old.a x here.stands enough.p enough.is_p)
+
+    same_q : enough.q ≡ there.stands.peer
+    same_q = sym (peer-stands old.b x there.stands enough.q enough.is_q)
+
+    few : enough.waits + 2 * (outstanding_over here.stands.peer.outbox.senders + outstanding_over there.stands.peer.outbox.senders) ≤ rounds
+    few = subst (λ (y : Peering). enough.waits + 2 * (outstanding_over y.outbox.senders + outstanding_over there.stands.peer.outbox.senders) ≤ rounds) same_p
+        (subst (λ (y : Peering). enough.waits + 2 * (outstanding_over enough.p.outbox.senders + outstanding_over y.outbox.senders) ≤ rounds) same_q enough.enough)
+
+    by : (m : ℕ) × (enough.waits ≡ suc m) → BothThrough (record { one = k.one; two = k.two })
+    by w = all-in-turn (from_start joined x) (moments w.0 ms (clock_at old A) (clock_at old B)) (clock_by_rounds (suc w.0) ms (clock_at old A)) (clock_by_rounds (suc w.0) ms (clock_at old B)) cut.later
+        (record { one = first.own; two = first.far }) (record { one = k.one; two = k.two }) here.stands.peer there.stands.peer first.up.joint (first.up.is_p ∙ ap Some first.same_p) (first.up.is_q ∙ ap Some first.same_q)
+        (subst (λ (n : ℕ). AllOver (clock_by_rounds n ms (clock_at old A)) here.stands.peer) w.1 (subst (λ (y : Peering). AllOver (clock_by_rounds enough.waits ms (clock_at old A)) y) same_p enough.over_p)) (subst (λ (n : ℕ). AllOver (clock_by_rounds n ms (clock_at old B)) there.stands.peer) w.1 (subst (λ (y : Peering). AllOver (clock_by_rounds enough.waits ms (clock_at old B)) y) same_q enough.over_q))
+        (subst (λ (l : List (ℕ × ℕ)). RoundsInTurn l (record { one = first.own; two = first.far }) (record { one = k.one; two = k.two })) cut.is k.rounds)
+        (let a : enough.waits ≡ suc w.0 = w.1 in let b : length cut.later + suc w.0 ≡ rounds = cut.many in omega (arith, few))
+      where
+        rest : (m : ℕ) × (rounds ≡ m + suc w.0)
+        rest = (let z : enough.waits ≡ suc w.0 = w.1 in parted rounds (suc w.0) (omega (arith, few)))
+
+        cut : Split ms (clock_at old A) (clock_at old B) w.0 rounds
+        cut = split ms (clock_at old A) (clock_at old B) w.0 rest.0 rounds rest.1
+
+-- an end that is up at a side
+pub up-state : (joined : Bool) (w : World) (x : ℕ) (side : Side) (own far : End) → IsReached joined w → (u : Up joined w x side own far) → state_at (site_of w side) x ≡ Some state.Connected
+up-state joined w x side own far r u =
+    ap (λ (o : Option HostEnd). option_map (λ (p : Peering). p.state) (option_and_then (λ (e : HostEnd). named (site_of w side).host.slots e.name) o))
+    (shown-end-of (site_of w side) w.count x u.ends.e (host-at (from_start joined) w (sound joined w r) side) u.ends.here u.ends.of_e)
+    ∙ ap (λ (o : Option Peering). option_map (λ (p : Peering). p.state) o) (named-up joined w x side own far u) ∙ ap (λ (s : PeerState). Some s) u.on_p
+
+-- its peer is the one that the host has
+same-up : (joined : Bool) (w : World) (x : ℕ) (side : Side) (own far own' far' : End) → IsReached joined w → (u : Up joined w x side own far) (v : Up joined w x side own' far') → u.p ≡ v.p
+same-up joined w x side own far own' far' r u v =
+    same-some u.p v.p (sym (named-up joined w x side own far u) ∙ ap (λ (e : HostEnd). named (site_of w side).host.slots e.name) same ∙ named-up joined w x side own' far' v)
+  where
+    end-is : (one two : End) (k : Up joined w x side one two) → end_of x (site_of w side).ends ≡ Some k.ends.e
+    end-is one two k = shown-end-of (site_of w side) w.count x k.ends.e (host-at (from_start joined) w (sound joined w r) side) k.ends.here k.ends.of_e
+
+    same : u.ends.e ≡ v.ends.e
+    same = same-some u.ends.e v.ends.e (sym (end-is own far u) ∙ end-is own' far' v)
+
+-- so where both ends are up after rounds that are enough, nothing waits for its acknowledgement on any channel
+none-of-none : (xs : List SendingEnd) → outstanding_over xs ≡ 0 → (channel : ℕ) (t : Sent) → HasSent xs channel t → ⊥
+none-of-none [] e channel t h = absurd (let z : ◌≡◌ {A = Option SendingEnd} None (Some h.0) = h.1 in cc)
+none-of-none (s ∷ xs) e zero t h = none s.sender.sent t (subst (λ (y : SendingEnd). Has y.sender.sent t) (sym (same-some s h.0 h.1)) h.2) (let z = e in omega arith)
+  where
+    none : (l : List Sent) (y : Sent) → Has l y → length l ≡ 0 → ⊥
+    none [] y k z = absurd k
+    none (a ∷ l) y k z = (omega arith)
+none-of-none (s ∷ xs) e (suc channel) t h = none-of-none xs (let z = e in omega arith) channel t h
+
+pub nothing-sent : (joined : Bool) (ms rounds : ℕ) (told : Calm) (old new : World) (x : ℕ) → IsReached joined old → Habits old → AreConnected old x → AreEnough ms rounds old x → Rounds ms rounds told old new → Smooth told.a → Smooth told.b
+    → (one two : End) → (u : Up joined new x A one two) → ((channel : ℕ) (t : Sent) → HasSent u.p.outbox.senders channel t → ⊥) × ((channel : ℕ) (t : Sent) → HasSent u.q.outbox.senders channel t → ⊥)
+nothing-sent joined ms rounds told old new x r habits before enough d a b one two u = by (rounds-go joined ms rounds told old new x first.own first.far r habits first.up d a b)
+  where
+    first : Begun joined old x (connected-at old.a x before.0).stands.peer (connected-at old.b x before.1).stands.peer
+    first = begun-at joined old x r before
+
+    last : IsReached joined new
+    last = reached-rounds joined ms rounds told old new d r
+
+    by : AllRounded joined rounds ms old new x first.own first.far ⊎ IsDown new x → ((channel : ℕ) (t : Sent) → HasSent u.p.outbox.senders channel t → ⊥) × ((channel : ℕ) (t : Sent) → HasSent u.q.outbox.senders channel t → ⊥)
+    by (inr down) = absurd (not-down joined new x last (connected-at new.a x (up-state joined new x A one two last u)) (connected-at new.b x (up-state joined new x B two one last (up-swapped joined new x A one two u))) down)
+    by (inl k) = (
+      (λ channel t h. none-of-none t'.one.outbox.senders (let z = t'.none in omega arith) channel t (subst (λ (y : Peering). HasSent y.outbox.senders channel t) (same-up joined new x A one two k.one k.two last u k.up ∙ sym (same-some t'.one k.up.p (sym t'.is_one ∙ k.up.is_p))) h)),
+      (λ channel t h. none-of-none t'.two.outbox.senders (let z = t'.none in omega arith) channel t (subst (λ (y : Peering). HasSent y.outbox.senders channel t) (same-far ∙ sym (same-some t'.two k.up.q (sym t'.is_two ∙ k.up.is_q))) h)),
+    )
+      where
+        t' : BothThrough (record { one = k.one; two = k.two })
+        t' = through-by joined ms rounds old new x r before enough k
+
+        u' : Up joined new x B two one
+        u' = up-swapped joined new x A one two u
+
+        k' : Up joined new x B k.two k.one
+        k' = up-swapped joined new x A k.one k.two k.up
+
+        same-far : u.q ≡ k.up.q
+        same-far = same-some u.q u'.p (sym u.is_q ∙ u'.is_p) ∙ same-up joined new x B two one k.two k.one last u' k' ∙ same-some k'.p k.up.q (sym k'.is_p ∙ k.up.is_q)
+
 pub gets-through : (joined : Bool) (ms rounds : ℕ) (told : Calm) (old new : World) → IsReached joined old → Habits old → Rounds ms rounds told old new → GetsThrough ms rounds told old new
 gets-through joined ms rounds told old new r habits d x before after smooth enough channel low =
     by (rounds-go joined ms rounds told old new x first.own first.far r habits first.up d (smooth-so told.a parts_of.0) (smooth-so told.b parts_of.1))
@@ -576,7 +681,7 @@ gets-through joined ms rounds told old new r habits d x before after smooth enou
     after_b = connected-at new.b x after.1
 
     first : Begun joined old x here.stands.peer there.stands.peer
-    first = begun joined old x r here there
+    first = begun-at joined old x r before
 
     parts_of : (is_smooth told.a ≡ true) × (is_smooth told.b ≡ true)
     parts_of = both-so (is_smooth told.a) (is_smooth told.b) smooth
@@ -589,33 +694,18 @@ gets-through joined ms rounds told old new r habits d x before after smooth enou
 
     by : AllRounded joined rounds ms old new x first.own first.far ⊎ IsDown new x → WasTaken new x A channel × WasTaken new x B channel
     by (inr down) = absurd (not-down joined new x last after_a after_b down)
-    by (inl k) = ends (waits-suc enough.waits refl)
+    by (inl k) = ends
       where
-        -- so many rounds, and the others
-        waits-suc : (n : ℕ) → enough.waits ≡ n → (m : ℕ) × (enough.waits ≡ suc m)
-        waits-suc zero e = absurd (let z : 0 < enough.waits = enough.some in omega arith)
-        waits-suc (suc m) e = (m, e)
-
-        ends : (m : ℕ) × (enough.waits ≡ suc m) → WasTaken new x A channel × WasTaken new x B channel
-        ends w = (
+        ends : WasTaken new x A channel × WasTaken new x B channel
+        ends = (
           through-sides new.a new.b x k.up.ends.e k.up.ends.f k.one k.two k.up.q channel is_e is_f k.up.ends.shows k.up.ends.shows_far k.up.is_q (k.empty_two some k.up.q k.up.is_q) low
               (subst (λ (y : Peering). IsThrough k.one k.two y channel) (same-some t.two k.up.q (sym t.is_two ∙ k.up.is_q)) (t.forth channel low)),
           through-sides new.b new.a x k.up.ends.f k.up.ends.e k.two k.one k.up.p channel is_f is_e k.up.ends.shows_far k.up.ends.shows k.up.is_p (k.empty_one some k.up.p k.up.is_p) low
               (subst (λ (y : Peering). IsThrough k.two k.one y channel) (same-some t.one k.up.p (sym t.is_one ∙ k.up.is_p)) (t.back channel low)),
         )
           where
-            same_p : enough.p ≡ here.stands.peer
-            same_p = sym (peer-stands old.a x here.stands enough.p enough.is_p)
-
-            same_q : enough.q ≡ there.stands.peer
-            same_q = sym (peer-stands old.b x there.stands enough.q enough.is_q)
-
-            few : enough.waits + 2 * (outstanding_over here.stands.peer.outbox.senders + outstanding_over there.stands.peer.outbox.senders) ≤ rounds
-            few = subst (λ (y : Peering). enough.waits + 2 * (outstanding_over y.outbox.senders + outstanding_over there.stands.peer.outbox.senders) ≤ rounds) same_p
-                (subst (λ (y : Peering). enough.waits + 2 * (outstanding_over enough.p.outbox.senders + outstanding_over y.outbox.senders) ≤ rounds) same_q enough.enough)
-
             some : 0 < rounds
-            some = (let z : 0 < enough.waits = enough.some in omega arith)
+            some = (let z : 0 < enough.waits = enough.some in let few = enough.enough in omega arith)
 
             is_e : end_of x new.a.ends ≡ Some k.up.ends.e
             is_e = shown-end-of new.a new.count x k.up.ends.e s.a k.up.ends.here k.up.ends.of_e
@@ -623,15 +713,5 @@ gets-through joined ms rounds told old new r habits d x before after smooth enou
             is_f : end_of x new.b.ends ≡ Some k.up.ends.f
             is_f = shown-end-of new.b new.count x k.up.ends.f s.b k.up.ends.there k.up.ends.of_f
 
-            rest : (r : ℕ) × (rounds ≡ r + suc w.0)
-            rest = (let z : enough.waits ≡ suc w.0 = w.1 in parted rounds (suc w.0) (omega arith))
-
-            cut : Split ms (clock_at old A) (clock_at old B) w.0 rounds
-            cut = split ms (clock_at old A) (clock_at old B) w.0 rest.0 rounds rest.1
-
             t : BothThrough (record { one = k.one; two = k.two })
-            t = all-in-turn (from_start joined x) (moments w.0 ms (clock_at old A) (clock_at old B)) (clock_by_rounds (suc w.0) ms (clock_at old A)) (clock_by_rounds (suc w.0) ms (clock_at old B)) cut.later
-                (record { one = first.own; two = first.far }) (record { one = k.one; two = k.two }) here.stands.peer there.stands.peer first.up.joint (first.up.is_p ∙ ap Some first.same_p) (first.up.is_q ∙ ap Some first.same_q)
-                (subst (λ (n : ℕ). AllOver (clock_by_rounds n ms (clock_at old A)) here.stands.peer) w.1 (subst (λ (y : Peering). AllOver (clock_by_rounds enough.waits ms (clock_at old A)) y) same_p enough.over_p)) (subst (λ (n : ℕ). AllOver (clock_by_rounds n ms (clock_at old B)) there.stands.peer) w.1 (subst (λ (y : Peering). AllOver (clock_by_rounds enough.waits ms (clock_at old B)) y) same_q enough.over_q))
-                (subst (λ (l : List (ℕ × ℕ)). RoundsInTurn l (record { one = first.own; two = first.far }) (record { one = k.one; two = k.two })) cut.is k.rounds)
-                (let a : enough.waits ≡ suc w.0 = w.1 in let b : length cut.later + suc w.0 ≡ rounds = cut.many in omega (arith, few))
+            t = through-by joined ms rounds old new x r before enough k

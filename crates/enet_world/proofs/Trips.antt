@@ -8,10 +8,13 @@ use Rattle.enet_senders.specs.Controlling as controlling
 use Rattle.enet_senders.specs.declared.control.Control.{Control}
 use Rattle.enet_senders.specs.declared.control.SentControl.{SentControl}
 use Rattle.law_connection.specs.LinkSteps.{Has}
+use Rattle.enet_sender.specs.declared.sent.Sent.{Sent}
+use Rattle.enet_sender.specs.Sender.{with_skipped}
+use Rattle.enet_sender.specs.Due.{SendingEnd}
 use Rattle.enet_outbox.specs.declared.parts.Acknowledgement.{Acknowledgement}
 use Rattle.enet_outbox.specs.declared.parts.Pace.{Pace}
 use Rattle.enet_outbox.specs.Outbox.{Outbox}
-use Rattle.enet_outbox.specs.Emission.{Filling, filled, acknowledgement_of}
+use Rattle.enet_outbox.specs.Emission.{Filling, filled, occasion, acknowledgement_of}
 use Rattle.enet_outbox.proofs.Filled.{by-filling}
 use Rattle.enet_peer.specs.declared.parts.PeerState.TheVariants as state
 use Rattle.enet_peer.specs.Peering.{Peering}
@@ -25,9 +28,9 @@ use Rattle.law_progress.proofs.BothRounds.{AnswersAt, told-last}
 use Rattle.law_progress.proofs.Controls.{GoesControl, Heads, Repeats, goes-control}
 use Rattle.law_progress.proofs.Exchanges.{same-peer, put_out, Gone, gone, Came, all-came, took-all}
 use Rattle.law_progress.proofs.Kept.{go-or-stay}
-use Rattle.law_progress.proofs.Waiting.{Each, Sends, each-filled, Has-set, Has-pushed}
+use Rattle.law_progress.proofs.Waiting.{Each, Sends, each-due, each-filled, each-next, each-set, Has-at, Has-set, Has-pushed}
 use Rattle.enet_world.proofs.Pinged.{leaves-then, Stood, stood-all, stood-takes, came-pinged, came-away}
-use Rattle.enet_world.proofs.Pings.{IsLone, Idle, Queued, Sent, is_ping, filled-lone}
+use Rattle.enet_world.proofs.Pings.{IsLone, Idle, Queued, Sent as SentOne, is_ping, filled-lone}
 
 -- ---- a datagram is filled
 record From (now : ℕ) (o : Outbox) (f : Filling) : Type 0 where
@@ -75,7 +78,7 @@ pinged-from pace o t h = (let all = made in all.from t h)
 sent-lone : (f : Control → Bool) (c : controlling.Commands) → IsLone f c → (t : SentControl) → Has c.sent t → f t.command.control ≡ true
 sent-lone f c (Idle a b) t h = absurd (subst (λ (l : List SentControl). Has l t) b h)
 sent-lone f c (Queued n ok a b) t h = absurd (subst (λ (l : List SentControl). Has l t) b h)
-sent-lone f c (Sent x ok a b) t h = elim (subst (λ (l : List SentControl). Has l t) b h) [
+sent-lone f c (SentOne x ok a b) t h = elim (subst (λ (l : List SentControl). Has l t) b h) [
   | inl same ↦ subst (λ (y : SentControl). f y.command.control ≡ true) same ok
   | inr none ↦ absurd none
 ]
@@ -98,6 +101,49 @@ puts-each R now there (suc n) from to from' to' p m is on sends all =
     let o : PutsOne now there from to m.0 m.1 = m.2 in
     let g : Gone now from to m.0 p o.new = gone now from to m.0 p o.new o.goes is on o.logged in
     puts-each R now there n m.0 m.1 from' to' (put_out p now) m.3 g.peer on sends (each-filled R (pace_of p now) p.outbox (sends (timeout p.estimate)) all)
+
+-- of all of whose transmissions on channel 0xFF something holds
+controls-filled : (R : Transmission → Type 0) (pace : Pace) (o : Outbox) → Sends R pace.now pace.timeout → ((t : SentControl) → Has o.control.sent t → R t.transmission) → (t : SentControl) → Has (filled pace o).outbox.control.sent t → R t.transmission
+controls-filled R pace o sends all = by-filling pace o (λ (f : Filling). (t : SentControl) → Has f.outbox.control.sent t → R t.transmission) (record {
+  closes = λ f k. k;
+  acknowledges = λ f a rest e k. k;
+  controls = λ f n e k. each-next R pace.now pace.timeout f.outbox.control n sends e k;
+  puts_unsequenced = λ f u rest t' e k. k;
+  drops_unsequenced = λ f u rest t' e k. k;
+  puts_data = λ f i s n t' there due k. k;
+  drops_data = λ f i s n t' there due kind k. k;
+}) all
+
+pub puts-controls : (R : Transmission → Type 0) (now there n : ℕ) (from to from' to' : End) (p : Peering) → PutsMany now there n from to from' to' → from.peer ≡ Some p → p.state ≡ state.Connected → ((wait : ℕ) → Sends R now wait)
+    → ((t : SentControl) → Has p.outbox.control.sent t → R t.transmission) → (q : Peering) × (from'.peer ≡ Some q) × (q.heard ≡ p.heard) × ((t : SentControl) → Has q.outbox.control.sent t → R t.transmission)
+puts-controls R now there zero from to from' to' p m is on sends all = (p, ap (λ (x : End). x.peer) m.0 ∙ is, refl, all)
+puts-controls R now there (suc n) from to from' to' p m is on sends all =
+    let o : PutsOne now there from to m.0 m.1 = m.2 in
+    let g : Gone now from to m.0 p o.new = gone now from to m.0 p o.new o.goes is on o.logged in
+    puts-controls R now there n m.0 m.1 from' to' (put_out p now) m.3 g.peer on sends (controls-filled R (pace_of p now) p.outbox (sends (timeout p.estimate)) all)
+
+-- of all of whose transmissions on the channels something holds
+abbrev pub OnChannels : (Transmission → Type 0) → List SendingEnd → Type 0
+OnChannels R senders = (s : SendingEnd) → Has senders s → (t : Sent) → Has s.sender.sent t → R t.transmission
+
+channels-filled : (R : Transmission → Type 0) (pace : Pace) (o : Outbox) → Sends R pace.now pace.timeout → OnChannels R o.senders → OnChannels R (filled pace o).outbox.senders
+channels-filled R pace o sends all = by-filling pace o (λ (f : Filling). OnChannels R f.outbox.senders) (record {
+  closes = λ f k. k;
+  acknowledges = λ f a rest e k. k;
+  controls = λ f n e k. k;
+  puts_unsequenced = λ f u rest t' e k. k;
+  drops_unsequenced = λ f u rest t' e k. k;
+  puts_data = λ f i s n t' there due k. each-set R f.outbox.senders i s n.sender there (each-due R (occasion pace f.outbox) s.sender n sends due (k s (Has-at f.outbox.senders i s there))) k;
+  drops_data = λ f i s n t' there due kind k. each-set R f.outbox.senders i s (with_skipped n.sender) there (each-due R (occasion pace f.outbox) s.sender n sends due (k s (Has-at f.outbox.senders i s there))) k;
+}) all
+
+pub puts-channels : (R : Transmission → Type 0) (now there n : ℕ) (from to from' to' : End) (p : Peering) → PutsMany now there n from to from' to' → from.peer ≡ Some p → p.state ≡ state.Connected → ((wait : ℕ) → Sends R now wait)
+    → OnChannels R p.outbox.senders → (q : Peering) × (from'.peer ≡ Some q) × OnChannels R q.outbox.senders
+puts-channels R now there zero from to from' to' p m is on sends all = (p, ap (λ (x : End). x.peer) m.0 ∙ is, all)
+puts-channels R now there (suc n) from to from' to' p m is on sends all =
+    let o : PutsOne now there from to m.0 m.1 = m.2 in
+    let g : Gone now from to m.0 p o.new = gone now from to m.0 p o.new o.goes is on o.logged in
+    puts-channels R now there n m.0 m.1 from' to' (put_out p now) m.3 g.peer on sends (channels-filled R (pace_of p now) p.outbox (sends (timeout p.estimate)) all)
 
 -- ---- a PING that waits has a property, or its acknowledgement waits to go at the other
 pub record Pinging (D : SentControl → Type 0) (from to : End) : Type 0 where

@@ -13,7 +13,7 @@ use Rattle.enet_outbox.specs.Outbox.{Outbox, acknowledged_on}
 use Rattle.enet_peer.specs.declared.parts.PeerEvent.{PeerEvent}
 use Rattle.enet_peer.specs.declared.parts.PeerState.TheVariants as state
 use Rattle.enet_peer.specs.Peering.{Peering}
-use Rattle.enet_peer.specs.Calls.{is_connected, submission_refusal, submitted}
+use Rattle.enet_peer.specs.Calls.{is_connected, submission_refusal}
 use Rattle.law_connection.specs.Linked.{sender_in}
 use Rattle.law_connection.proofs.Events.{took}
 use Rattle.law_connection.proofs.Moves.{senders-after, marked-at}
@@ -66,8 +66,8 @@ unsent-changes = record {
   greets = λ p e h at. absurd (cc);
   welcomes = λ p v terms e big word h at. absurd (cc);
   acknowledges = λ p j number here h at. acknowledged-idle p.outbox j number (h at);
-  marks = λ p bound now h at i. marked-at bound now p.outbox.senders i ∙ ap (with_marked bound now) (h at i);
-  holds_back = λ p bound now at h. h;
+  marks = λ p tick h at i. marked-at tick p.outbox.senders i ∙ ap (with_marked tick) (h at i);
+  holds_back = λ p tick at h. h;
   gives_way = λ p on h. h;
   takes = λ p j r c on there h. h;
   takes_unsequenced = λ p j group payload on h. h;

@@ -12,14 +12,14 @@ use Rattle.enet_senders.specs.declared.control.Control.{Control}
 use Rattle.enet_senders.specs.declared.control.Control.TheVariants as control
 use Rattle.enet_outbox.specs.declared.parts.Matched.{Matched}
 use Rattle.enet_outbox.specs.declared.parts.Matched.TheVariants as matched
-use Rattle.enet_outbox.specs.Outbox.{matched_by, after_acknowledgement}
+use Rattle.enet_outbox.specs.Outbox.{matched_by, told_by, with_growth, after_acknowledgement}
 use Rattle.enet_outbox.specs.Outbox as outbox
 use Rattle.enet_peer.specs.declared.parts.PeerState.{PeerState}
 use Rattle.enet_peer.specs.declared.parts.PeerState.TheVariants as state
 use Rattle.enet_peer.specs.Peering.{Peering}
 use Rattle.enet_peer.specs.Endings.{settled, disconnecting, is_later, freed, cut_off_in}
 use Rattle.enet_peer.specs.CommandEffect.{obeyed, is_connecting, on_acknowledge, on_match, sampled, with_answer, on_verify_in, welcomed, on_disconnect_in, on_last_disconnect}
-use Rattle.enet_peer.specs.Calls.{Leave, AtOnce, TellsOnce, Asks, AsksLater, Refused, left, expiry_of, gone_on_in, moved, ticked, pinged, is_pinged, after_timeouts_by, growth_bound}
+use Rattle.enet_peer.specs.Calls.{Leave, AtOnce, TellsOnce, Asks, AsksLater, Refused, left, expiry_of, gone_on_in, moved, ticked, pinged, is_pinged, after_timeouts_by, tick_of}
 use Rattle.law_progress.specs.Waits.{after_leave}
 use Rattle.law_progress.proofs.Moving.{by-moved}
 use Rattle.enet_world.proofs.Pings.{answered-holds, obeys-each}
@@ -47,7 +47,7 @@ unset-acknowledge p now channel number told low h = by-state (is_connecting p.st
     time = meant_time told (p.offset % 2 ^ 16)
 
     q : Peering
-    q = sampled (record p { outbox = after_acknowledgement p.outbox channel number }) now time
+    q = sampled (record p { outbox = with_growth (after_acknowledgement p.outbox channel number) (told_by p.outbox channel number time) }) now time
 
     by : (x : Matched) → IsUnset (on_match x p q)
     by matched.Nothing = h
@@ -119,7 +119,7 @@ unset-ticked p n h = by (expiry_of p n)
 
     by : (e : Expiry) → IsUnset (pinged (after_timeouts_by e p n) n)
     by End = pings (cut_off_in p.state p) (cut p.state)
-    by Resend = pings (record p { outbox = outbox.marked p.outbox (growth_bound p) n }) h
+    by Resend = pings (record p { outbox = outbox.marked p.outbox (tick_of p n) }) h
     by No = pings p h
 
 pub unset-moved : (short : Bool) (p : Peering) (n : ℕ) → IsUnset p → IsUnset (moved short p n)

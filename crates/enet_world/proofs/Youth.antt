@@ -1,12 +1,14 @@
 -- Which commands that were sent outlast the rounds until they are acknowledged, by ENet's patience. Times are in milliseconds; a round takes
 -- `d` of them.
-use Rattle.std.proofs.Common.{zero, suc, ◌≡◌, ℕ, ◌+◌, ◌-◌, ◌*◌, ◌%◌, ◌^◌, ◌<◌, ◌≤◌, ◌&&◌, ◌||◌, not, leb, min, Bool, true, false, cond, refl, sym, ap, subst, ◌∙◌, inl, inr, ◌⊎◌, arith}
+use Rattle.std.proofs.Common.{zero, suc, ◌≡◌, ℕ, ◌+◌, ◌-◌, ◌*◌, ◌%◌, ◌^◌, ◌<◌, ◌≤◌, ◌&&◌, ◌||◌, not, ltb, leb, min, Bool, true, false, cond, refl, sym, ap, subst, ◌∙◌, inl, inr, ◌⊎◌, arith}
 use Rattle.std.proofs.lemmas.Bool.Decides.{nat_tests}
 use Rattle.std.proofs.Math.Bool.{and-false}
 use Rattle.enet_rtt.specs.Clock.{elapsed_time, since_later}
 use Rattle.enet_rtt.specs.Transmission as transmission
 use Rattle.enet_rtt.specs.Expiry.{gives_up, standard_patience}
 use Rattle.enet_rtt.specs.declared.transmission.Transmission.{Transmission}
+use Rattle.enet_peer.specs.Peering.{Peering}
+use Rattle.enet_peer.specs.Calls.{tick_of}
 use Rattle.law_progress.proofs.Timed.{lt-of}
 use Rattle.enet_world.specs.Stands.{IsYoung}
 use Rattle.enet_world.proofs.Punctual.{Rests, no-time}
@@ -42,19 +44,19 @@ OldBy age most d n t = ((t.due ≡ true) × (age + 2 * d < most)) ⊎ HasTime ag
 abbrev LaterBy : (age most d n : ℕ) → Transmission → Type 0
 LaterBy age most d n t = ((t.due ≡ true) × (age + d < most)) ⊎ HasTime age most d n t
 
-marked-by : (age later most d n bound : ℕ) (t : Transmission) → later ≤ age + d → most ≤ 30000 → d < 30000 → OldBy age most d n t → LaterBy later most d (moment n d) (transmission.marked bound (moment n d) t)
-marked-by age later most d n bound t goes high low o = by t.due refl (leb t.timeout (elapsed_time (moment n d) t.last)) refl o
+marked-by : (age later most d n : ℕ) (p : Peering) (t : Transmission) → later ≤ age + d → most ≤ 30000 → d < 30000 → OldBy age most d n t → LaterBy later most d (moment n d) (transmission.marked (tick_of p (moment n d)) t)
+marked-by age later most d n p t goes high low o = by t.due refl (leb t.timeout (elapsed_time (moment n d) t.last)) refl o
   where
     m : ℕ
     m = moment n d
 
     grows : Transmission
-    grows = record t { timeout = transmission.grown_time bound t.timeout; due = true }
+    grows = record t { timeout = transmission.next_time (tick_of p m) t; due = true }
 
-    same : transmission.is_late m t ≡ false → LaterBy later most d m t → LaterBy later most d m (transmission.marked bound m t)
+    same : transmission.is_late m t ≡ false → LaterBy later most d m t → LaterBy later most d m (transmission.marked (tick_of p m) t)
     same e r = subst (λ b. LaterBy later most d m (cond b grows t)) (sym e) r
 
-    by : (due : Bool) → t.due ≡ due → (late : Bool) → leb t.timeout (elapsed_time m t.last) ≡ late → OldBy age most d n t → LaterBy later most d m (transmission.marked bound m t)
+    by : (due : Bool) → t.due ≡ due → (late : Bool) → leb t.timeout (elapsed_time m t.last) ≡ late → OldBy age most d n t → LaterBy later most d m (transmission.marked (tick_of p m) t)
     by true e late f (inl k) = same (ap (λ b. not b && leb t.timeout (elapsed_time m t.last)) e) (inl (e, (let z = k.1 in omega arith)))
     by true e late f (inr k) = same (ap (λ b. not b && leb t.timeout (elapsed_time m t.last)) e) (inl (e, (let z = k.near in let y = k.waits in omega arith)))
     by false e late f (inl k) = absurd (let z : true ≡ false = sym k.0 ∙ e in cc)
@@ -72,54 +74,87 @@ stays-by age most d n t e (inl k) = absurd (let z : true ≡ false = sym k.0 ∙
 stays-by age most d n t e (inr k) = inr k
 
 -- ---- a peer that was last heard at `heard`: since the later of that and its first send
--- less than 5 seconds have passed since then, but for what it has waited since it was last sent
+-- less than 5 seconds have passed since then, but for what it has waited since it was last sent. Where the peer is heard since, its timeout
+-- may be less the next time: so it and a round take at most 5 seconds
 record HasMore (d n heard : ℕ) (t : Transmission) : Type 0 where
   last : t.last < 2 ^ 32
   waits : elapsed_time n t.last ≤ t.timeout
   brief : t.timeout < 30000
   near : since_later n t.first heard + d < 5000 + elapsed_time n t.last
+  short : t.timeout + d ≤ 5000
 
 abbrev IsNear : (d n heard : ℕ) → Transmission → Type 0
-IsNear d n heard t = ((t.due ≡ true) × (since_later n t.first heard + d < 5000 + t.timeout)) ⊎ HasMore d n heard t
+IsNear d n heard t = ((t.due ≡ true) × (since_later n t.first heard + d < 5000)) ⊎ HasMore d n heard t
 
 -- a round later
 abbrev IsNearer : (d n heard : ℕ) → Transmission → Type 0
 IsNearer d n heard t = ((t.due ≡ true) × (since_later n t.first heard < 5000 + t.timeout)) ⊎ HasMore d n heard t
 
-longer : (bound t : ℕ) → t ≤ transmission.grown_time bound t
-longer bound t = grind arith
+-- where it was heard since the last send, that was no earlier; else the timeout grows
+not-past : (d n : ℕ) (p : Peering) (t : Transmission) → HasMore d n p.heard t → since_later (moment n d) t.first p.heard < 5000 + transmission.next_time (tick_of p (moment n d)) t
+not-past d n p t k = by (transmission.is_heard_since (tick_of p m) t) refl
+  where
+    m : ℕ
+    m = moment n d
 
-near-marked : (d n heard bound : ℕ) (t : Transmission) → d < 30000 → IsNear d n heard t → IsNearer d (moment n d) heard (transmission.marked bound (moment n d) t)
-near-marked d n heard bound t low o = by t.due refl (leb t.timeout (elapsed_time (moment n d) t.last)) refl o
+    longer : (bound k : ℕ) → k ≤ transmission.grown_time bound k
+    longer bound k = grind arith
+
+    before : (i j : ℕ) → ltb i j ≡ true → i < j
+    before i j e = grind (arith, nat_tests)
+
+    lesser : (a b : ℕ) → min a b ≤ b
+    lesser a b = grind arith
+
+    by : (b : Bool) → transmission.is_heard_since (tick_of p m) t ≡ b → since_later m t.first p.heard < 5000 + cond b (transmission.answered_time (tick_of p m).present t.timeout) (transmission.grown_time (tick_of p m).bound t.timeout)
+    by true e =
+        let h : elapsed_time m p.heard < elapsed_time m t.last = before (elapsed_time m p.heard) (elapsed_time m t.last) e in
+        let a : elapsed_time m t.last ≤ elapsed_time n t.last + d = at-most n d t.last in
+        let w = k.waits in
+        let s = k.short in
+        let l : since_later m t.first p.heard ≤ elapsed_time m p.heard = lesser (elapsed_time m t.first) (elapsed_time m p.heard) in
+        omega arith
+    by false e =
+        let g : t.timeout ≤ transmission.grown_time (tick_of p m).bound t.timeout = longer (tick_of p m).bound t.timeout in
+        let z = k.near in
+        let w = k.waits in
+        let y : since_later m t.first p.heard ≤ since_later n t.first p.heard + d = later-at-most n d t.first p.heard in
+        omega arith
+
+near-marked : (d n : ℕ) (p : Peering) (t : Transmission) → d < 30000 → IsNear d n p.heard t → IsNearer d (moment n d) p.heard (transmission.marked (tick_of p (moment n d)) t)
+near-marked d n p t low o = by t.due refl (leb t.timeout (elapsed_time (moment n d) t.last)) refl o
   where
     m : ℕ
     m = moment n d
 
     grows : Transmission
-    grows = record t { timeout = transmission.grown_time bound t.timeout; due = true }
+    grows = record t { timeout = transmission.next_time (tick_of p m) t; due = true }
+
+    heard : ℕ
+    heard = p.heard
 
     went : since_later m t.first heard ≤ since_later n t.first heard + d
     went = later-at-most n d t.first heard
 
-    same : transmission.is_late m t ≡ false → IsNearer d m heard t → IsNearer d m heard (transmission.marked bound m t)
+    same : transmission.is_late m t ≡ false → IsNearer d m heard t → IsNearer d m heard (transmission.marked (tick_of p m) t)
     same e r = subst (λ b. IsNearer d m heard (cond b grows t)) (sym e) r
 
-    by : (due : Bool) → t.due ≡ due → (late : Bool) → leb t.timeout (elapsed_time m t.last) ≡ late → IsNear d n heard t → IsNearer d m heard (transmission.marked bound m t)
+    by : (due : Bool) → t.due ≡ due → (late : Bool) → leb t.timeout (elapsed_time m t.last) ≡ late → IsNear d n heard t → IsNearer d m heard (transmission.marked (tick_of p m) t)
     by true e late f (inl k) = same (ap (λ b. not b && leb t.timeout (elapsed_time m t.last)) e) (inl (e, (let z = k.1 in let y = went in omega arith)))
     by true e late f (inr k) = same (ap (λ b. not b && leb t.timeout (elapsed_time m t.last)) e) (inl (e, (let z = k.near in let x = k.waits in let y = went in omega arith)))
     by false e late f (inl k) = absurd (let z : true ≡ false = sym k.0 ∙ e in cc)
-    by false e true f (inr k) = subst (λ b. IsNearer d m heard (cond b grows t)) (sym (λ i. not (e i) && f i)) (inl (refl, (let z = k.near in let x = k.waits in let y = went in let g = longer bound t.timeout in omega arith)))
+    by false e true f (inr k) = subst (λ b. IsNearer d m heard (cond b grows t)) (sym (λ i. not (e i) && f i)) (inl (refl, not-past d n p t k))
     by false e false f (inr k) =
         let on : elapsed_time m t.last ≡ elapsed_time n t.last + d = exact n d t.last k.last (let z = k.waits in let y = k.brief in omega arith) in
-        same (λ i. not (e i) && f i) (inr (record { last = k.last; waits = (let z = lt-of t.timeout (elapsed_time m t.last) f in omega arith); brief = k.brief; near = (let z = k.near in let y = went in omega arith) }))
+        same (λ i. not (e i) && f i) (inr (record { last = k.last; waits = (let z = lt-of t.timeout (elapsed_time m t.last) f in omega arith); brief = k.brief; near = (let z = k.near in let y = went in omega arith); short = k.short }))
 
 near-less : (d n heard since : ℕ) (t : Transmission) → since_later n t.first since ≤ since_later n t.first heard → IsNear d n heard t → IsNear d n since t
 near-less d n heard since t h (inl k) = inl (k.0, (let z = k.1 in omega arith))
-near-less d n heard since t h (inr k) = inr (record { last = k.last; waits = k.waits; brief = k.brief; near = (let z = k.near in omega arith) })
+near-less d n heard since t h (inr k) = inr (record { last = k.last; waits = k.waits; brief = k.brief; near = (let z = k.near in omega arith); short = k.short })
 
 nearer-less : (d n heard since : ℕ) (t : Transmission) → since_later n t.first since ≤ since_later n t.first heard → IsNearer d n heard t → IsNearer d n since t
 nearer-less d n heard since t h (inl k) = inl (k.0, (let z = k.1 in omega arith))
-nearer-less d n heard since t h (inr k) = inr (record { last = k.last; waits = k.waits; brief = k.brief; near = (let z = k.near in omega arith) })
+nearer-less d n heard since t h (inr k) = inr (record { last = k.last; waits = k.waits; brief = k.brief; near = (let z = k.near in omega arith); short = k.short })
 
 -- ---- by the patience
 -- it was sent before
@@ -180,32 +215,32 @@ round-lasts d n heard t low o = lasts (moment n d) heard t (let a = at-most n d 
         inr (let z = k.2 in omega arith)
 
 -- time comes
-same-first : (bound n : ℕ) (t : Transmission) → ((transmission.marked bound n t).first ≡ t.first) × ((transmission.marked bound n t).attempts ≡ t.attempts)
-same-first bound n t = by (transmission.is_late n t)
+same-first : (p : Peering) (n : ℕ) (t : Transmission) → ((transmission.marked (tick_of p n) t).first ≡ t.first) × ((transmission.marked (tick_of p n) t).attempts ≡ t.attempts)
+same-first p n t = by (transmission.is_late n t)
   where
     grows : Transmission
-    grows = record t { timeout = transmission.grown_time bound t.timeout; due = true }
+    grows = record t { timeout = transmission.next_time (tick_of p n) t; due = true }
 
     by : (b : Bool) → ((cond b grows t).first ≡ t.first) × ((cond b grows t).attempts ≡ t.attempts)
     by true = (refl, refl)
     by false = (refl, refl)
 
-pub old-marked : (d n heard bound : ℕ) (t : Transmission) → d < 30000 → IsOld d n heard t → IsOlder d (moment n d) heard (transmission.marked bound (moment n d) t)
+pub old-marked : (d n : ℕ) (p : Peering) (t : Transmission) → d < 30000 → IsOld d n p.heard t → IsOlder d (moment n d) p.heard (transmission.marked (tick_of p (moment n d)) t)
 unfolding IsOld IsOlder
-old-marked d n heard bound t low o = (
+old-marked d n p t low o = (
   by o.0,
-  subst (λ x. LaterBy (elapsed_time m x) 30000 d m u) (sym (same-first bound m t).0) (marked-by (elapsed_time n t.first) (elapsed_time m t.first) 30000 d n bound t (at-most n d t.first) (omega arith) low o.1),
+  subst (λ x. LaterBy (elapsed_time m x) 30000 d m u) (sym (same-first p m t).0) (marked-by (elapsed_time n t.first) (elapsed_time m t.first) 30000 d n p t (at-most n d t.first) (omega arith) low o.1),
 )
   where
     m : ℕ
     m = moment n d
 
     u : Transmission
-    u = transmission.marked bound m t
+    u = transmission.marked (tick_of p m) t
 
-    by : (t.attempts ≤ 4) ⊎ IsNear d n heard t → (u.attempts ≤ 4) ⊎ IsNearer d m heard u
-    by (inl few) = inl (subst (λ a. a ≤ 4) (sym (same-first bound m t).1) few)
-    by (inr near) = inr (near-marked d n heard bound t low near)
+    by : (t.attempts ≤ 4) ⊎ IsNear d n p.heard t → (u.attempts ≤ 4) ⊎ IsNearer d m p.heard u
+    by (inl few) = inl (subst (λ a. a ≤ 4) (sym (same-first p m t).1) few)
+    by (inr near) = inr (near-marked d n p t low near)
 
 pub older-stays : (d n heard : ℕ) (t : Transmission) → t.due ≡ false → IsOlder d n heard t → IsOld d n heard t
 unfolding IsOld IsOlder
@@ -278,7 +313,82 @@ young-old d n heard t y r = (near y.0 r, by (elapsed_time n t.first) 30000 y.1 r
     by age most h (inl due) = inl (due, omega arith)
     by age most h (inr k) = (let w = k.1 in inr (record { last = k.0; waits = k.1; brief = omega arith; near = omega arith }))
 
-    near : (t.attempts ≤ 4) ⊎ (since_later n t.first heard + d < 5000) → Rests n t → (t.attempts ≤ 4) ⊎ IsNear d n heard t
+    near : (t.attempts ≤ 4) ⊎ ((since_later n t.first heard + d < 5000) × (t.timeout + d ≤ 5000)) → Rests n t → (t.attempts ≤ 4) ⊎ IsNear d n heard t
     near (inl few) k = inl few
-    near (inr h) (inl due) = inr (inl (due, omega arith))
-    near (inr h) (inr k) = inr (inr (record { last = k.0; waits = k.1; brief = (let z = y.1 in omega arith); near = omega arith }))
+    near (inr h) (inl due) = inr (inl (due, h.0))
+    near (inr h) (inr k) = inr (inr (record { last = k.0; waits = k.1; brief = (let z = y.1 in omega arith); near = (let z = h.0 in omega arith); short = h.1 }))
+
+-- ---- what waits on a channel, perhaps for room: patience lasts for so many milliseconds more
+abbrev pub IsOldFor : (left n heard : ℕ) → Transmission → Type 0
+IsOldFor left n heard t = ((t.attempts ≤ 4) ⊎ (since_later n t.first heard + left < 5000)) × (elapsed_time n t.first + left < 30000)
+
+-- it was sent now, and has so many milliseconds, or went for the first time
+abbrev pub HasRounds : (left n heard : ℕ) → Transmission → Type 0
+HasRounds left n heard t = ((t.attempts ≤ 5) ⊎ ((t.last ≡ n) × (n < 2 ^ 32) × (since_later n t.first heard < 5000 + t.timeout))) × ((elapsed_time n t.first + left < 30000) ⊎ (t.first ≡ n))
+
+-- patience isn't over a round later
+pub old-for-lasts : (d left n heard : ℕ) (t : Transmission) → d ≤ left → d < 30000 → IsOldFor left n heard t → gives_up standard_patience (moment n d) heard t ≡ false
+old-for-lasts d left n heard t some low o = lasts (moment n d) heard t (let a = at-most n d t.first in let z = o.1 in omega arith) (by o.0)
+  where
+    went : since_later (moment n d) t.first heard ≤ since_later n t.first heard + d
+    went = later-at-most n d t.first heard
+
+    by : (t.attempts ≤ 4) ⊎ (since_later n t.first heard + left < 5000) → (t.attempts ≤ 5) ⊎ (since_later (moment n d) t.first heard < elapsed_time (moment n d) t.last + t.timeout + 5000)
+    by (inl few) = inl (omega arith)
+    by (inr near) = inr (let y = went in omega arith)
+
+rounds-round : (d left n heard : ℕ) (t : Transmission) → d ≤ left → d < 30000 → HasRounds left n heard t → HasARound d n heard t
+unfolding HasARound
+rounds-round d left n heard t some low o = (o.0, by o.1)
+  where
+    by : (elapsed_time n t.first + left < 30000) ⊎ (t.first ≡ n) → elapsed_time n t.first + d < 30000
+    by (inl k) = omega arith
+    by (inr first) = (let z : elapsed_time n t.first ≡ elapsed_time n n = ap (elapsed_time n) first in let y = no-time n in omega arith)
+
+pub rounds-last : (d left n heard : ℕ) (t : Transmission) → d ≤ left → d < 30000 → HasRounds left n heard t → gives_up standard_patience (moment n d) heard t ≡ false
+rounds-last d left n heard t some low o = round-lasts d n heard t low (rounds-round d left n heard t some low o)
+
+-- time comes
+pub old-for-marked : (d left n heard : ℕ) (p : Peering) (t : Transmission) → d ≤ left → IsOldFor left n heard t → IsOldFor (left - d) (moment n d) heard (transmission.marked (tick_of p (moment n d)) t)
+old-for-marked d left n heard p t some o = (
+  by o.0,
+  subst (λ x. elapsed_time m x + (left - d) < 30000) (sym same.0) (let a = at-most n d t.first in let z = o.1 in omega arith),
+)
+  where
+    m : ℕ
+    m = moment n d
+
+    same : ((transmission.marked (tick_of p m) t).first ≡ t.first) × ((transmission.marked (tick_of p m) t).attempts ≡ t.attempts)
+    same = same-first p m t
+
+    went : since_later m t.first heard ≤ since_later n t.first heard + d
+    went = later-at-most n d t.first heard
+
+    by : (t.attempts ≤ 4) ⊎ (since_later n t.first heard + left < 5000) → ((transmission.marked (tick_of p m) t).attempts ≤ 4) ⊎ (since_later m (transmission.marked (tick_of p m) t).first heard + (left - d) < 5000)
+    by (inl few) = inl (subst (λ a. a ≤ 4) (sym same.1) few)
+    by (inr near) = inr (subst (λ x. since_later m x heard + (left - d) < 5000) (sym same.0) (let y = went in omega arith))
+
+-- the peer is heard, or not
+pub old-for-since : (left n heard since : ℕ) (t : Transmission) → (since ≡ heard) ⊎ (since ≡ n) → IsOldFor left n heard t → IsOldFor left n since t
+old-for-since left n heard since t (inl e) o = subst (λ h. IsOldFor left n h t) (sym e) o
+old-for-since left n heard since t (inr e) o =
+    subst (λ h. IsOldFor left n h t) (sym e) (elim o.0 [ inl few ↦ inl few | inr near ↦ inr (let a = not-more n t.first heard in omega arith) ], o.1)
+
+pub rounds-since : (left n heard since : ℕ) (t : Transmission) → (since ≡ heard) ⊎ (since ≡ n) → HasRounds left n heard t → HasRounds left n since t
+rounds-since left n heard since t (inl e) o = subst (λ h. HasRounds left n h t) (sym e) o
+rounds-since left n heard since t (inr e) o =
+    subst (λ h. HasRounds left n h t) (sym e) (elim o.0 [ inl few ↦ inl few | inr k ↦ inr (k.0, k.1, (let a = not-more n t.first heard in let z = k.2 in omega arith)) ], o.1)
+
+-- it goes
+pub begun-rounds : (left n heard wait : ℕ) → HasRounds left n heard (transmission.begun n wait)
+begun-rounds left n heard wait = (inl (omega arith), inr refl)
+
+pub again-rounds : (left n heard : ℕ) (t : Transmission) → n < 2 ^ 32 → IsOldFor left n heard t → HasRounds left n heard (transmission.again n t)
+again-rounds left n heard t below o = (tries o.0, inl o.1)
+  where
+    more : (a : ℕ) → a ≤ 4 → transmission.next_attempts a ≤ 5
+    more a h = grind arith
+
+    tries : (t.attempts ≤ 4) ⊎ (since_later n t.first heard + left < 5000) → (transmission.next_attempts t.attempts ≤ 5) ⊎ (◌≡◌ {A = ℕ} n n × (n < 2 ^ 32) × (since_later n t.first heard < 5000 + t.timeout))
+    tries (inl few) = inl (more t.attempts few)
+    tries (inr near) = inr (refl, below, omega arith)

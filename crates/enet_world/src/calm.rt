@@ -157,9 +157,12 @@ impl World {
     /// `stands`: no connection is lost. Of each that is connected at both sides before the rounds both peers are connected after them,
     /// under the same names, whatever is queued, where nothing stood in the way before the last of them (in that an end would itself be in
     /// the way of what comes after it), a round takes less than 30 seconds, and what waited for its acknowledgement at first, at either,
-    /// was young for rounds of this length: once its timeout is over, and two rounds are, it is less than 30 seconds since it first went;
-    /// and it went at most four times, or one round later it is less than 5 seconds since it first went or since an acknowledgement last
-    /// came, whichever is later. So it is where nothing waited.
+    /// was young for rounds of this length. On channel 0xFF: once its timeout is over, and two rounds are, it is less than 30 seconds since
+    /// it first went; and it went at most four times, or one round later it is less than 5 seconds since it first went or since an
+    /// acknowledgement last came, whichever is later, and its timeout and a round take at most 5. On another channel, where what is due may
+    /// have to wait for room: once as many rounds are over as are enough for the connection, as in `progress`, or all of them, it is less
+    /// than 30 seconds since it first went; and it went at most four times, or then it is less than 5 seconds since that or since an
+    /// acknowledgement last came. So it is where nothing waited.
     ///
     /// `told`: no peer that was connected goes in silence. Of each that is connected at a side before the rounds, where that side wasn't
     /// cut short (`Share::cut_short` is 0): it is connected after them, under the same name, or it is gone, and the last event that its
@@ -170,10 +173,12 @@ impl World {
     /// the way and the rounds were enough. Where something did, nothing is said of what comes.
     ///
     /// `alone`: who is left alone is told. Of each connection whose peer is connected at a side before the rounds, while the other side's
-    /// has Ended or is gone: its user has taken its Disconnect in the rounds, where its side wasn't cut short and there are 90,500 /
-    /// min(`ms`, 60,000) + 5 rounds or more, rounded down: four more than take longer than a ping's interval (500 ms), the greatest
-    /// patience (30,000) and the longest timeout (60,000) together. `ms` isn't 0, and both clocks together had gone on by less than
-    /// 4,293,000,000 ms (49 days) before. Of one whose other end is only about to end this says nothing before that has.
+    /// has Ended or is gone: its user has taken its Disconnect in the rounds, where its side wasn't cut short and there are (500 + 90,000 *
+    /// (n + 1)) / min(`ms`, 60,000) + 5 rounds or more, rounded down, n data commands being queued at its peer: four more than take longer
+    /// than a ping's interval (500 ms), and the greatest patience (30,000) and the longest timeout (60,000) together, once and for each
+    /// that is queued, which may take the room of what is due. `ms` isn't 0, and both clocks together had gone on before by less than
+    /// 4,293,000,000 ms (49 days), less 180,000 for each that is queued. Of one whose other end is only about to end this says nothing
+    /// before that has.
     ///
     /// `delivered`: what a side has nothing left of has arrived. Where the peer of an end stands, still sends, and has no reliable command
     /// of a channel queued or unacknowledged after the rounds, each reliable packet that its user submitted there, and that went in order,

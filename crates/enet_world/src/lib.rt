@@ -10,8 +10,8 @@
 //! submitted reliably, of a connection that stands before and after them (`GetsThrough`), and no connection is lost on which nothing had waited
 //! long (`BothStand`). Who was connected is so still, or its user is told, then or in one more round (`TellsEnds`): so an end is told, or both
 //! stand and all comes (`ComesOrEnds`). Who is connected while the other side's peer has ended or is gone is told within 91 seconds and
-//! five rounds (`TellsAlone`). `rounds_needed` tells how many are enough (`AreEnough`): the stated number, where it is stated to tell one (specs/Needed),
-//! which needn't be the least.
+//! five rounds, and 90 seconds more for each data command that is queued there (`TellsAlone`). `rounds_needed` tells how many are enough
+//! (`AreEnough`): the stated number, where it is stated to tell one (specs/Needed), which needn't be the least.
 //! Only tested, by scripts/rows, `check_lists` and check-memory.sh: that calls succeed with ample memory, worked runs with their
 //! answers and bytes, and that a call which was refused for want of memory is answered as wanted when it is made again.
 //! Neither: that a datagram arrives, or that memory is there.

@@ -12,7 +12,7 @@ use Rattle.enet_peer.specs.Peering.{Peering}
 use Rattle.enet_peer.specs.declared.parts.PeerState.{PeerState}
 use Rattle.enet_peer.specs.declared.parts.PeerState.TheVariants as state
 use Rattle.enet_peer.specs.Endings.{ended, freed, disconnecting, parting, settled, cut_off_in}
-use Rattle.enet_peer.specs.Calls.{Leave, AtOnce, TellsOnce, Asks, AsksLater, Refused, left, leave_by_asking, leave_now, after_timeouts, after_timeouts_by, expiry_of, growth_bound, held_back, is_held_back, is_pinged, moved, ticked, is_connected, pace_of, gone_on_in}
+use Rattle.enet_peer.specs.Calls.{Leave, AtOnce, TellsOnce, Asks, AsksLater, Refused, left, leave_by_asking, leave_now, after_timeouts, after_timeouts_by, expiry_of, held_back, is_held_back, is_pinged, moved, tick_of, ticked, is_connected, pace_of, gone_on_in}
 use Rattle.law_connection.specs.WireLink.{WireLink}
 use Rattle.law_connection.specs.LinkSteps.{Has}
 use Rattle.law_connection.specs.Connection.{End}
@@ -39,7 +39,7 @@ holds-cut_off own other p s h = holds-stops own other p (ended p 0) (stops-ended
 
 holds-timeouts : (own other : End) (p : Peering) (now : ℕ) (x : Expiry) → Holds own other p → Holds own other (after_timeouts_by x p now)
 holds-timeouts own other p now Ends h = holds-cut_off own other p p.state h
-holds-timeouts own other p now Resend h = both-marked (with_peer own p) other p (growth_bound p) now refl h
+holds-timeouts own other p now Resend h = both-marked (with_peer own p) other p (tick_of p now) refl h
 holds-timeouts own other p now No h = h
 
 holds-ticked : (own other : End) (p : Peering) (now : ℕ) → Holds own other p → Holds own other (ticked p now)
@@ -50,7 +50,7 @@ holds-ticked own other p now h =
 
 pub holds-moved : (own other : End) (short : Bool) (p : Peering) (now : ℕ) → Holds own other p → Holds own other (moved short p now)
 holds-moved own other short p now h =
-    holds-if own other (is_held_back short p now) (held_back p now) (ticked p now) (holds-outbox own other p (outbox.held_back p.outbox (growth_bound p) now) refl refl h) (holds-ticked own other p now h)
+    holds-if own other (is_held_back short p now) (held_back p now) (ticked p now) (holds-outbox own other p (outbox.held_back p.outbox (tick_of p now)) refl refl h) (holds-ticked own other p now h)
 
 -- a disconnect
 

@@ -7,13 +7,14 @@ use Rattle.enet_codec.specs.Message.{Message, acknowledge}
 use Rattle.enet_rtt.specs.Clock.{meant_time}
 use Rattle.enet_senders.specs.declared.control.Control.{Control}
 use Rattle.enet_senders.specs.declared.control.Control.TheVariants as control
+use Rattle.enet_sender.specs.declared.outgoing.Acknowledged.{Acknowledged}
 use Rattle.enet_packets.specs.declared.incoming_packet.Dispatched.{Dispatched}
 use Rattle.enet_inbox.specs.Inbox.{Inbox}
 use Rattle.enet_inbox.specs.DataEffect.{DataEffect, unsequenced_taken}
 use Rattle.enet_outbox.specs.declared.parts.Acknowledgement.{Acknowledgement}
 use Rattle.enet_outbox.specs.declared.parts.Matched.{Matched}
 use Rattle.enet_outbox.specs.declared.parts.Matched.TheVariants as matched
-use Rattle.enet_outbox.specs.Outbox.{with_acknowledgement, after_acknowledgement, is_done, matched_by}
+use Rattle.enet_outbox.specs.Outbox.{with_acknowledgement, after_acknowledgement, is_done, matched_by, told_by, with_growth}
 use Rattle.enet_peer.specs.Peering.{Peering}
 use Rattle.enet_peer.specs.declared.parts.PeerState.{PeerState}
 use Rattle.enet_peer.specs.declared.parts.PeerState.TheVariants as state
@@ -100,9 +101,9 @@ holds-answered own other p m sent may far h =
     by (Some time) high = holds-answer own other p (record { channel = m.head.channel; number = m.head.number; time = time }) high h
 
 -- an acknowledgement comes
-holds-sampled : (own other : End) (p : Peering) (now time : ℕ) → Holds own other p → Holds own other (sampled p now time)
-holds-sampled own other p now time h =
-    let q : Peering = sampled p now time in
+holds-sampled : (own other : End) (p : Peering) (grown : Option Acknowledged) (now time : ℕ) → Holds own other p → Holds own other (sampled (record p { outbox = with_growth p.outbox grown }) now time)
+holds-sampled own other p grown now time h =
+    let q : Peering = sampled (record p { outbox = with_growth p.outbox grown }) now time in
     holds-quiet own other p q (quiet-out p q refl refl refl) (record { dispatches = refl; receivers = refl; untaken = λ i few. refl; numbers = λ i few. refl }) h
 
 holds-with_answer : (own other : End) (p : Peering) (s : PeerState) (what : Control) → p.state ≡ s → Holds own other p → Holds own other (with_answer s what p)
@@ -121,10 +122,10 @@ holds-acknowledged own other p put now number told logged body late h = by-state
     time = meant_time told (p.offset % 2 ^ 16)
 
     q : Peering
-    q = sampled (record p { outbox = after_acknowledgement p.outbox put.message.head.channel number }) now time
+    q = sampled (record p { outbox = with_growth (after_acknowledgement p.outbox put.message.head.channel number) (told_by p.outbox put.message.head.channel number time) }) now time
 
     k : Holds own other q
-    k = holds-sampled own other (record p { outbox = after_acknowledgement p.outbox put.message.head.channel number }) now time
+    k = holds-sampled own other (record p { outbox = after_acknowledgement p.outbox put.message.head.channel number }) (told_by p.outbox put.message.head.channel number time) now time
         (both-acknowledged (with_peer own p) other p put number told refl logged body late h)
 
     by : (x : Matched) → Holds own other (on_match x p q)

@@ -70,7 +70,7 @@ grows-happens mtu (Send occasion) v w big s h =
     let t : Sound mtu w = Sound-happens mtu (Send occasion) v w big s h in
     subst (λ x. Grows (Send occasion) v x) (sym h.after) (grows-sends mtu v occasion h.due s (subst (Sound mtu) h.after t) h.sending h.is_due)
 grows-happens mtu (Drop occasion) v w big s h = still v w (ap (λ (x : WireLink). x.greatest) h.after)
-grows-happens mtu (Mark bound now) v w big s h = still v w (ap (λ (x : WireLink). x.greatest) h.after)
+grows-happens mtu (Mark tick) v w big s h = still v w (ap (λ (x : WireLink). x.greatest) h.after)
 grows-happens mtu PutsOut v w big s h = still v w (ap (λ (x : WireLink). x.greatest) h)
 grows-happens mtu (Arrive command most full) v w big s h = still v w (ap (λ (x : WireLink). x.greatest) h.after)
 grows-happens mtu (ArriveAnswered command most full) v w big s h = still v w (ap (λ (x : WireLink). x.greatest) h.after)
@@ -164,7 +164,7 @@ told-happens mtu (Send occasion) v w big s h t =
     let up : w.greatest ≤ v.greatest + 1 = omega arith in
     subst Told (sym h.after) (sends-told v h.due (subst (λ (x : WireLink). x.greatest ≤ v.greatest + 1) h.after up) t)
 told-happens mtu (Drop occasion) v w big s h t = subst Told (sym h.after) (same-told v (drops v h.due) refl refl refl t)
-told-happens mtu (Mark bound now) v w big s h t = subst Told (sym h.after) (same-told v (marks v bound now) refl refl refl t)
+told-happens mtu (Mark tick) v w big s h t = subst Told (sym h.after) (same-told v (marks v tick) refl refl refl t)
 told-happens mtu PutsOut v w big s h t = subst Told (sym h) (puts-told v t)
 told-happens mtu (Arrive command most full) v w big s h t = subst Told (sym h.after) (same-told v (arrives v most command.command full false) refl refl refl t)
 told-happens mtu (ArriveAnswered command most full) v w big s h t = subst Told (sym h.after) (same-told v (arrives v most command.command full true) refl refl refl t)

@@ -4,6 +4,7 @@ use Rattle.std.specs.List.{slice_get, list_any}
 use Rattle.enet_codec.specs.declared.packet.Packet.{Packet}
 use Rattle.enet_seq.specs.Numbering.{wire}
 use Rattle.enet_rtt.specs.declared.expiry.Patience.{Patience}
+use Rattle.enet_rtt.specs.declared.transmission.Tick.{Tick as Moment}
 use Rattle.enet_senders.specs.declared.control.Control.TheVariants as control
 use Rattle.enet_senders.specs.declared.control.Numbered.{Numbered}
 use Rattle.enet_senders.specs.declared.control.SentControl.{SentControl}
@@ -106,12 +107,12 @@ still-parting o info = record {
   senders = cleared-senders o.senders;
 }
 
-still-marked : (o : Outbox) (bound now : ℕ) → IsStill o → IsStill (outbox.marked o bound now)
-still-marked o bound now h = record {
-  control = ap (map (controlling.marked bound now)) h.control;
+still-marked : (o : Outbox) (tick : Moment) → IsStill o → IsStill (outbox.marked o tick)
+still-marked o tick h = record {
+  control = ap (map (controlling.marked tick)) h.control;
   queued = h.queued;
-  senders = λ s there. (let r = Has-from_map (marked_sender bound now) o.senders s there in let was = h.senders r.0 r.1 in
-      subst (λ (x : SendingEnd). (x.sender.queued ≡ []) × (x.sender.sent ≡ [])) r.2 (was.0, ap (map (sender.marked bound now)) was.1));
+  senders = λ s there. (let r = Has-from_map (marked_sender tick) o.senders s there in let was = h.senders r.0 r.1 in
+      subst (λ (x : SendingEnd). (x.sender.queued ≡ []) × (x.sender.sent ≡ [])) r.2 (was.0, ap (map (sender.marked tick)) was.1));
 }
 
 -- a still outbox puts out of channel 0xFF what is unreliable, and stays still
@@ -229,8 +230,8 @@ lives joined es = record {
   greets = λ p e h. (let a : LivesIn state.Answering joined es p = subst (λ (s : PeerState). LivesIn s joined es p) e h in let u = a.1 in inr (a.0, u.none, p.info, refl));
   welcomes = λ p v terms e big word h. (let a : LivesIn state.Connecting joined es p = subst (λ (s : PeerState). LivesIn s joined es p) e h in let u = a.1 in inr (a.0, u.none, 0, refl));
   acknowledges = λ p j number in-time h. lives-outbox joined es p (outbox.after_acknowledgement p.outbox j number) (λ gone. absurd (let x : true ≡ false = sym gone ∙ in-time in cc)) h;
-  marks = λ p bound now h. lives-outbox joined es p (outbox.marked p.outbox bound now) (λ gone still. still-marked p.outbox bound now still) h;
-  holds_back = λ p bound now at h. lives-outbox joined es p (outbox.held_back p.outbox bound now) (λ gone. absurd (let x : false ≡ true = sym (ap is_gone at) ∙ gone in cc)) h;
+  marks = λ p tick h. lives-outbox joined es p (outbox.marked p.outbox tick) (λ gone still. still-marked p.outbox tick still) h;
+  holds_back = λ p tick at h. lives-outbox joined es p (outbox.held_back p.outbox tick) (λ gone. absurd (let x : false ≡ true = sym (ap is_gone at) ∙ gone in cc)) h;
   gives_way = λ p on h. lives-connected joined es p (record p { inbox = given_way p.inbox }) refl refl on h;
   takes = λ p j r c on there h. lives-connected joined es p (record p { inbox = handed_over p.inbox j (after_command r (Some c) (is_full_for p.inbox r c)) }) refl refl on h;
   takes_unsequenced = λ p j group payload on h. lives-connected joined es p (record p { inbox = unsequenced_taken p.inbox j group payload }) refl refl on h;

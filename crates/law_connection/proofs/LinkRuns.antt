@@ -73,7 +73,7 @@ pub Sound-happens : (mtu : ℕ) (e : Event) (v w : WireLink) → 28 < mtu → So
 Sound-happens mtu (Submit packet) v w big s h = subst (λ x. Sound mtu x) (sym h.after) (Sound-submits mtu v packet big s h.sending h.few)
 Sound-happens mtu (Send occasion) v w big s h = subst (λ x. Sound mtu x) (sym h.after) (Sound-sends mtu v occasion h.due s h.sending h.is_due)
 Sound-happens mtu (Drop occasion) v w big s h = subst (λ x. Sound mtu x) (sym h.after) (Sound-drops mtu v occasion h.due s h.sending h.is_due h.unreliable)
-Sound-happens mtu (Mark bound now) v w big s h = subst (λ x. Sound mtu x) (sym h.after) (Sound-marks mtu v bound now s h.sending)
+Sound-happens mtu (Mark tick) v w big s h = subst (λ x. Sound mtu x) (sym h.after) (Sound-marks mtu v tick s h.sending)
 Sound-happens mtu PutsOut v w big s h = subst (λ x. Sound mtu x) (sym h) (Sound-puts_out mtu v s)
 Sound-happens mtu (Arrive command most full) v w big s h = subst (λ x. Sound mtu x) (sym h.after) (Sound-arrives mtu most v command full s (h.comes).logged (h.comes).in_time)
 Sound-happens mtu (ArriveAnswered command most full) v w big s h =

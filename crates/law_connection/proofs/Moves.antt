@@ -5,6 +5,7 @@ use Rattle.std.proofs.lemmas.List.{append-nil}
 use Rattle.std.specs.List.{slice_get}
 use Rattle.enet_codec.specs.declared.packet.Packet.{Packet}
 use Rattle.enet_codec.specs.Message.{acknowledge}
+use Rattle.enet_rtt.specs.declared.transmission.Tick.{Tick}
 use Rattle.enet_packets.specs.declared.incoming_packet.Dispatched.{Dispatched}
 use Rattle.enet_sender.specs.declared.sent.Sent.{Sent}
 use Rattle.enet_sender.specs.Sender.{Sender, with_marked, marked}
@@ -151,30 +152,30 @@ both-acknowledged own other p put number time is logged body late b = record {
 
 -- a tick marks what is late
 
-pub marked-at : (bound now : ℕ) (senders : List SendingEnd) (i : ℕ) → sender_in (slice_get (map (marked_sender bound now) senders) i) ≡ with_marked bound now (sender_in (slice_get senders i))
-marked-at bound now [] i = refl
-marked-at bound now (s ∷ senders) zero = refl
-marked-at bound now (s ∷ senders) (suc i) = marked-at bound now senders i
+pub marked-at : (tick : Tick) (senders : List SendingEnd) (i : ℕ) → sender_in (slice_get (map (marked_sender tick) senders) i) ≡ with_marked tick (sender_in (slice_get senders i))
+marked-at tick [] i = refl
+marked-at tick (s ∷ senders) zero = refl
+marked-at tick (s ∷ senders) (suc i) = marked-at tick senders i
 
-pub marked-places : (bound now : ℕ) (senders : List SendingEnd) (i channel : ℕ) → ((s : SendingEnd) → slice_get senders i ≡ Some s → s.channel ≡ channel) → (s : SendingEnd) → slice_get (map (marked_sender bound now) senders) i ≡ Some s → s.channel ≡ channel
-marked-places bound now [] i channel h s e = cc
-marked-places bound now (x ∷ senders) zero channel h s e = (let d : marked_sender bound now x ≡ s = (let f : Some (marked_sender bound now x) ≡ Some s = e in cc) in ap (λ (y : SendingEnd). y.channel) (sym d) ∙ h x refl)
-marked-places bound now (x ∷ senders) (suc i) channel h s e = marked-places bound now senders i channel h s e
+pub marked-places : (tick : Tick) (senders : List SendingEnd) (i channel : ℕ) → ((s : SendingEnd) → slice_get senders i ≡ Some s → s.channel ≡ channel) → (s : SendingEnd) → slice_get (map (marked_sender tick) senders) i ≡ Some s → s.channel ≡ channel
+marked-places tick [] i channel h s e = cc
+marked-places tick (x ∷ senders) zero channel h s e = (let d : marked_sender tick x ≡ s = (let f : Some (marked_sender tick x) ≡ Some s = e in cc) in ap (λ (y : SendingEnd). y.channel) (sym d) ∙ h x refl)
+marked-places tick (x ∷ senders) (suc i) channel h s e = marked-places tick senders i channel h s e
 
-pub both-marked : (own other : End) (p : Peering) (bound now : ℕ) → own.peer ≡ Some p → AreLinked own other → AreLinked (with_peer own (record p { outbox = outbox.marked p.outbox bound now })) other
-both-marked own other p bound now is b = record {
+pub both-marked : (own other : End) (p : Peering) (tick : Tick) → own.peer ≡ Some p → AreLinked own other → AreLinked (with_peer own (record p { outbox = outbox.marked p.outbox tick })) other
+both-marked own other p tick is b = record {
   out = λ channel few. (let k = b.out channel few in let h = sending-of own p channel k.link is k.sending in
-      let w : WireLink = marks k.link bound now in
-      let after' = marked-at bound now p.outbox.senders channel in
+      let w : WireLink = marks k.link tick in
+      let after' = marked-at tick p.outbox.senders channel in
       out-sender own other p q channel k w is refl refl
-      (λ t. let r = h.0 t in (record { events = Mark bound now ∷ []; runs = (w, record { sending = r.0; after = refl }, refl); same = refl }, r.0, ap (with_marked bound now) r.1 ∙ sym after', refl, refl, refl))
-      (λ f. (ap (λ (s : Sender). s.queued) after' ∙ h.1 f, ap (λ (s : Sender). s.sent) after' ∙ ap (map (marked bound now)) (h.2 f)))
-      (marked-places bound now p.outbox.senders channel channel h.3));
+      (λ t. let r = h.0 t in (record { events = Mark tick ∷ []; runs = (w, record { sending = r.0; after = refl }, refl); same = refl }, r.0, ap (with_marked tick) r.1 ∙ sym after', refl, refl, refl))
+      (λ f. (ap (λ (s : Sender). s.queued) after' ∙ h.1 f, ap (λ (s : Sender). s.sent) after' ∙ ap (map (marked tick)) (h.2 f)))
+      (marked-places tick p.outbox.senders channel channel h.3));
   back = λ channel few. back-quiet own other p q channel few is (record { dispatches = refl; receivers = refl; untaken = λ i h. refl; numbers = λ i h. refl }) (b.back channel few);
 }
   where
     q : Peering
-    q = record p { outbox = outbox.marked p.outbox bound now }
+    q = record p { outbox = outbox.marked p.outbox tick }
 
 -- an end that no longer dispatches, but still sends
 pub both-later : (own other : End) (p : Peering) (info : ℕ) → own.peer ≡ Some p → sends_in p.state ≡ true → AreLinked own other → AreLinked (with_peer own (record p { state = state.DisconnectLater; info = info })) other

@@ -20,8 +20,8 @@ use Rattle.enet_sender.specs.Sender.{Sender, Next, next, with_skipped}
 use Rattle.enet_sender.specs.Due.{SendingEnd}
 use Rattle.enet_outbox.specs.declared.parts.Acknowledgement.{Acknowledgement}
 use Rattle.enet_outbox.specs.declared.parts.Pace.{Pace}
-use Rattle.enet_outbox.specs.Outbox.{Outbox, transit_of}
-use Rattle.enet_outbox.specs.Emission.{Filling, with_command, acknowledgement_of, unsequenced_of, with_sender, data_put, transit_limit, filled}
+use Rattle.enet_outbox.specs.Outbox.{Outbox}
+use Rattle.enet_outbox.specs.Emission.{Filling, with_command, acknowledgement_of, unsequenced_of, with_sender, data_put, occasion, filled}
 use Rattle.law_connection.specs.Link.{Answer}
 use Rattle.law_connection.specs.Greatest.{greatest_after}
 use Rattle.law_connection.specs.WireLink.{WireLink, sends, drops, logs_answer}
@@ -261,8 +261,8 @@ packs-filled mtu channel z v pace o ready places =
           packs-other mtu channel z v f m (record f.outbox { control = n.commands }) (ap (λ b. b && m.head.channel == channel) (control-none n.command.control m.head)) refl a.places a);
       puts_unsequenced = λ f u rest t e a. packs-other mtu channel z v f (unsequenced_of u) (record f.outbox { throttle = t; unsequenced = rest; last = Some u.channel }) refl refl a.places a;
       drops_unsequenced = λ f u rest t e a. record { link = a.link; events = a.events; runs = a.runs; same = a.same; ready = a.ready; places = a.places; making = a.making; greatest = a.greatest; few = a.few };
-      puts_data = λ f k s n t there due a. packs-put mtu channel z v f k s n t (record { now = pace.now; timeout = pace.timeout; transit = transit_of f.outbox; most = transit_limit pace f.outbox }) there due a;
-      drops_data = λ f k s n t there due kind a. packs-drop mtu channel z v f k s n t (record { now = pace.now; timeout = pace.timeout; transit = transit_of f.outbox; most = transit_limit pace f.outbox }) there due kind a;
+      puts_data = λ f k s n t there due a. packs-put mtu channel z v f k s n t (occasion pace f.outbox) there due a;
+      drops_data = λ f k s n t there due kind a. packs-drop mtu channel z v f k s n t (occasion pace f.outbox) there due kind a;
     }) (record {
       link = v;
       events = [];

@@ -11,6 +11,7 @@ use Rattle.enet_codec.specs.Message.{Message, Body, acknowledge, connect, verify
 use Rattle.enet_seq.specs.Numbering.{wire}
 use Rattle.enet_rtt.specs.declared.expiry.Expiry.TheVariants.{No, Resend, End as Ends}
 use Rattle.enet_rtt.specs.Clock.{elapsed_time, meant_time}
+use Rattle.enet_rtt.specs.declared.transmission.Tick.{Tick}
 use Rattle.enet_unsequenced.specs.Groups.{dispatches}
 use Rattle.enet_connect.specs.declared.terms.Terms.{Terms}
 use Rattle.enet_connect.specs.Verification.{confirmed, agreed, is_accepted}
@@ -30,9 +31,9 @@ use Rattle.enet_sender.specs.Due.{SendingEnd}
 use Rattle.enet_outbox.specs.declared.parts.Matched.{Matched}
 use Rattle.enet_outbox.specs.declared.parts.Matched.TheVariants as matched
 use Rattle.enet_outbox.specs.declared.parts.Pace.{Pace}
-use Rattle.enet_outbox.specs.Outbox.{with_control, after_acknowledgement, is_done, matched_by, has_ended, has_late, has_waited, lateness, transit_of}
+use Rattle.enet_outbox.specs.Outbox.{with_control, after_acknowledgement, is_done, matched_by, has_ended, has_late, has_waited, lateness, told_by, with_growth}
 use Rattle.enet_outbox.specs.Outbox as outbox
-use Rattle.enet_outbox.specs.Emission.{Filling, transit_limit, filled}
+use Rattle.enet_outbox.specs.Emission.{Filling, occasion, filled}
 use Rattle.enet_codec.specs.declared.packet.Packet.{Packet}
 use Rattle.enet_peer.specs.Peering.{Peering}
 use Rattle.enet_peer.specs.declared.parts.PeerState.{PeerState}
@@ -40,7 +41,7 @@ use Rattle.enet_peer.specs.declared.parts.PeerState.TheVariants as state
 use Rattle.enet_peer.specs.Endings.{dropped, ended, freed, disconnecting, parting, settled, is_later, cut_off_in}
 use Rattle.enet_peer.specs.CommandEffect.{Outcome, answered, answered_at, is_answered_in, is_allowed, is_of_handshake, obeyed, unless_refused, by_body, by_answer, by_arrival, on_data, stopped, sampled, with_answer, on_match, accepted, is_connecting, on_acknowledge, welcomed, on_verify_in, on_last_disconnect, on_disconnect_in, on_bandwidth, on_throttle}
 use Rattle.enet_peer.proofs.Obeying.{unless-holds, unwelcomed-holds}
-use Rattle.enet_peer.specs.Calls.{left, after_timeouts, after_timeouts_by, answering_time, expiry_of, growth_bound, held_back, is_answering, is_held_back, is_over, is_pinged, is_resend, moved, ticked, is_connected, pace_of, gone_on, gone_on_in}
+use Rattle.enet_peer.specs.Calls.{left, after_timeouts, after_timeouts_by, answering_time, expiry_of, held_back, is_answering, is_held_back, is_over, is_pinged, is_resend, moved, tick_of, ticked, is_connected, pace_of, gone_on, gone_on_in}
 use Rattle.law_connection.specs.Steps.{Way, Asking, Now, Later, leave_by, Setting, Bandwidth, Throttle, ThrottleLimit, PingInterval, Timeout, with_setting, MaySet}
 use Rattle.enet_outbox.proofs.Filled.{by-filling}
 use Rattle.law_connection.proofs.Runs.{either, and-left, and-right}
@@ -92,8 +93,8 @@ pub record Changes (P : Peering → Type 0) : Type 0 where
   pub greets : (p : Peering) → p.state ≡ state.Answering → P p → P (record p { state = state.Connected; greeting = Some p.info })
   pub welcomes : (p : Peering) (v : Verify) (terms : Terms) → p.state ≡ state.Connecting → 28 < terms.mtu → terms.connect_id ≡ p.offer.connect_id → P p → P (welcomed p v (Some terms))
   pub acknowledges : (p : Peering) (channel number : ℕ) → is_gone p.state ≡ false → P p → P (record p { outbox = after_acknowledgement p.outbox channel number })
-  pub marks : (p : Peering) (bound now : ℕ) → P p → P (record p { outbox = outbox.marked p.outbox bound now })
-  pub holds_back : (p : Peering) (bound now : ℕ) → p.state ≡ state.Answering → P p → P (record p { outbox = outbox.held_back p.outbox bound now })
+  pub marks : (p : Peering) (tick : Tick) → P p → P (record p { outbox = outbox.marked p.outbox tick })
+  pub holds_back : (p : Peering) (tick : Tick) → p.state ≡ state.Answering → P p → P (record p { outbox = outbox.held_back p.outbox tick })
   pub gives_way : (p : Peering) → is_connected p.state ≡ true → P p → P (record p { inbox = given_way p.inbox })
   pub takes : (p : Peering) (channel : ℕ) (r : ReceivingEnd) (c : DataCommand) → is_connected p.state ≡ true → slice_get p.inbox.receivers channel ≡ Some r → P p
       → P (record p { inbox = handed_over p.inbox channel (after_command r (Some c) (is_full_for p.inbox r c)) })
@@ -158,7 +159,7 @@ kept-timeouts P k p now h = by-wait (is_over p now) refl
   where
     by : (a b : Bool) → has_ended p.outbox now p.patience p.heard ≡ a → P (after_timeouts_by (cond a Ends (cond b Resend No)) p now)
     by true b e = kept-cut_off P k p now p.state refl e h
-    by false true e = k.marks p (growth_bound p) now h
+    by false true e = k.marks p (tick_of p now) h
     by false false e = h
 
     by-wait : (w : Bool) → is_over p now ≡ w → P (after_timeouts_by (cond w Ends (lateness p.outbox now p.patience p.heard)) p now)
@@ -173,7 +174,7 @@ kept-ticked P k p now h =
     (λ t. k.controls q control.Ping refl (and-left (is_connected q.state) (outbox.has_nothing_reliable q.outbox) (and-left (is_connected q.state && outbox.has_nothing_reliable q.outbox) (leb q.ping_interval (elapsed_time now q.heard)) t)) a) a
 
 pub kept-held_back : (P : Peering → Type 0) → Changes P → (p : Peering) (now : ℕ) → p.state ≡ state.Answering → P p → P (held_back p now)
-kept-held_back P k p now at h = k.holds_back p (growth_bound p) now at h
+kept-held_back P k p now at h = k.holds_back p (tick_of p now) at h
 
 pub kept-moved : (P : Peering → Type 0) → Changes P → (short : Bool) (p : Peering) (now : ℕ) → P p → P (moved short p now)
 kept-moved P k short p now h =
@@ -238,10 +239,10 @@ kept-filled P k p pace h =
       drops_unsequenced = λ f u rest t e a. k.quiet (record p { outbox = f.outbox }) (record p { outbox = record f.outbox { throttle = t; unsequenced = rest } }) refl a;
       puts_data = λ f i s n t there due a. (let ss : List SendingEnd = slice_set f.outbox.senders i (record s { sender = n.sender }) in
           k.quiet (record p { outbox = record f.outbox { senders = ss } }) (record p { outbox = record f.outbox { throttle = t; senders = ss; last = Some i } }) refl
-          (k.puts_data (record p { outbox = f.outbox }) i (record { now = pace.now; timeout = pace.timeout; transit = transit_of f.outbox; most = transit_limit pace f.outbox }) s n there due a));
+          (k.puts_data (record p { outbox = f.outbox }) i (occasion pace f.outbox) s n there due a));
       drops_data = λ f i s n t there due kind a. (let ss : List SendingEnd = slice_set f.outbox.senders i (record s { sender = with_skipped n.sender }) in
           k.quiet (record p { outbox = record f.outbox { senders = ss } }) (record p { outbox = record f.outbox { throttle = t; senders = ss } }) refl
-          (k.drops_data (record p { outbox = f.outbox }) i (record { now = pace.now; timeout = pace.timeout; transit = transit_of f.outbox; most = transit_limit pace f.outbox }) s n there due a));
+          (k.drops_data (record p { outbox = f.outbox }) i (occasion pace f.outbox) s n there due a));
     }) h
 
 pub kept-gone_on : (P : Peering → Type 0) → Changes P → (p : Peering) (s : PeerState) → p.state ≡ s → P p → P (gone_on_in s p)
@@ -297,7 +298,7 @@ kept-acknowledged P k p now channel number told here h = by-state (is_connecting
     time = meant_time told (p.offset % 2 ^ 16)
 
     q : Peering
-    q = sampled (record p { outbox = after_acknowledgement p.outbox channel number }) now time
+    q = sampled (record p { outbox = with_growth (after_acknowledgement p.outbox channel number) (told_by p.outbox channel number time) }) now time
 
     a : P q
     a = k.quiet (record p { outbox = after_acknowledgement p.outbox channel number }) q refl (k.acknowledges p channel number here h)

@@ -8,13 +8,14 @@ use Rattle.std.specs.List.{position}
 use Rattle.enet_seq.specs.Windows.{ahead}
 use Rattle.enet_seq.proofs.WindowsLemmas.{ahead_true}
 use Rattle.enet_seq.specs.Numbering.{wire, unbounded}
+use Rattle.enet_rtt.specs.declared.transmission.Tick.{Tick}
 use Rattle.enet_fragment.specs.Cutting.{piece_length, piece_count}
 use Rattle.enet_fragment.proofs.Cuts.{piece_count-enough}
 use Rattle.enet_fragment.specs.declared.data.DataCommand.{DataCommand}
 use Rattle.enet_receiver.specs.Receiver.{Receiver}
 use Rattle.enet_sender.specs.CommandChoice.{Packet, ChosenPacket, carried, carried_from, carried_as, goes_reliable}
 use Rattle.enet_sender.specs.declared.outgoing.Occasion.{Occasion}
-use Rattle.enet_sender.specs.Sender.{Sender, Next, commands_of, with_queued, again, begun, is_in_span, may_go, resent, first_sent, next_queued, next_resent, next_of, next, is_more, skipped, with_skipped, marked}
+use Rattle.enet_sender.specs.Sender.{Sender, Next, commands_of, with_queued, again, begun, is_in_span, has_room, may_go, resent, first_sent, next_queued, next_resent, next_of, next, is_more, skipped, with_skipped, marked}
 use Rattle.enet_sender.specs.declared.sent.Sent.{Sent}
 use Rattle.law_connection.specs.Follows.{command_count, count_after}
 use Rattle.law_connection.specs.Link.{wired}
@@ -169,7 +170,7 @@ pub record Begins (o : Sender) (occasion : Occasion) (n : Next) : Type 0 where
   pub head : DataCommand
   pub rest : List DataCommand
   pub queued : o.queued ≡ head ∷ rest
-  pub allowed : may_go wire o.sent occasion.transit occasion.most head ≡ true
+  pub allowed : may_go wire o.sent occasion head ≡ true
   pub is : n ≡ first_sent occasion.now occasion.timeout o head rest
 
 some_same : {X : Type 0} (x y : X) → Some x ≡ Some y → x ≡ y
@@ -181,14 +182,18 @@ next_cases occasion o n e = go (position (λ (p : Sent). p.transmission.due) o.s
     from_queue : (q : List DataCommand) → o.queued ≡ q → next_queued wire occasion o q ≡ Some n → Resends o occasion.now n ⊎ Begins o occasion n
     from_queue [] t k = absurd (cc)
     from_queue (c ∷ rest) t k =
-        elim (may_go wire o.sent occasion.transit occasion.most c) as (λ b. may_go wire o.sent occasion.transit occasion.most c ≡ b → cond b (Some (first_sent occasion.now occasion.timeout o c rest)) None ≡ Some n → Resends o occasion.now n ⊎ Begins o occasion n) [
+        elim (may_go wire o.sent occasion c) as (λ b. may_go wire o.sent occasion c ≡ b → cond b (Some (first_sent occasion.now occasion.timeout o c rest)) None ≡ Some n → Resends o occasion.now n ⊎ Begins o occasion n) [
           | true ↦ λ m f. inr (record { head = c; rest = rest; queued = t; allowed = m; is = sym (some_same _ _ f) })
           | false ↦ λ m f. absurd (cc)
         ] refl k
 
-    from_sent : (i : ℕ) (p : Option Sent) → slice_get o.sent i ≡ p → next_resent occasion.now o i p ≡ Some n → Resends o occasion.now n ⊎ Begins o occasion n
+    from_sent : (i : ℕ) (p : Option Sent) → slice_get o.sent i ≡ p → next_resent occasion o i p ≡ Some n → Resends o occasion.now n ⊎ Begins o occasion n
     from_sent i None t k = absurd (cc)
-    from_sent i (Some p) t k = inl (record { place = i; which = p; there = t; is = sym (some_same _ _ k) })
+    from_sent i (Some p) t k =
+        elim (has_room occasion p.command) as (λ b. cond b (Some (resent occasion.now o i p)) None ≡ Some n → Resends o occasion.now n ⊎ Begins o occasion n) [
+          | true ↦ λ f. inl (record { place = i; which = p; there = t; is = sym (some_same _ _ f) })
+          | false ↦ λ f. absurd (cc)
+        ] k
 
     go : (w : Option ℕ) → next_of wire occasion o w ≡ Some n → Resends o occasion.now n ⊎ Begins o occasion n
     go None k = from_queue o.queued refl k
@@ -378,7 +383,7 @@ Sound-begins_reliable mtu v occasion n s sending b k kind =
     let head_kind : c.reliable ≡ true = ap (λ (x : DataCommand). x.reliable) k.command ∙ kind in
     let meant_number : k.meant.number ≡ l.sent + 1 = k.number ∙ ap (λ r. cond r (l.sent + 1) l.sent) kind in
     let number : c.number ≡ (l.sent + 1) % 65536 = ap (λ (x : DataCommand). x.number) k.command ∙ ap (λ x. x % 65536) meant_number in
-    let span : is_in_span wire v.outgoing.sent c.number ≡ true = and_left (is_in_span wire v.outgoing.sent c.number) (nat_le (occasion.transit + length c.body) occasion.most) (or_left c.reliable _ b.allowed head_kind) in
+    let span : is_in_span wire v.outgoing.sent c.number ≡ true = and_left (is_in_span wire v.outgoing.sent c.number) (has_room occasion c) (or_left c.reliable _ b.allowed head_kind) in
     let room = room_from mtu l.carried l.unacked v.outgoing.sent c.number l.sent (h.images sending) h.rising (λ m j. let u = s.numbers.unacked m j in (u.1, u.2)) number span in
     let command : n.command ≡ c = ap (λ (x : Next). x.command) b.is in
     let up : greatest_after v.greatest n.command.number ≡ v.greatest + 1 = ap (λ (x : DataCommand). greatest_after v.greatest x.number) command ∙ grows_for v.greatest c.number (number ∙ ap (λ g. (g + 1) % 65536) (sym h.greatest)) in
@@ -566,8 +571,8 @@ Sound-drops mtu v occasion n s sending e kind =
         }
 
 -- what waited too long is due to go again
-pub Sound-marks : (mtu : ℕ) (v : WireLink) (bound now : ℕ) → Sound mtu v → v.is_sending ≡ true → Sound mtu (marks v bound now)
-Sound-marks mtu v bound now s sending =
+pub Sound-marks : (mtu : ℕ) (v : WireLink) (tick : Tick) → Sound mtu v → v.is_sending ≡ true → Sound mtu (marks v tick)
+Sound-marks mtu v tick s sending =
     let l = s.link in
     let h = s.shows in
     record {
@@ -588,6 +593,6 @@ Sound-marks mtu v bound now s sending =
         answers = h.answers;
         acks = h.acks;
         queues = λ j. let q = h.queues sending in record { gone = q.gone; left = q.left; whole = q.whole; count = q.count; queued = q.queued; number = q.number; unreliable = q.unreliable };
-        images = λ j. Images-map mtu l.carried l.unacked v.outgoing.sent (marked bound now) (λ p. refl) (h.images sending);
+        images = λ j. Images-map mtu l.carried l.unacked v.outgoing.sent (marked tick) (λ p. refl) (h.images sending);
       };
     }

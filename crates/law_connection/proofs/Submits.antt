@@ -33,7 +33,7 @@ happens-any : (a b : ℕ) (e : Event) (v w : WireLink) → Happens a e v w → w
 happens-any a b (Submit p) v w h none = absurd (grown-some v.submitted p (ap (λ (x : WireLink). x.submitted) (sym h.after) ∙ none))
 happens-any a b (Send occasion) v w h none = (h, ap (λ (x : WireLink). x.submitted) (sym h.after) ∙ none)
 happens-any a b (Drop occasion) v w h none = (h, ap (λ (x : WireLink). x.submitted) (sym h.after) ∙ none)
-happens-any a b (Mark bound now) v w h none = (h, ap (λ (x : WireLink). x.submitted) (sym h.after) ∙ none)
+happens-any a b (Mark tick) v w h none = (h, ap (λ (x : WireLink). x.submitted) (sym h.after) ∙ none)
 happens-any a b PutsOut v w h none = (h, ap (λ (x : WireLink). x.submitted) (sym h) ∙ none)
 happens-any a b (Arrive c most full) v w h none = (h, ap (λ (x : WireLink). x.submitted) (sym h.after) ∙ none)
 happens-any a b (ArriveAnswered c most full) v w h none = (h, ap (λ (x : WireLink). x.submitted) (sym h.after) ∙ none)

@@ -179,14 +179,14 @@ tidies qs = record {
     young = λ t. (let y = h.young t in (y.0, acknowledged-idle p.outbox j number y.1, y.2));
     big = h.big;
   };
-  marks = λ p bound now h. record {
-    places = λ i s e. marked-places bound now p.outbox.senders i i (λ t there. h.places i t there) s e;
-    few = subst (λ n. n ≤ 255) (sym (length-map p.outbox.senders (marked_sender bound now))) h.few;
+  marks = λ p tick h. record {
+    places = λ i s e. marked-places tick p.outbox.senders i i (λ t there. h.places i t there) s e;
+    few = subst (λ n. n ≤ 255) (sym (length-map p.outbox.senders (marked_sender tick))) h.few;
     receivers = h.receivers;
-    young = λ t. (let y = h.young t in (y.0, (λ i. marked-at bound now p.outbox.senders i ∙ ap (with_marked bound now) (y.1 i)), y.2));
+    young = λ t. (let y = h.young t in (y.0, (λ i. marked-at tick p.outbox.senders i ∙ ap (with_marked tick) (y.1 i)), y.2));
     big = h.big;
   };
-  holds_back = λ p bound now at h. record { places = h.places; few = h.few; receivers = h.receivers; young = h.young; big = h.big };
+  holds_back = λ p tick at h. record { places = h.places; few = h.few; receivers = h.receivers; young = h.young; big = h.big };
   gives_way = λ p on h. record {
     places = h.places;
     few = h.few;

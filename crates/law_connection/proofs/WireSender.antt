@@ -12,10 +12,11 @@ use Rattle.enet_seq.specs.Numbering.{wire, unbounded}
 use Rattle.enet_rtt.specs.declared.expiry.Patience.{Patience}
 use Rattle.enet_rtt.specs.declared.expiry.Expiry.{Expiry}
 use Rattle.enet_rtt.specs.declared.expiry.Expiry.TheVariants.{No, Resend, End}
+use Rattle.enet_rtt.specs.declared.transmission.Tick.{Tick}
 use Rattle.enet_fragment.specs.declared.data.DataCommand.{DataCommand}
 use Rattle.enet_sender.specs.CommandChoice.{Packet, ChosenPacket, carried_as}
 use Rattle.enet_sender.specs.declared.outgoing.Occasion.{Occasion}
-use Rattle.enet_sender.specs.Sender.{Sender, Next, nothing_sent, command_at, commands_of, with_queued, submitted, again, begun, is_in_span, may_go, first_sent, next_queued, next_resent, next_of, next, is_after_first, is_more, skipped, with_skipped, position_of, without_place, after_acknowledgement, size_of, size_at, acknowledged_bytes, bytes_in_transit, is_late, marked, with_marked, ends, lateness, after_lateness, cleared, left}
+use Rattle.enet_sender.specs.Sender.{Sender, Next, nothing_sent, command_at, commands_of, with_queued, submitted, again, begun, is_in_span, may_go, resent, first_sent, next_queued, next_resent, next_of, next, is_after_first, is_more, skipped, with_skipped, position_of, without_place, after_acknowledgement, has_room, matching, matching_at, acknowledged, transit_bytes, transit_price, bytes_in_transit, prices_in_transit, is_late, marked, with_marked, ends, lateness, after_lateness, cleared, left}
 use Rattle.enet_sender.specs.declared.sent.Sent.{Sent}
 use Rattle.law_connection.specs.Link.{wired, wired_fragment}
 use Rattle.law_connection.specs.Image.{reliable_count, reached, numbers_of, IsRising, IsRow, IsInOrder, wired_sent, ShowsSender, ShowsNext}
@@ -244,9 +245,9 @@ Shows-first now timeout v s c rest h e allowed =
               (λ p k. elim (Has-push_cases s.sent (begun now timeout c) p k) [ inl j ↦ o.sent_reads p j | inr is ↦ subst (λ (x : Sent). IsReadAsItself (wired x.command)) is (reads c (inl refl)) ]);
         }
 
-may_go-same : (transit most : ℕ) (v s : Sender) (c : DataCommand) → ShowsSender v s → (c.reliable ≡ true → c.number ≡ reached s + 1) → may_go wire v.sent transit most (wired c) ≡ may_go unbounded s.sent transit most c
-may_go-same transit most v s c h number =
-    let fits : Bool = nat_le (transit + length c.body) most in
+may_go-same : (occasion : Occasion) (v s : Sender) (c : DataCommand) → ShowsSender v s → (c.reliable ≡ true → c.number ≡ reached s + 1) → may_go wire v.sent occasion (wired c) ≡ may_go unbounded s.sent occasion c
+may_go-same occasion v s c h number =
+    let fits : Bool = has_room occasion c in
     elim c.reliable as (λ b. c.reliable ≡ b → (not b || (is_in_span wire v.sent (c.number % 65536) && fits)) ≡ (not b || (is_in_span unbounded s.sent c.number && fits))) [
       | true ↦ λ t. ap (λ l. is_in_span wire l (c.number % 65536) && fits) h.sent
           ∙ ap (λ b. b && fits) (let o = h.in_order in span_same s.sent c.number (reached s) o.span (number t))
@@ -265,10 +266,10 @@ Shows-next occasion v s h =
     from_queue [] e = tt
     from_queue (c ∷ rest) e =
         let row : IsRow (reached s) (c ∷ rest) s.number = let o = h.in_order in subst (λ l. IsRow (reached s) l s.number) e o.row in
-        let same : may_go wire v.sent occasion.transit occasion.most (wired c) ≡ may_go unbounded s.sent occasion.transit occasion.most c = may_go-same occasion.transit occasion.most v s c h row.0 in
+        let same : may_go wire v.sent occasion (wired c) ≡ may_go unbounded s.sent occasion c = may_go-same occasion v s c h row.0 in
         subst (λ b. ShowsNext (cond b (Some (first_sent occasion.now occasion.timeout v (wired c) (map wired rest))) None) (next_queued unbounded occasion s (c ∷ rest))) (sym same)
-        (elim (may_go unbounded s.sent occasion.transit occasion.most c) as (λ b. may_go unbounded s.sent occasion.transit occasion.most c ≡ b → ShowsNext (cond b (Some (first_sent occasion.now occasion.timeout v (wired c) (map wired rest))) None) (cond b (Some (first_sent occasion.now occasion.timeout s c rest)) None)) [
-          | true ↦ λ t. (refl, refl, Shows-first occasion.now occasion.timeout v s c rest h e (λ k. allowed c.reliable _ _ t k))
+        (elim (may_go unbounded s.sent occasion c) as (λ b. may_go unbounded s.sent occasion c ≡ b → ShowsNext (cond b (Some (first_sent occasion.now occasion.timeout v (wired c) (map wired rest))) None) (cond b (Some (first_sent occasion.now occasion.timeout s c rest)) None)) [
+          | true ↦ λ t. (refl, refl, refl, Shows-first occasion.now occasion.timeout v s c rest h e (λ k. allowed c.reliable _ _ t k))
           | false ↦ λ t. tt
         ] refl)
       where
@@ -277,19 +278,24 @@ Shows-next occasion v s h =
         allowed true false d x k = absurd (cc)
         allowed false b d x k = absurd (cc)
 
-    from_sent : (i : ℕ) (o : Option Sent) → slice_get s.sent i ≡ o → ShowsNext (next_resent occasion.now v i (option_map wired_sent o)) (next_resent occasion.now s i o)
+    from_sent : (i : ℕ) (o : Option Sent) → slice_get s.sent i ≡ o → ShowsNext (next_resent occasion v i (option_map wired_sent o)) (next_resent occasion s i o)
     from_sent i None e = tt
-    from_sent i (Some p) e = (
-      refl,
-      refl,
-      Shows-resent v s (slice_set s.sent i (again occasion.now p)) (slice_set v.sent i (wired_sent (again occasion.now p))) h
-          (ap (λ l. slice_set l i (wired_sent (again occasion.now p))) h.sent ∙ slice_set-map s.sent i (again occasion.now p))
-          (numbers_of-set s.sent i p (again occasion.now p) e refl) (same-set s.sent i p (again occasion.now p) e refl),
-    )
+    from_sent i (Some p) e =
+        elim (has_room occasion p.command) as (λ b. ShowsNext (cond b (Some (resent occasion.now v i (wired_sent p))) None) (cond b (Some (resent occasion.now s i p)) None)) [
+          | true ↦ (
+            refl,
+            refl,
+            refl,
+            Shows-resent v s (slice_set s.sent i (again occasion.now p)) (slice_set v.sent i (wired_sent (again occasion.now p))) h
+                (ap (λ l. slice_set l i (wired_sent (again occasion.now p))) h.sent ∙ slice_set-map s.sent i (again occasion.now p))
+                (numbers_of-set s.sent i p (again occasion.now p) e refl) (same-set s.sent i p (again occasion.now p) e refl),
+          )
+          | false ↦ tt
+        ]
 
     go : (o : Option ℕ) → ShowsNext (next_of wire occasion v o) (next_of unbounded occasion s o)
     go None = subst (λ q. ShowsNext (next_queued wire occasion v q) (next_queued unbounded occasion s s.queued)) (sym h.queued) (from_queue s.queued refl)
-    go (Some i) = subst (λ p. ShowsNext (next_resent occasion.now v i p) (next_resent occasion.now s i (slice_get s.sent i))) (sym (ap (λ l. slice_get l i) h.sent ∙ slice_get-map s.sent i)) (from_sent i (slice_get s.sent i) refl)
+    go (Some i) = subst (λ p. ShowsNext (next_resent occasion v i p) (next_resent occasion s i (slice_get s.sent i))) (sym (ap (λ l. slice_get l i) h.sent ∙ slice_get-map s.sent i)) (from_sent i (slice_get s.sent i) refl)
 
 -- the rest of an unreliable packet goes
 
@@ -394,41 +400,46 @@ Shows-acknowledged v s n low high h =
       };
     }
 
-size_of-same : (time : ℕ) (o : Option Sent) → size_of time (option_map wired_sent o) ≡ size_of time o
-size_of-same time None = refl
-size_of-same time (Some p) = refl
+matching-same : (time : ℕ) (o : Option Sent) → matching time (option_map wired_sent o) ≡ matching time o
+matching-same time None = refl
+matching-same time (Some p) = refl
 
-size_at-same : (time : ℕ) (sent : List Sent) (o : Option ℕ) → size_at time (map wired_sent sent) o ≡ size_at time sent o
-size_at-same time sent None = refl
-size_at-same time sent (Some i) = ap (size_of time) (slice_get-map sent i) ∙ size_of-same time (slice_get sent i)
+matching_at-same : (time : ℕ) (sent : List Sent) (o : Option ℕ) → matching_at time (map wired_sent sent) o ≡ matching_at time sent o
+matching_at-same time sent None = refl
+matching_at-same time sent (Some i) = ap (matching time) (slice_get-map sent i) ∙ matching-same time (slice_get sent i)
 
-pub Shows-acknowledged_bytes : (v s : Sender) (n time : ℕ) → n ≤ reached s → reached s < n + 65536 → ShowsSender v s → acknowledged_bytes v (n % 65536) time ≡ acknowledged_bytes s n time
-Shows-acknowledged_bytes v s n time low high h =
+pub Shows-told : (v s : Sender) (n time : ℕ) → n ≤ reached s → reached s < n + 65536 → ShowsSender v s → acknowledged v (n % 65536) time ≡ acknowledged s n time
+Shows-told v s n time low high h =
     let o = h.in_order in
-    ap (λ l. size_at time l (position_of (n % 65536) l)) h.sent
-    ∙ ap (size_at time (map wired_sent s.sent)) (position-map wired_sent (λ (p : Sent). p.command.number == n % 65536) (λ (p : Sent). p.command.number == n) s.sent (tests_same s n o low high))
-    ∙ size_at-same time s.sent (position_of n s.sent)
+    ap (λ l. matching_at time l (position_of (n % 65536) l)) h.sent
+    ∙ ap (matching_at time (map wired_sent s.sent)) (position-map wired_sent (λ (p : Sent). p.command.number == n % 65536) (λ (p : Sent). p.command.number == n) s.sent (tests_same s n o low high))
+    ∙ matching_at-same time s.sent (position_of n s.sent)
 
 pub Shows-in_transit : (v s : Sender) → ShowsSender v s → bytes_in_transit v ≡ bytes_in_transit s
 Shows-in_transit v s h =
-    ap (sum_by (λ (p : Sent). length p.command.body)) h.sent
-    ∙ fold-map (λ a (p : Sent). a + length p.command.body) wired_sent 0 s.sent
+    ap (sum_by transit_bytes) h.sent
+    ∙ fold-map (λ a (p : Sent). a + transit_bytes p) wired_sent 0 s.sent
+
+pub Shows-prices : (v s : Sender) → ShowsSender v s → prices_in_transit v ≡ prices_in_transit s
+Shows-prices v s h =
+    ap (sum_by transit_price) h.sent
+    ∙ fold-map (λ a (p : Sent). a + transit_price p) wired_sent 0 s.sent
 
 -- a moment passes
 
-pub Shows-marked : (bound now : ℕ) (v s : Sender) → ShowsSender v s → ShowsSender (with_marked bound now v) (with_marked bound now s)
-Shows-marked bound now v s h =
-    Shows-resent v s (map (marked bound now) s.sent) (map (marked bound now) v.sent) h (ap (map (marked bound now)) h.sent ∙ marks s.sent) (numbers s.sent) (same s.sent)
+pub Shows-marked : (tick : Tick) (v s : Sender) → ShowsSender v s → ShowsSender (with_marked tick v) (with_marked tick s)
+Shows-marked tick v s h =
+    Shows-resent v s (map (marked tick) s.sent) (map (marked tick) v.sent) h (ap (map (marked tick)) h.sent ∙ marks s.sent) (numbers s.sent) (same s.sent)
   where
-    marks : (sent : List Sent) → map (marked bound now) (map wired_sent sent) ≡ map wired_sent (map (marked bound now) sent)
+    marks : (sent : List Sent) → map (marked tick) (map wired_sent sent) ≡ map wired_sent (map (marked tick) sent)
     marks [] = refl
-    marks (p ∷ sent) = (λ i. wired_sent (marked bound now p) ∷ marks sent i)
+    marks (p ∷ sent) = (λ i. wired_sent (marked tick p) ∷ marks sent i)
 
-    numbers : (sent : List Sent) → numbers_of (map (marked bound now) sent) ≡ numbers_of sent
+    numbers : (sent : List Sent) → numbers_of (map (marked tick) sent) ≡ numbers_of sent
     numbers [] = refl
     numbers (p ∷ sent) = (λ i. p.command.number ∷ numbers sent i)
 
-    same : (sent : List Sent) → SameCommands sent (map (marked bound now) sent)
+    same : (sent : List Sent) → SameCommands sent (map (marked tick) sent)
     same [] x h = absurd h
     same (p ∷ sent) x (inl is) = (p, inl refl, ap (λ (z : Sent). z.command) (sym is))
     same (p ∷ sent) x (inr h) = let rest = same sent x h in (rest.0, inr rest.1, rest.2)
@@ -439,10 +450,10 @@ Shows-lateness now patience heard v s h =
     let late : position (is_late now) v.sent ≡ position (is_late now) s.sent = ap (position (is_late now)) h.sent ∙ position-map wired_sent (is_late now) (is_late now) s.sent (λ p k. refl) in
     (λ i. cond (is_some (gone i)) End (cond (is_some (late i)) Resend No))
 
-pub Shows-after_lateness : (expiry : Expiry) (bound now : ℕ) (v s : Sender) → ShowsSender v s → ShowsSender (after_lateness expiry bound now v) (after_lateness expiry bound now s)
-Shows-after_lateness No bound now v s h = h
-Shows-after_lateness Resend bound now v s h = Shows-marked bound now v s h
-Shows-after_lateness End bound now v s h = h
+pub Shows-after_lateness : (expiry : Expiry) (tick : Tick) (v s : Sender) → ShowsSender v s → ShowsSender (after_lateness expiry tick v) (after_lateness expiry tick s)
+Shows-after_lateness No tick v s h = h
+Shows-after_lateness Resend tick v s h = Shows-marked tick v s h
+Shows-after_lateness End tick v s h = h
 
 -- the end, and what is left
 

@@ -7,6 +7,7 @@ use Rattle.enet_codec.specs.Message.{Message, connect}
 use Rattle.enet_connect.specs.declared.terms.Terms.{Terms}
 use Rattle.enet_connect.specs.Verification.{verification_of}
 use Rattle.enet_rtt.specs.Transmission as transmission
+use Rattle.enet_rtt.specs.declared.transmission.Tick.{Tick as Moment}
 use Rattle.enet_senders.specs.declared.control.Control.{Control}
 use Rattle.enet_senders.specs.declared.control.Control.TheVariants as control
 use Rattle.enet_senders.specs.declared.control.Numbered.{Numbered}
@@ -160,23 +161,23 @@ acknowledged-says w o channel number a = by (channel == 0xFF)
     by true = without-says w o.control (position_of number o.control.sent) a
     by false = at (slice_get o.senders channel)
 
-marked-all : (w bound now : ℕ) (c : Commands) → AllSay w c → AllSay w (controlling.with_marked bound now c)
-marked-all w bound now c a = record {
+marked-all : (w : ℕ) (tick : Moment) (c : Commands) → AllSay w c → AllSay w (controlling.with_marked tick c)
+marked-all w tick c a = record {
   queued = a.queued;
-  sent = λ x h. (let r = Has-from_map (marked bound now) c.sent x h in subst (λ (y : SentControl). Says w y.command.control) r.2 (a.sent r.0 r.1));
+  sent = λ x h. (let r = Has-from_map (marked tick) c.sent x h in subst (λ (y : SentControl). Says w y.command.control) r.2 (a.sent r.0 r.1));
 }
 
-held_back-says : (w bound now : ℕ) (x : SentControl) → Says w x.command.control → Says w (controlling.held_back bound now x).command.control
-held_back-says w bound now x says = by (controlling.is_late now x)
+held_back-says : (w : ℕ) (tick : Moment) (x : SentControl) → Says w x.command.control → Says w (controlling.held_back tick x).command.control
+held_back-says w tick x says = by (controlling.is_late tick.now x)
   where
-    by : (b : Bool) → Says w (cond b (record x { transmission = transmission.again now (transmission.marked bound now x.transmission) }) x).command.control
+    by : (b : Bool) → Says w (cond b (record x { transmission = transmission.again tick.now (transmission.marked tick x.transmission) }) x).command.control
     by true = says
     by false = says
 
-held_back-all : (w bound now : ℕ) (c : Commands) → AllSay w c → AllSay w (controlling.with_held_back bound now c)
-held_back-all w bound now c a = record {
+held_back-all : (w : ℕ) (tick : Moment) (c : Commands) → AllSay w c → AllSay w (controlling.with_held_back tick c)
+held_back-all w tick c a = record {
   queued = a.queued;
-  sent = λ x h. (let r = Has-from_map (controlling.held_back bound now) c.sent x h in subst (λ (y : SentControl). Says w y.command.control) r.2 (held_back-says w bound now r.0 (a.sent r.0 r.1)));
+  sent = λ x h. (let r = Has-from_map (controlling.held_back tick) c.sent x h in subst (λ (y : SentControl). Says w y.command.control) r.2 (held_back-says w tick r.0 (a.sent r.0 r.1)));
 }
 
 cleared-queued : (w number : ℕ) (what : Control) → Says w what → AllSay w (controlling.with_queued (record { number = number; queued = []; sent = [] }) what)
@@ -201,8 +202,8 @@ words w = record {
   greets = λ p e h. moves w p (record p { state = state.Connected; greeting = Some p.info }) refl (λ e. absurd (cc)) h.says h;
   welcomes = λ p v terms e big word h. record { terms = word ∙ h.offer e; offer = λ t. absurd (let y : state.Connected ≡ state.Connecting = t in cc); says = none-say w p.outbox.control.number };
   acknowledges = λ p j number here h. stays-of w p (record p { outbox = outbox.after_acknowledgement p.outbox j number }) refl refl refl (acknowledged-says w p.outbox j number h.says) h;
-  marks = λ p bound now h. stays-of w p (record p { outbox = outbox.marked p.outbox bound now }) refl refl refl (marked-all w bound now p.outbox.control h.says) h;
-  holds_back = λ p bound now at h. stays-of w p (record p { outbox = outbox.held_back p.outbox bound now }) refl refl refl (held_back-all w bound now p.outbox.control h.says) h;
+  marks = λ p tick h. stays-of w p (record p { outbox = outbox.marked p.outbox tick }) refl refl refl (marked-all w tick p.outbox.control h.says) h;
+  holds_back = λ p tick at h. stays-of w p (record p { outbox = outbox.held_back p.outbox tick }) refl refl refl (held_back-all w tick p.outbox.control h.says) h;
   gives_way = λ p on h. record { terms = h.terms; offer = h.offer; says = h.says };
   takes = λ p j r c on there h. record { terms = h.terms; offer = h.offer; says = h.says };
   takes_unsequenced = λ p j group payload on h. record { terms = h.terms; offer = h.offer; says = h.says };

@@ -77,8 +77,8 @@ pub record ShowsSender (v s : Sender) : Type 0 where
   pub sent : v.sent ≡ map wired_sent s.sent
   pub in_order : IsInOrder s
 
--- what is due next at both: nothing, or the same command, with as many bytes new in transit
+-- what is due next at both: nothing, or the same command, with as many bytes and prices new in transit
 abbrev pub ShowsNext : Option Next → Option Next → Type 0
 ShowsNext None None = Unit {0}
-ShowsNext (Some a) (Some b) = (a.command ≡ wired b.command) × (a.added ≡ b.added) × ShowsSender a.sender b.sender
+ShowsNext (Some a) (Some b) = (a.command ≡ wired b.command) × (a.added ≡ b.added) × (a.price ≡ b.price) × ShowsSender a.sender b.sender
 ShowsNext _ _ = ⊥

@@ -1,6 +1,7 @@
 -- What can happen to a link, one thing after another.
 use Rattle.std.specs.Prelude.{◌≡◌, ℕ, Bool, true, false, ◌≤◌, List, [], ◌∷◌, ◌++◌, Some, map}
 use Rattle.enet_seq.specs.Numbering.{wire}
+use Rattle.enet_rtt.specs.declared.transmission.Tick.{Tick}
 use Rattle.enet_sender.specs.CommandChoice.{Packet, carried_as, fragment_limit}
 use Rattle.enet_sender.specs.declared.outgoing.Occasion.{Occasion}
 use Rattle.enet_sender.specs.Sender.{Sender, Next, next, nothing_sent}
@@ -17,7 +18,7 @@ pub data Event : Type 0 where
   Submit : (packet : Packet) → Event
   Send : (occasion : Occasion) → Event  -- the command that is due next goes into the datagram
   Drop : (occasion : Occasion) → Event  -- the throttle drops the unreliable packet that it begins
-  Mark : (bound now : ℕ) → Event  -- what waited too long is due to go again
+  Mark : (tick : Tick) → Event  -- what waited too long is due to go again
   PutsOut : Event  -- the datagram is put out
   Arrive : (command : PutOut) (max_packet : ℕ) (full : Bool) → Event  -- a command of the log comes
   ArriveAnswered : (command : PutOut) (max_packet : ℕ) (full : Bool) → Event  -- and is acknowledged
@@ -47,9 +48,9 @@ pub record Drops (occasion : Occasion) (v w : WireLink) : Type 0 where
   pub unreliable : due.command.reliable ≡ false
   pub after : w ≡ drops v due
 
-pub record Marks (bound now : ℕ) (v w : WireLink) : Type 0 where
+pub record Marks (tick : Tick) (v w : WireLink) : Type 0 where
   pub sending : v.is_sending ≡ true
-  pub after : w ≡ marks v bound now
+  pub after : w ≡ marks v tick
 
 -- the sending end stops between two datagrams
 pub record StopsSending (left : Sender) (v w : WireLink) : Type 0 where
@@ -93,7 +94,7 @@ abbrev pub Happens : ℕ → Event → WireLink → WireLink → Type 0
 Happens mtu (Submit packet) v w = Submits mtu packet v w
 Happens mtu (Send occasion) v w = Sends occasion v w
 Happens mtu (Drop occasion) v w = Drops occasion v w
-Happens mtu (Mark bound now) v w = Marks bound now v w
+Happens mtu (Mark tick) v w = Marks tick v w
 Happens mtu PutsOut v w = w ≡ puts_out v
 Happens mtu (Arrive command max_packet full) v w = ArrivesUnanswered command max_packet full v w
 Happens mtu (ArriveAnswered command max_packet full) v w = ArrivesAnswered command max_packet full v w

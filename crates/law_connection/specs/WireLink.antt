@@ -1,6 +1,7 @@
 -- One channel from a sender to a receiver and the acknowledgements back, as the two ends and the log show it: with wire numbers.
 use Rattle.std.specs.Prelude.{ℕ, Bool, false, if◌then◌else◌, List, [], ◌∷◌, ◌++◌, map}
 use Rattle.enet_seq.specs.Numbering.{wire}
+use Rattle.enet_rtt.specs.declared.transmission.Tick.{Tick}
 use Rattle.enet_sender.specs.CommandChoice.{Packet}
 use Rattle.enet_fragment.specs.declared.data.DataCommand.{DataCommand}
 use Rattle.enet_sender.specs.Sender.{Sender, Next, submitted, with_skipped, with_marked, after_acknowledgement}
@@ -35,8 +36,8 @@ abbrev pub drops : WireLink → Next → WireLink
 drops v n = record v { outgoing = with_skipped n.sender }
 
 -- a moment later, what waited too long is due to go again
-abbrev pub marks : WireLink → ℕ → ℕ → WireLink
-marks v bound now = record v { outgoing = with_marked bound now v.outgoing }
+abbrev pub marks : WireLink → Tick → WireLink
+marks v tick = record v { outgoing = with_marked tick v.outgoing }
 
 abbrev pub with_reach : ℕ → DataCommand → PutOut
 with_reach sent_then c = record { command = c; sent_then = sent_then }

@@ -18,6 +18,7 @@
 
 ghost use Rattle.std.specs.Prelude.{◌≡◌, ℕ, ◌+◌, ◌%◌, ◌<◌, ◌≤◌, Bool, true, List, length, Some};
 ghost use Rattle.enet_seq.specs.Numbering.{wire, unbounded};
+ghost use Rattle.enet_rtt.specs.declared.transmission.Tick.{Tick};
 ghost use Rattle.enet_rtt.specs.declared.expiry.Patience.{Patience};
 ghost use Rattle.enet_rtt.specs.declared.expiry.Expiry.{Expiry};
 ghost use Rattle.enet_fragment.specs.declared.data.DataCommand.{DataCommand};
@@ -28,7 +29,7 @@ ghost use Rattle.enet_receiver.specs.DataOutcome.{outcome, received, dispatch_co
 ghost use Rattle.enet_receiver.specs.DataOutcome as reception;
 ghost use Rattle.enet_sender.specs.CommandChoice.{Packet};
 ghost use Rattle.enet_sender.specs.declared.outgoing.Occasion.{Occasion};
-ghost use Rattle.enet_sender.specs.Sender.{Sender, Next, nothing_sent, submitted, next, with_skipped, after_acknowledgement, acknowledged_bytes, bytes_in_transit, with_marked, lateness, after_lateness, cleared, left};
+ghost use Rattle.enet_sender.specs.Sender.{Sender, Next, nothing_sent, submitted, next, with_skipped, after_acknowledgement, acknowledged, bytes_in_transit, prices_in_transit, with_marked, lateness, after_lateness, cleared, left};
 ghost use Rattle.law_connection.specs.Follows.{Follows};
 ghost use Rattle.law_connection.specs.Link.{PutOut};
 ghost use Rattle.law_connection.specs.Meant.{IsReadAsItself};
@@ -96,7 +97,7 @@ pub fn wire_receiver()
 
 /// A sender that keeps wire numbers does at every call what one with unbounded numbers does. It begins as the other's image
 /// (`nothing`), and each call on both leaves it so and gives the same. `next`: both have nothing due, or the one has the
-/// other's command on the wire. `acknowledged`, `acknowledged_bytes`: this holds of an acknowledgement of a number that is not
+/// other's command on the wire. `acknowledged`, `told`: this holds of an acknowledgement of a number that is not
 /// above the greatest sent, and at most 65,535 below it. `reads_queued`, `reads_next`: what is queued, and what is due next,
 /// is read from its message as that very command. Times are in milliseconds.
 pub fn wire_sender()
@@ -105,11 +106,12 @@ pub fn wire_sender()
     ensures next { (occasion : Occasion) (v s : Sender) → ShowsSender v s → ShowsNext (next wire occasion v) (next unbounded occasion s) }
     ensures skipped { (v s : Sender) → ShowsSender v s → ShowsSender (with_skipped v) (with_skipped s) }
     ensures acknowledged { (v s : Sender) (n : ℕ) → n ≤ reached s → reached s < n + 65536 → ShowsSender v s → ShowsSender (after_acknowledgement v (n % 65536)) (after_acknowledgement s n) }
-    ensures acknowledged_bytes { (v s : Sender) (n time : ℕ) → n ≤ reached s → reached s < n + 65536 → ShowsSender v s → acknowledged_bytes v (n % 65536) time ≡ acknowledged_bytes s n time }
+    ensures told { (v s : Sender) (n time : ℕ) → n ≤ reached s → reached s < n + 65536 → ShowsSender v s → acknowledged v (n % 65536) time ≡ acknowledged s n time }
     ensures in_transit { (v s : Sender) → ShowsSender v s → bytes_in_transit v ≡ bytes_in_transit s }
-    ensures marked { (bound now : ℕ) (v s : Sender) → ShowsSender v s → ShowsSender (with_marked bound now v) (with_marked bound now s) }
+    ensures prices { (v s : Sender) → ShowsSender v s → prices_in_transit v ≡ prices_in_transit s }
+    ensures marked { (tick : Tick) (v s : Sender) → ShowsSender v s → ShowsSender (with_marked tick v) (with_marked tick s) }
     ensures lateness { (now : ℕ) (patience : Patience) (heard : ℕ) (v s : Sender) → ShowsSender v s → lateness now patience heard v ≡ lateness now patience heard s }
-    ensures after_lateness { (expiry : Expiry) (bound now : ℕ) (v s : Sender) → ShowsSender v s → ShowsSender (after_lateness expiry bound now v) (after_lateness expiry bound now s) }
+    ensures after_lateness { (expiry : Expiry) (tick : Tick) (v s : Sender) → ShowsSender v s → ShowsSender (after_lateness expiry tick v) (after_lateness expiry tick s) }
     ensures cleared { (v s : Sender) → ShowsSender v s → ShowsSender (cleared v) (cleared s) }
     ensures left { (v s : Sender) → ShowsSender v s → left v ≡ left s }
     ensures reads_queued { (v s : Sender) (c : DataCommand) → ShowsSender v s → Has v.queued c → IsReadAsItself c }

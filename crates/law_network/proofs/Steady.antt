@@ -39,8 +39,8 @@ steadies m = record {
   greets = λ p e h. record { old = refl; same = h.same };
   welcomes = λ p v terms e big word h. absurd (let y : true ≡ false = sym (ap is_young e) ∙ h.old in cc);
   acknowledges = λ p j number here h. record { old = h.old; same = h.same };
-  marks = λ p bound now h. record { old = h.old; same = h.same };
-  holds_back = λ p bound now at h. record { old = h.old; same = h.same };
+  marks = λ p tick h. record { old = h.old; same = h.same };
+  holds_back = λ p tick at h. record { old = h.old; same = h.same };
   gives_way = λ p on h. record { old = h.old; same = h.same };
   takes = λ p j r c on there h. record { old = h.old; same = h.same };
   takes_unsequenced = λ p j group payload on h. record { old = h.old; same = h.same };

@@ -11,10 +11,12 @@ use Rattle.enet_rtt.specs.Clock.{told_time, meant_time}
 use Rattle.enet_rtt.specs.SendTimes.{no_sends, with_send, has_time}
 use Rattle.enet_rtt.specs.declared.send_times.SendTimes.{SendTimes}
 use Rattle.enet_rtt.specs.Transmission.{again, marked}
+use Rattle.enet_rtt.specs.declared.transmission.Tick.{Tick as Moment}
 use Rattle.enet_rtt.specs.declared.expiry.Expiry.{Expiry}
 use Rattle.enet_rtt.specs.declared.expiry.Expiry.TheVariants.{No, Resend, End as Ends}
 use Rattle.enet_fragment.specs.Cutting.{piece_count}
 use Rattle.enet_sender.specs.CommandChoice.{fragment_limit}
+use Rattle.enet_sender.specs.declared.outgoing.Acknowledged.{Acknowledged}
 use Rattle.enet_sender.specs.Due.{SendingEnd}
 use Rattle.enet_senders.specs.Controlling as controlling
 use Rattle.enet_senders.specs.Controlling.{Commands, message_of}
@@ -110,10 +112,10 @@ awaits-more : (S T : ℕ → Type 0) (answer : Numbered) (c : Commands) → ((ti
 awaits-more S T answer c f k = record { queued = k.queued; sent = λ t h a. (let z = k.sent t h a in (z.0, λ time e. f time (z.1 time e))) }
 
 -- what waits out its timeout
-awaits-marked : (S : ℕ → Type 0) (answer : Numbered) (c : Commands) (bound now : ℕ) → Awaits S answer c → Awaits S answer (controlling.with_marked bound now c)
-awaits-marked S answer c bound now k = record {
+awaits-marked : (S : ℕ → Type 0) (answer : Numbered) (c : Commands) (tick : Moment) → Awaits S answer c → Awaits S answer (controlling.with_marked tick c)
+awaits-marked S answer c tick k = record {
   queued = k.queued;
-  sent = λ t h a. (let r = Has-from_map (controlling.marked bound now) c.sent t h in
+  sent = λ t h a. (let r = Has-from_map (controlling.marked tick) c.sent t h in
       subst (λ (y : SentControl). (y.command ≡ answer) × ((time : ℕ) → has_time time y.times ≡ true → S time)) r.2 (k.sent r.0 r.1 (ap (λ (y : SentControl). is_answer y.command.control) r.2 ∙ a)));
 }
 
@@ -122,18 +124,18 @@ if-sent : {A : Type 0} (f : SentControl → A) (b : Bool) (x y : SentControl) �
 if-sent f true x y e = e
 if-sent f false x y e = refl
 
-held_back-command : (bound now : ℕ) (x : SentControl) → (controlling.held_back bound now x).command ≡ x.command
-held_back-command bound now x = if-sent (λ (y : SentControl). y.command) (controlling.is_late now x) (record x { transmission = again now (marked bound now x.transmission) }) x refl
+held_back-command : (tick : Moment) (x : SentControl) → (controlling.held_back tick x).command ≡ x.command
+held_back-command tick x = if-sent (λ (y : SentControl). y.command) (controlling.is_late tick.now x) (record x { transmission = again tick.now (marked tick x.transmission) }) x refl
 
-held_back-times : (bound now : ℕ) (x : SentControl) → (controlling.held_back bound now x).times ≡ x.times
-held_back-times bound now x = if-sent (λ (y : SentControl). y.times) (controlling.is_late now x) (record x { transmission = again now (marked bound now x.transmission) }) x refl
+held_back-times : (tick : Moment) (x : SentControl) → (controlling.held_back tick x).times ≡ x.times
+held_back-times tick x = if-sent (λ (y : SentControl). y.times) (controlling.is_late tick.now x) (record x { transmission = again tick.now (marked tick x.transmission) }) x refl
 
-awaits-held_back : (S : ℕ → Type 0) (answer : Numbered) (c : Commands) (bound now : ℕ) → Awaits S answer c → Awaits S answer (controlling.with_held_back bound now c)
-awaits-held_back S answer c bound now k = record {
+awaits-held_back : (S : ℕ → Type 0) (answer : Numbered) (c : Commands) (tick : Moment) → Awaits S answer c → Awaits S answer (controlling.with_held_back tick c)
+awaits-held_back S answer c tick k = record {
   queued = k.queued;
-  sent = λ t h a. (let r = Has-from_map (controlling.held_back bound now) c.sent t h in
-      let command : r.0.command ≡ t.command = sym (held_back-command bound now r.0) ∙ ap (λ (y : SentControl). y.command) r.2 in
-      let times : r.0.times ≡ t.times = sym (held_back-times bound now r.0) ∙ ap (λ (y : SentControl). y.times) r.2 in
+  sent = λ t h a. (let r = Has-from_map (controlling.held_back tick) c.sent t h in
+      let command : r.0.command ≡ t.command = sym (held_back-command tick r.0) ∙ ap (λ (y : SentControl). y.command) r.2 in
+      let times : r.0.times ≡ t.times = sym (held_back-times tick r.0) ∙ ap (λ (y : SentControl). y.times) r.2 in
       let z = k.sent r.0 r.1 (ap (λ (y : Numbered). is_answer y.control) command ∙ a) in
       (sym command ∙ z.0, λ time e. z.1 time (ap (has_time time) times ∙ e)));
 }
@@ -289,8 +291,8 @@ pasts = record {
   greets = λ p e h. absurd (let z : true ≡ false = sym (ap is_young e) ∙ h.past in cc);
   welcomes = λ p v terms e big word h. absurd (let z : true ≡ false = sym (ap is_young e) ∙ h.past in cc);
   acknowledges = λ p j number here h. record { past = h.past; none = h.none };
-  marks = λ p bound now h. record { past = h.past; none = h.none };
-  holds_back = λ p bound now at h. record { past = h.past; none = h.none };
+  marks = λ p tick h. record { past = h.past; none = h.none };
+  holds_back = λ p tick at h. record { past = h.past; none = h.none };
   gives_way = λ p on h. record { past = h.past; none = h.none };
   takes = λ p j r c on there h. record { past = h.past; none = h.none };
   takes_unsequenced = λ p j group payload on h. record { past = h.past; none = h.none };
@@ -319,14 +321,14 @@ young-ticked S answer offset p now h = subst (λ (x : Peering). Stage S answer o
   where
     by : (x : Expiry) → Stage S answer offset (pinged (after_timeouts_by x (waiting p) now) now)
     by Ends = inr (record { past = refl; none = refl })
-    by Resend = inl (record { on = refl; none = refl; same = h.same; awaits = awaits-marked S answer p.outbox.control _ now h.awaits })
+    by Resend = inl (record { on = refl; none = refl; same = h.same; awaits = awaits-marked S answer p.outbox.control _ h.awaits })
     by No = inl (record { on = refl; none = refl; same = h.same; awaits = h.awaits })
 
 young-moved : (S : ℕ → Type 0) (answer : Numbered) (offset : ℕ) (short : Bool) (p : Peering) (now : ℕ) → Young S answer offset p → Stage S answer offset (moved short p now)
 young-moved S answer offset short p now h = by (is_held_back short p now)
   where
     by : (b : Bool) → Stage S answer offset (cond b (held_back p now) (ticked p now))
-    by true = inl (record { on = h.on; none = h.none; same = h.same; awaits = awaits-held_back S answer p.outbox.control _ now h.awaits })
+    by true = inl (record { on = h.on; none = h.none; same = h.same; awaits = awaits-held_back S answer p.outbox.control _ h.awaits })
     by false = young-ticked S answer offset p now h
 
 -- the user sets something
@@ -396,9 +398,9 @@ matches o channel number time what e = by (channel == 0xFF) refl e
     is-equal : (m n : ℕ) → (m == n) ≡ true → m ≡ n
     is-equal m n h = grind (arith, nat_tests)
 
-    never : (n : Option ℕ) → outbox.as_data n ≡ matched.Control what → ⊥
+    never : (n : Option Acknowledged) → outbox.as_data n ≡ matched.Control what → ⊥
     never None k = cc
-    never (Some bytes) k = cc
+    never (Some told) k = cc
 
     no-data : (s : Option SendingEnd) → outbox.matched_on s number time ≡ matched.Control what → ⊥
     no-data None k = cc

@@ -148,8 +148,8 @@ changes qs put = record {
         young = λ t. absurd (let x : false ≡ true = t in cc);
       };
   acknowledges = λ p j number here h. record { senders = acknowledged-senders p.terms.mtu qs p.outbox j number h.senders; logged = h.logged; young = h.young };
-  marks = λ p bound now h. record { senders = map-senders p.terms.mtu qs (marked_sender bound now) p.outbox.senders (λ s. (refl, marked-fewer bound now s.sender)) h.senders; logged = h.logged; young = h.young };
-  holds_back = λ p bound now at h. record { senders = h.senders; logged = h.logged; young = h.young };
+  marks = λ p tick h. record { senders = map-senders p.terms.mtu qs (marked_sender tick) p.outbox.senders (λ s. (refl, marked-fewer tick s.sender)) h.senders; logged = h.logged; young = h.young };
+  holds_back = λ p tick at h. record { senders = h.senders; logged = h.logged; young = h.young };
   gives_way = λ p on h. record { senders = h.senders; logged = h.logged; young = h.young };
   takes = λ p j r c on there h. record { senders = h.senders; logged = h.logged; young = h.young };
   takes_unsequenced = λ p j group payload on h. record { senders = h.senders; logged = h.logged; young = h.young };

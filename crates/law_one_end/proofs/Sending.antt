@@ -6,6 +6,7 @@ use Rattle.enet_fragment.specs.declared.data.DataCommand.{DataCommand}
 use Rattle.enet_receiver.specs.Members.{Has}
 use Rattle.enet_sender.specs.CommandChoice.{ChosenPacket, carried, carried_as}
 use Rattle.enet_sender.specs.CommandChoice as command_choice
+use Rattle.enet_rtt.specs.declared.transmission.Tick.{Tick}
 use Rattle.enet_sender.specs.declared.outgoing.Occasion.{Occasion}
 use Rattle.enet_sender.specs.declared.sent.Sent.{Sent}
 use Rattle.enet_sender.specs.Sender.{Sender, Next, next, nothing_sent, command_at, commands_of, begun, again, with_skipped, without_place, position_of, after_acknowledgement, with_marked}
@@ -119,11 +120,11 @@ acknowledged-fewer s number = record {
     left None p h = h
     left (Some i) p h = Has-remove s.sent i p h
 
-pub marked-fewer : (bound now : ℕ) (s : Sender) → Fewer s (with_marked bound now s)
-marked-fewer bound now s = record {
+pub marked-fewer : (tick : Tick) (s : Sender) → Fewer s (with_marked tick s)
+marked-fewer tick s = record {
   number = refl;
   unreliable = refl;
-  commands = λ c h. elim h [ inl q ↦ inl q | inr w ↦ (let r = Has-from_map (sender.marked bound now) s.sent w.0 w.1 in inr (r.0, r.1, ap (λ (p : Sent). p.command) r.2 ∙ w.2)) ];
+  commands = λ c h. elim h [ inl q ↦ inl q | inr w ↦ (let r = Has-from_map (sender.marked tick) s.sent w.0 w.1 in inr (r.0, r.1, ap (λ (p : Sent). p.command) r.2 ∙ w.2)) ];
 }
 
 pub cleared-fewer : (s : Sender) → Fewer s (sender.cleared s)

@@ -19,7 +19,7 @@ use Rattle.enet_receiver.specs.Foresight.{ReceivingEnd}
 use Rattle.enet_inbox.specs.DataEffect.{DataEffect, passed_over, arrival}
 use Rattle.enet_outbox.specs.declared.parts.Matched.{Matched}
 use Rattle.enet_outbox.specs.declared.parts.Matched.TheVariants as matched
-use Rattle.enet_outbox.specs.Outbox.{after_acknowledgement, is_done, matched_by}
+use Rattle.enet_outbox.specs.Outbox.{after_acknowledgement, is_done, matched_by, told_by, with_growth}
 use Rattle.enet_outbox.specs.Outbox as outbox
 use Rattle.enet_peer.specs.Peering.{Peering}
 use Rattle.enet_peer.specs.declared.parts.PeerState.{PeerState}
@@ -210,7 +210,7 @@ on_acknowledge-stays p now channel number told = if-peer (StaysAt p) (is_connect
     time = meant_time told (p.offset % 2 ^ 16)
 
     q : Peering
-    q = sampled (record p { outbox = after_acknowledgement p.outbox channel number }) now time
+    q = sampled (record p { outbox = with_growth (after_acknowledgement p.outbox channel number) (told_by p.outbox channel number time) }) now time
 
     h : StaysAt p q
     h = stays (core p)

@@ -1,7 +1,8 @@
 -- What was sent, however rarely time comes and datagrams go: no timeout is above 60,000 ms, as long as the clock hasn't wrapped since the
--- first send: it is 5,000 at most at first, and later at most twice what had passed since the first send, less than the greatest patience.
+-- first send: it is 5,000 at most at first, and later that of a first send, or at most twice what had passed since the first send, less than
+-- the greatest patience.
 -- Of a peer with ENet's patience.
-use Rattle.std.proofs.Common.{◌≡◌, ℕ, ◌+◌, ◌-◌, ◌*◌, ◌%◌, ◌^◌, ◌<◌, ◌≤◌, ◌&&◌, not, leb, Bool, true, false, cond, List, map, refl, sym, ap, subst, ◌∙◌, inl, inr, ◌⊎◌, arith}
+use Rattle.std.proofs.Common.{◌≡◌, ℕ, ◌+◌, ◌-◌, ◌%◌, ◌^◌, ◌<◌, ◌≤◌, ◌&&◌, not, leb, Bool, true, false, cond, List, map, refl, sym, ap, subst, ◌∙◌, inl, inr, ◌⊎◌, arith}
 use Rattle.std.proofs.lemmas.Bool.Decides.{nat_tests}
 use Rattle.std.specs.List.{list_any}
 use Rattle.enet_rtt.specs.Clock.{elapsed_time}
@@ -9,6 +10,7 @@ use Rattle.enet_rtt.specs.Timing.{timeout}
 use Rattle.enet_rtt.specs.Transmission as transmission
 use Rattle.enet_rtt.specs.Expiry.{gives_up}
 use Rattle.enet_rtt.specs.declared.transmission.Transmission.{Transmission}
+use Rattle.enet_rtt.specs.declared.transmission.Tick.{Tick}
 use Rattle.enet_rtt.specs.declared.expiry.Patience.{Patience}
 use Rattle.enet_rtt.specs.declared.expiry.Expiry.{Expiry}
 use Rattle.enet_senders.specs.Controlling as controlling
@@ -25,10 +27,10 @@ use Rattle.enet_peer.specs.declared.parts.PeerState.{PeerState}
 use Rattle.enet_peer.specs.declared.parts.PeerState.TheVariants as state
 use Rattle.enet_peer.specs.Peering.{Peering}
 use Rattle.enet_peer.specs.Endings.{cut_off_in}
-use Rattle.enet_peer.specs.Calls.{pace_of, gone_on_in, held_back, moved, ticked, pinged, is_pinged, after_timeouts_by, growth_bound}
+use Rattle.enet_peer.specs.Calls.{pace_of, gone_on_in, held_back, moved, ticked, pinged, is_pinged, after_timeouts_by, tick_of}
 use Rattle.law_progress.specs.Exchanges.{AllOver}
 use Rattle.law_progress.proofs.Moving.{Lasting, by-expiry, by-moved}
-use Rattle.law_progress.proofs.Timed.{elapsed-is, le-of, lt-of}
+use Rattle.law_progress.proofs.Timed.{elapsed-is, le-of, lt-of, next-within}
 use Rattle.law_progress.proofs.Waiting.{Fair, Sends, each-filled, fair-went, timeout-low, none-of, or-both, Has-mapped}
 
 -- by now a command that first went `time` milliseconds ago at most
@@ -49,17 +51,14 @@ most = 30000
 abbrev pub Ages : ℕ → ℕ → Peering → Type 0
 Ages now time p = Fair (Aged now time) most p
 
-aged-begun : (now time wait : ℕ) → wait ≤ 60000 → Aged now time (transmission.begun (now % 2 ^ 32) wait)
+pub aged-begun : (now time wait : ℕ) → wait ≤ 60000 → Aged now time (transmission.begun (now % 2 ^ 32) wait)
 aged-begun now time wait low = record { first = now; last = now; first_is = refl; last_is = refl; after = omega arith; by = omega arith; since = omega arith; brief = low }
 
-aged-again : (now time : ℕ) (t : Transmission) → Aged now time t → Aged now time (transmission.again (now % 2 ^ 32) t)
+pub aged-again : (now time : ℕ) (t : Transmission) → Aged now time t → Aged now time (transmission.again (now % 2 ^ 32) t)
 aged-again now time t a =
     let after = a.after in
     let by = a.by in
     record { first = a.first; last = now; first_is = a.first_is; last_is = refl; after = omega arith; by = omega arith; since = a.since; brief = a.brief }
-
-at-most-twice : (bound t : ℕ) → transmission.grown_time bound t ≤ 2 * t
-at-most-twice bound t = grind arith
 
 -- so many milliseconds later, as it is
 aged-on : (now time d : ℕ) (t : Transmission) → Aged now time t → Aged (now + d) (time + d) t
@@ -69,9 +68,9 @@ aged-on now time d t a =
     record { first = a.first; last = a.last; first_is = a.first_is; last_is = a.last_is; after = a.after; by = omega arith; since = omega arith; brief = a.brief }
 
 -- or due to go again where it is late, patience lasting then
-aged-marked : (now time d bound : ℕ) (t : Transmission) → Aged now time t → time + d < 2 ^ 32 → (transmission.is_late ((now + d) % 2 ^ 32) t ≡ true → leb most (elapsed_time ((now + d) % 2 ^ 32) t.first) ≡ false)
-    → Aged (now + d) (time + d) (transmission.marked bound ((now + d) % 2 ^ 32) t)
-aged-marked now time d bound t a near patient = by (transmission.is_late n t) refl
+aged-marked : (now time d : ℕ) (tick : Tick) (t : Transmission) → tick.now ≡ (now + d) % 2 ^ 32 → tick.present ≤ 60000 → Aged now time t → time + d < 2 ^ 32 → (transmission.is_late ((now + d) % 2 ^ 32) t ≡ true → leb most (elapsed_time ((now + d) % 2 ^ 32) t.first) ≡ false)
+    → Aged (now + d) (time + d) (transmission.marked tick t)
+aged-marked now time d tick t at present a near patient = subst (λ m. Aged (now + d) (time + d) (cond (transmission.is_late m t) grows t)) (sym at) (by (transmission.is_late n t) refl)
   where
     n : ℕ
     n = (now + d) % 2 ^ 32
@@ -83,7 +82,7 @@ aged-marked now time d bound t a near patient = by (transmission.is_late n t) re
     gone = ap (elapsed_time n) a.last_is ∙ elapsed-is a.last (now + d) low (let x = a.after in let y = a.since in omega arith)
 
     grows : Transmission
-    grows = record t { timeout = transmission.grown_time bound t.timeout; due = true }
+    grows = record t { timeout = transmission.next_time tick t; due = true }
 
     by : (b : Bool) → transmission.is_late n t ≡ b → Aged (now + d) (time + d) (cond b grows t)
     by false e = aged-on now time d t a
@@ -95,7 +94,7 @@ aged-marked now time d bound t a near patient = by (transmission.is_late n t) re
       after = a.after;
       by = low;
       since = (let y = a.since in omega arith);
-      brief = (let x = at-most-twice bound t.timeout in let y = brief in omega arith);
+      brief = (let y = brief in let x = next-within tick t 60000 0 present (omega arith) in omega arith);
     }
       where
         late : leb t.timeout (elapsed_time n t.last) ≡ true
@@ -110,6 +109,9 @@ aged-marked now time d bound t a near patient = by (transmission.is_late n t) re
 
         brief : t.timeout < 30000
         brief = (let x = le-of t.timeout (elapsed_time n t.last) late in let y = gone in let z = lt-of most (elapsed_time n t.first) (patient e) in let u = since in let v = a.after in let w = low in omega arith)
+
+brief-timeout : (n : ℕ) → n ≤ 5000 → n ≤ 60000
+brief-timeout n low = omega arith
 
 -- time comes to a peer
 no-end : (n heard : ℕ) (pt : Patience) (t : Transmission) → pt.maximum ≡ most → transmission.ends n pt heard t ≡ false → transmission.is_late n t ≡ true → leb most (elapsed_time n t.first) ≡ false
@@ -128,8 +130,11 @@ ages-moved now time d short p h near = by-moved (λ (x : Peering). Fair R most x
     R : Transmission → Type 0
     R = Aged (now + d) (time + d)
 
-    goes : (bound : ℕ) (t : Transmission) → Aged now time t → transmission.ends n p.patience p.heard t ≡ false → R (transmission.marked bound n t)
-    goes bound t a e = aged-marked now time d bound t a near (λ late. no-end n p.heard p.patience t h.2 e late)
+    tick_is : Tick
+    tick_is = tick_of p n
+
+    goes : (t : Transmission) → Aged now time t → transmission.ends n p.patience p.heard t ≡ false → R (transmission.marked tick_is t)
+    goes t a e = aged-marked now time d tick_is t refl (brief-timeout (timeout p.estimate) (timeout-low p.estimate)) a near (λ late. no-end n p.heard p.patience t h.2 e late)
 
     ends-controls : Lasting p n → (t : SentControl) → Has p.outbox.control.sent t → transmission.ends n p.patience p.heard t.transmission ≡ false
     ends-controls e t k = none-of (controlling.ends n p.patience p.heard) p.outbox.control.sent t (or-both (list_any (controlling.ends n p.patience p.heard) p.outbox.control.sent) _ e.0).0 k
@@ -139,14 +144,14 @@ ages-moved now time d short p h near = by-moved (λ (x : Peering). Fair R most x
         none-of (sender.ends n p.patience p.heard) s.sender.sent t
         (none-of (λ (x : SendingEnd). list_any (sender.ends n p.patience p.heard) x.sender.sent) p.outbox.senders s (or-both (list_any (controlling.ends n p.patience p.heard) p.outbox.control.sent) _ e.0).1 k) j
 
-    marks : (bound : ℕ) → Lasting p n → Fair R most (record p { outbox = outbox.marked p.outbox bound n })
-    marks bound e = (
+    marks : Lasting p n → Fair R most (record p { outbox = outbox.marked p.outbox tick_is })
+    marks e = (
       (
-        (λ t k. (let c = Has-mapped (controlling.marked bound n) p.outbox.control.sent t k in
-            subst (λ (x : SentControl). R x.transmission) c.2 (goes bound c.0.transmission (h.0.0 c.0 c.1) (ends-controls e c.0 c.1)))),
-        (λ s k t j. (let d' = Has-mapped (marked_sender bound n) p.outbox.senders s k in
-            let c = Has-mapped (sender.marked bound n) d'.0.sender.sent t (subst (λ (x : SendingEnd). Has x.sender.sent t) (sym d'.2) j) in
-            subst (λ (x : Sent). R x.transmission) c.2 (goes bound c.0.transmission (h.0.1 d'.0 d'.1 c.0 c.1) (ends-channels e d'.0 d'.1 c.0 c.1)))),
+        (λ t k. (let c = Has-mapped (controlling.marked tick_is) p.outbox.control.sent t k in
+            subst (λ (x : SentControl). R x.transmission) c.2 (goes c.0.transmission (h.0.0 c.0 c.1) (ends-controls e c.0 c.1)))),
+        (λ s k t j. (let d' = Has-mapped (marked_sender tick_is) p.outbox.senders s k in
+            let c = Has-mapped (sender.marked tick_is) d'.0.sender.sent t (subst (λ (x : SendingEnd). Has x.sender.sent t) (sym d'.2) j) in
+            subst (λ (x : Sent). R x.transmission) c.2 (goes c.0.transmission (h.0.1 d'.0 d'.1 c.0 c.1) (ends-channels e d'.0 d'.1 c.0 c.1)))),
       ),
       h.1,
       h.2,
@@ -157,17 +162,17 @@ ages-moved now time d short p h near = by-moved (λ (x : Peering). Fair R most x
     still = (((λ t k. aged-on now time d t.transmission (h.0.0 t k)), (λ s k t j. aged-on now time d t.transmission (h.0.1 s k t j))), h.1, h.2)
 
     -- an answer that is late counts as tried
-    one-held : (bound : ℕ) (t : SentControl) (b : Bool) → Aged now time t.transmission → R (transmission.marked bound n t.transmission)
-        → R (cond b (record t { transmission = transmission.again n (transmission.marked bound n t.transmission) }) t).transmission
-    one-held bound t false a m = aged-on now time d t.transmission a
-    one-held bound t true a m = aged-again (now + d) (time + d) (transmission.marked bound n t.transmission) m
+    one-held : (t : SentControl) (b : Bool) → Aged now time t.transmission → R (transmission.marked tick_is t.transmission)
+        → R (cond b (record t { transmission = transmission.again n (transmission.marked tick_is t.transmission) }) t).transmission
+    one-held t false a m = aged-on now time d t.transmission a
+    one-held t true a m = aged-again (now + d) (time + d) (transmission.marked tick_is t.transmission) m
 
     held : p.state ≡ state.Answering → Lasting p n → Fair R most (held_back p n)
     held answers e = (
       (
-        (λ t k. (let c = Has-mapped (controlling.held_back (growth_bound p) n) p.outbox.control.sent t k in
+        (λ t k. (let c = Has-mapped (controlling.held_back tick_is) p.outbox.control.sent t k in
             let a = h.0.0 c.0 c.1 in
-            subst (λ (x : SentControl). R x.transmission) c.2 (one-held (growth_bound p) c.0 (transmission.is_late n c.0.transmission) a (goes (growth_bound p) c.0.transmission a (ends-controls e c.0 c.1))))),
+            subst (λ (x : SentControl). R x.transmission) c.2 (one-held c.0 (transmission.is_late n c.0.transmission) a (goes c.0.transmission a (ends-controls e c.0 c.1))))),
         still.0.1,
       ),
       h.1,
@@ -187,10 +192,7 @@ ages-moved now time d short p h near = by-moved (λ (x : Peering). Fair R most x
 
     tick : Fair R most (ticked p n)
     tick = by-expiry (λ (e : Expiry). Fair R most (pinged (after_timeouts_by e p n) n)) p n
-        (pings (cut_off_in p.state p) (cut p.state)) (λ e f. pings (record p { outbox = outbox.marked p.outbox (growth_bound p) n }) (marks (growth_bound p) e)) (λ e f. pings p still)
-
-brief-timeout : (n : ℕ) → n ≤ 5000 → n ≤ 60000
-brief-timeout n low = omega arith
+        (pings (cut_off_in p.state p) (cut p.state)) (λ e f. pings (record p { outbox = outbox.marked p.outbox tick_is }) (marks e)) (λ e f. pings p still)
 
 -- nor does it matter that a peer is asked for a datagram
 pub ages-emitted : (now time : ℕ) (p : Peering) → Ages now time p → Ages now time (gone_on_in p.state (record p { outbox = (filled (pace_of p (now % 2 ^ 32)) p.outbox).outbox }))

@@ -11,6 +11,7 @@ use Rattle.enet_rtt.specs.Timing.{Estimate, timeout}
 use Rattle.enet_rtt.specs.Transmission as transmission
 use Rattle.enet_rtt.specs.Expiry.{gives_up}
 use Rattle.enet_rtt.specs.declared.transmission.Transmission.{Transmission}
+use Rattle.enet_rtt.specs.declared.transmission.Tick.{Tick}
 use Rattle.enet_rtt.specs.declared.expiry.Patience.{Patience}
 use Rattle.enet_rtt.specs.declared.expiry.Expiry.{Expiry}
 use Rattle.enet_connect.specs.declared.terms.Terms.{Terms}
@@ -39,7 +40,7 @@ use Rattle.enet_peer.specs.Peering.{Peering, connecting, answering}
 use Rattle.enet_peer.specs.Endings.{settled, disconnecting, cut_off_in, is_later}
 use Rattle.enet_peer.proofs.Obeying.{unless-holds, unwelcomed-holds}
 use Rattle.enet_peer.specs.CommandEffect.{Outcome, obeyed, unless_refused, stopped, is_allowed, is_of_handshake, is_connect, by_body, answered, answered_at, is_answered_in, on_acknowledge, on_match, acknowledged, with_answer, on_verify_in, welcomed, on_disconnect_in}
-use Rattle.enet_peer.specs.Calls.{pace_of, gone_on, gone_on_in, held_back, moved, ticked, pinged, after_timeouts_by, growth_bound, is_connected, is_answering, next_event, event_after, packet_event, last_event}
+use Rattle.enet_peer.specs.Calls.{pace_of, gone_on, gone_on_in, held_back, moved, ticked, pinged, after_timeouts_by, tick_of, growth_bound, is_waiting_for, is_connected, is_answering, next_event, event_after, packet_event, last_event}
 use Rattle.law_progress.specs.Attempts.{Step, Hears, PutsOut, Takes, after_step, after_take, Stays, Turn, Turns, last_of, LastsAtMost}
 use Rattle.law_progress.proofs.Moving.{Lasting, by-expiry, by-moved}
 use Rattle.law_progress.proofs.Timed.{Timed, timed-begun, timed-again, timed-marked}
@@ -85,9 +86,9 @@ empty-at [] i s h e = absurd (cc)
 empty-at (x ∷ xs) zero s h e = let it : x ≡ s = cc in subst (λ (y : SendingEnd). (y.sender.queued ≡ []) × (y.sender.sent ≡ [])) it (h.0, h.1)
 empty-at (x ∷ xs) (suc i) s h e = empty-at xs i s h.2 e
 
-empty-marked : (bound now : ℕ) (xs : List SendingEnd) → AreEmpty xs → AreEmpty (map (marked_sender bound now) xs)
-empty-marked bound now [] h = h
-empty-marked bound now (x ∷ xs) h = (h.0, ap (map (sender.marked bound now)) h.1, empty-marked bound now xs h.2)
+empty-marked : (tick : Tick) (xs : List SendingEnd) → AreEmpty xs → AreEmpty (map (marked_sender tick) xs)
+empty-marked tick [] h = h
+empty-marked tick (x ∷ xs) h = (h.0, ap (map (sender.marked tick)) h.1, empty-marked tick xs h.2)
 
 empty-cleared : (xs : List SendingEnd) → AreEmpty (map cleared_sender xs)
 empty-cleared [] = tt
@@ -97,7 +98,8 @@ empty-new : (from n : ℕ) → AreEmpty (map new_end (range_with_len from n))
 empty-new from zero = tt
 empty-new from (suc n) = (refl, refl, empty-new (from + 1) n)
 
--- what an attempt is about, when it first went, and what the peer keeps meanwhile: its patience, its estimate, and when it last heard
+-- what an attempt is about, when it first went, and what the peer keeps meanwhile: its patience, its estimate, when it last heard, and for
+-- how many channels it asked
 pub record Attempt : Type 0 where
   pub kind : Kind
   pub command : Numbered
@@ -105,6 +107,7 @@ pub record Attempt : Type 0 where
   pub patience : Patience
   pub estimate : Estimate
   pub heard : ℕ
+  pub channels : ℕ
   pub about : is_about kind command.control ≡ true
 
 -- its first timeout, and how far timeouts grow
@@ -112,7 +115,11 @@ abbrev pub wait_of : Attempt → ℕ
 wait_of a = timeout a.estimate
 
 abbrev pub bound_of : Attempt → ℕ
-bound_of a = cond (a.estimate.sampled || is_answering (state_of a.kind)) 1000 4294967295
+bound_of a = cond (a.estimate.sampled || is_answering (state_of a.kind) || (ltb 0 a.channels && not (is_waiting_for (state_of a.kind)))) 1000 4294967295
+
+-- a moment, for what is late by then
+abbrev pub tick_at : Attempt → ℕ → Tick
+tick_at a now = record { now = now % 2 ^ 32; heard = a.heard; bound = bound_of a; present = wait_of a }
 
 -- a server's wait for its client is over
 abbrev pub is_past : Kind → ℕ → Transmission → Bool
@@ -123,7 +130,7 @@ pub record Course (G : ℕ → Transmission → Type 0) (a : Attempt) (gap : ℕ
   pub begins : G a.first (transmission.begun (a.first % 2 ^ 32) (wait_of a))
   pub again : (now : ℕ) (t : Transmission) → G now t → t.due ≡ true → G now (transmission.again (now % 2 ^ 32) t)
   pub marks : (before now : ℕ) (t : Transmission) → G before t → t.due ≡ false → before ≤ now → now ≤ before + gap → transmission.ends (now % 2 ^ 32) a.patience a.heard t ≡ false
-      → is_past a.kind (now % 2 ^ 32) t ≡ false → G now (transmission.marked (bound_of a) (now % 2 ^ 32) t)
+      → is_past a.kind (now % 2 ^ 32) t ≡ false → G now (transmission.marked (tick_at a now) t)
 
 -- by now the command went, and goes on so
 abbrev Went : (ℕ → Transmission → Type 0) → Attempt → ℕ → SentControl → Type 0
@@ -218,6 +225,7 @@ record Lasts (G : ℕ → Transmission → Type 0) (a : Attempt) (now : ℕ) (p 
   patience : p.patience ≡ a.patience
   estimate : p.estimate ≡ a.estimate
   heard : p.heard ≡ a.heard
+  channels : p.offer.channels ≡ a.channels
   shape : Shape G a now p.outbox.control
 
 -- as much of it as a command that comes may change
@@ -227,6 +235,7 @@ record Same (p q : Peering) : Type 0 where
   patience : q.patience ≡ p.patience
   estimate : q.estimate ≡ p.estimate
   heard : q.heard ≡ p.heard
+  offer : q.offer ≡ p.offer
 
 same-lasts : (G : ℕ → Transmission → Type 0) (a : Attempt) (now : ℕ) (p q : Peering) → Same p q → q.state ≡ state_of a.kind → Lasts G a now p → Lasts G a now q
 same-lasts G a now p q s e l = record {
@@ -235,11 +244,12 @@ same-lasts G a now p q s e l = record {
   patience = s.patience ∙ l.patience;
   estimate = s.estimate ∙ l.estimate;
   heard = s.heard ∙ l.heard;
+  channels = ap (λ (o : Offer). o.channels) s.offer ∙ l.channels;
   shape = subst (λ (c : Commands). Shape G a now c) (sym s.control) l.shape;
 }
 
 same-self : (p : Peering) → Same p p
-same-self p = record { control = refl; senders = refl; patience = refl; estimate = refl; heard = refl }
+same-self p = record { control = refl; senders = refl; patience = refl; estimate = refl; heard = refl; offer = refl }
 
 -- an acknowledgement that waits changes nothing of it
 answered-same : (p e : Peering) (m : Message) (sent : Option ℕ) → Same p e → Same p (answered e m sent true).after
@@ -248,7 +258,7 @@ answered-same p e m sent k = go (m.head.acknowledge && true && is_answered_in e.
     go : (b : Bool) (o : Option ℕ) → Same p (cond b (answered_at e m.head o) (record { stop = None; after = e })).after
     go false o = k
     go true None = k
-    go true (Some time) = record { control = k.control; senders = k.senders; patience = k.patience; estimate = k.estimate; heard = k.heard }
+    go true (Some time) = record { control = k.control; senders = k.senders; patience = k.patience; estimate = k.estimate; heard = k.heard; offer = k.offer }
 
 answered-state : (e : Peering) (m : Message) (sent : Option ℕ) (s : PeerState) → (answered e m sent true).after.state ≡ s → e.state ≡ s
 answered-state e m sent s = go (m.head.acknowledge && true && is_answered_in e.state m.body) sent
@@ -264,7 +274,7 @@ matches G a now o channel number time empty shape = by (channel == 0xFF)
   where
     on : (x : Option SendingEnd) → slice_get o.senders channel ≡ x → matched_on x number time ≡ matched.Nothing
     on None e = refl
-    on (Some s) e = ap (λ (l : List Sent). as_data (sender.size_at time l (sender.position_of number l))) (empty-at o.senders channel s empty e).1
+    on (Some s) e = ap (λ (l : List Sent). as_data (sender.matching_at time l (sender.position_of number l))) (empty-at o.senders channel s empty e).1
 
     at : Shape G a now o.control → (outbox.as_control (controlling.acknowledged_control o.control number time) ≡ matched.Nothing) ⊎ (outbox.as_control (controlling.acknowledged_control o.control number time) ≡ matched.Control a.command.control)
     at (inl q) = inl (ap (λ (l : List SentControl). outbox.as_control (controlling.control_at time l (controlling.position_of number l))) q.1)
@@ -314,7 +324,7 @@ abbrev pub in_state : Kind → Peering → Peering
 in_state k p = record p { state = state_of k }
 
 same-in : (k : Kind) (p : Peering) → Same p (in_state k p)
-same-in k p = record { control = refl; senders = refl; patience = refl; estimate = refl; heard = refl }
+same-in k p = record { control = refl; senders = refl; patience = refl; estimate = refl; heard = refl; offer = refl }
 
 -- an acknowledgement
 acknowledgement-stands : (G : ℕ → Transmission → Type 0) (a : Attempt) (now moment channel number told : ℕ) (p : Peering) → AreEmpty p.outbox.senders → Shape G a now p.outbox.control → (k : Kind) → is_about k a.command.control ≡ true
@@ -407,10 +417,10 @@ takes-same k p = by p.greeting
 
     packets : (untaken : List Packet) → Same p (after_take old (packet_event old untaken))
     packets [] = last k
-    packets (q ∷ rest) = record { control = refl; senders = refl; patience = refl; estimate = refl; heard = refl }
+    packets (q ∷ rest) = record { control = refl; senders = refl; patience = refl; estimate = refl; heard = refl; offer = refl }
 
     by : (greeting : Option ℕ) → Same p (after_take old (event_after old greeting))
-    by (Some info) = record { control = refl; senders = refl; patience = refl; estimate = refl; heard = refl }
+    by (Some info) = record { control = refl; senders = refl; patience = refl; estimate = refl; heard = refl; offer = refl }
     by None = packets p.inbox.untaken
 
 -- a datagram is put out, which ends nothing here
@@ -432,7 +442,7 @@ puts-lasts G a k0 now p l =
     let f = filled (pace_of p (now % 2 ^ 32)) p.outbox in
     let q : Peering = record p { outbox = f.outbox } in
     let k = puts-kept G a now (λ c. Shape G a now c) p (λ c n e h. shape-next G a k0 now c n e h) l l.shape in
-    subst (λ (x : Peering). Lasts G a now x) (sym (waits-on a.kind q l.state)) (record { state = l.state; empty = k.0; patience = l.patience; estimate = l.estimate; heard = l.heard; shape = k.1 })
+    subst (λ (x : Peering). Lasts G a now x) (sym (waits-on a.kind q l.state)) (record { state = l.state; empty = k.0; patience = l.patience; estimate = l.estimate; heard = l.heard; channels = l.channels; shape = k.1 })
 
 -- a step keeps what holds while the attempt lasts
 step-lasts : (G : ℕ → Transmission → Type 0) (a : Attempt) {gap : ℕ} (k0 : Course G a gap) (now : ℕ) (p : Peering) (step : Step) → Lasts G a now p → (after_step (now % 2 ^ 32) p step).state ≡ state_of a.kind → Lasts G a now (after_step (now % 2 ^ 32) p step)
@@ -478,13 +488,13 @@ unpinged k q n e = by k e
 
 -- what is to be shown of channel 0xFF for it
 record Marked (G : ℕ → Transmission → Type 0) (a : Attempt) (now : ℕ) (p : Peering) : Type 0 where
-  resent : Lasting p (now % 2 ^ 32) → Shape G a now (controlling.with_marked (bound_of a) (now % 2 ^ 32) p.outbox.control)
-  held : Lasting p (now % 2 ^ 32) → Shape G a now (controlling.with_held_back (bound_of a) (now % 2 ^ 32) p.outbox.control)
+  resent : Lasting p (now % 2 ^ 32) → Shape G a now (controlling.with_marked (tick_at a now) p.outbox.control)
+  held : Lasting p (now % 2 ^ 32) → Shape G a now (controlling.with_held_back (tick_at a now) p.outbox.control)
   rests : Lasting p (now % 2 ^ 32) → has_late p.outbox (now % 2 ^ 32) ≡ false → Shape G a now p.outbox.control
 
-moved-lasts : (G : ℕ → Transmission → Type 0) (a : Attempt) (now : ℕ) (short : Bool) (p : Peering) → p.state ≡ state_of a.kind → AreEmpty p.outbox.senders → p.patience ≡ a.patience → p.estimate ≡ a.estimate → p.heard ≡ a.heard → Marked G a now p
+moved-lasts : (G : ℕ → Transmission → Type 0) (a : Attempt) (now : ℕ) (short : Bool) (p : Peering) → p.state ≡ state_of a.kind → AreEmpty p.outbox.senders → p.patience ≡ a.patience → p.estimate ≡ a.estimate → p.heard ≡ a.heard → p.offer.channels ≡ a.channels → Marked G a now p
     → (moved short p (now % 2 ^ 32)).state ≡ state_of a.kind → Lasts G a now (moved short p (now % 2 ^ 32))
-moved-lasts G a now short p at empty patience estimate heard k = by-moved Keeps short p n tick held
+moved-lasts G a now short p at empty patience estimate heard channels k = by-moved Keeps short p n tick held
   where
     n : ℕ
     n = now % 2 ^ 32
@@ -493,32 +503,35 @@ moved-lasts G a now short p at empty patience estimate heard k = by-moved Keeps 
     Keeps q = q.state ≡ state_of a.kind → Lasts G a now q
 
     bound : growth_bound p ≡ bound_of a
-    bound = ap (λ (x : Estimate). cond (x.sampled || is_answering p.state) 1000 4294967295) estimate ∙ ap (λ s. cond (a.estimate.sampled || is_answering s) 1000 4294967295) at
+    bound = λ i. cond ((estimate i).sampled || is_answering (at i) || (ltb 0 (channels i) && not (is_waiting_for (at i)))) 1000 4294967295
+
+    tick_is : tick_of p n ≡ tick_at a now
+    tick_is = λ i. record { now = n; heard = heard i; bound = bound i; present = timeout (estimate i) }
 
     tick : Keeps (ticked p n)
     tick = by-expiry (λ (e : Expiry). Keeps (pinged (after_timeouts_by e p n) n)) p n
         (λ h. absurd (cut-ends a.kind p n (subst (λ s. (pinged (cut_off_in s p) n).state ≡ state_of a.kind) at h)))
-        (λ e f h. (let q : Peering = record p { outbox = outbox.marked p.outbox (growth_bound p) n } in
+        (λ e f h. (let q : Peering = record p { outbox = outbox.marked p.outbox (tick_of p n) } in
         subst (λ (x : Peering). Lasts G a now x) (sym (unpinged a.kind q n at))
-        (record { state = at; empty = empty-marked (growth_bound p) n p.outbox.senders empty; patience = patience; estimate = estimate; heard = heard; shape = subst (λ b. Shape G a now (controlling.with_marked b n p.outbox.control)) (sym bound) (k.resent e) })))
-        (λ e f h. subst (λ (x : Peering). Lasts G a now x) (sym (unpinged a.kind p n at)) (record { state = at; empty = empty; patience = patience; estimate = estimate; heard = heard; shape = k.rests e f }))
+        (record { state = at; empty = empty-marked (tick_of p n) p.outbox.senders empty; patience = patience; estimate = estimate; heard = heard; channels = channels; shape = subst (λ (t : Tick). Shape G a now (controlling.with_marked t p.outbox.control)) (sym tick_is) (k.resent e) })))
+        (λ e f h. subst (λ (x : Peering). Lasts G a now x) (sym (unpinged a.kind p n at)) (record { state = at; empty = empty; patience = patience; estimate = estimate; heard = heard; channels = channels; shape = k.rests e f }))
 
     held : p.state ≡ state.Answering → Lasting p n → Keeps (held_back p n)
-    held answers e h = record { state = at; empty = empty; patience = patience; estimate = estimate; heard = heard; shape = subst (λ b. Shape G a now (controlling.with_held_back b n p.outbox.control)) (sym bound) (k.held e) }
+    held answers e h = record { state = at; empty = empty; patience = patience; estimate = estimate; heard = heard; channels = channels; shape = subst (λ (t : Tick). Shape G a now (controlling.with_held_back t p.outbox.control)) (sym tick_is) (k.held e) }
 
 -- before the first turn it is queued
 first-marked : (G : ℕ → Transmission → Type 0) (a : Attempt) (p : Peering) → p.outbox.control.queued ≡ a.command ∷ [] → p.outbox.control.sent ≡ [] → Marked G a a.first p
 first-marked G a p queued none = record {
-  resent = λ e. inl (queued, ap (map (controlling.marked (bound_of a) (a.first % 2 ^ 32))) none, refl);
-  held = λ e. inl (queued, ap (map (controlling.held_back (bound_of a) (a.first % 2 ^ 32))) none, refl);
+  resent = λ e. inl (queued, ap (map (controlling.marked (tick_at a a.first))) none, refl);
+  held = λ e. inl (queued, ap (map (controlling.held_back (tick_at a a.first))) none, refl);
   rests = λ e f. inl (queued, none, refl);
 }
 
 -- later it waits, and where it waited out its timeout it is due to go again, or held back, or patience is over
 later-marked : (G : ℕ → Transmission → Type 0) (a : Attempt) (before now gap : ℕ) (p : Peering) → Course G a gap → Rests G a before p.outbox.control → p.state ≡ state_of a.kind → p.patience ≡ a.patience → p.heard ≡ a.heard → before ≤ now → now ≤ before + gap → Marked G a now p
 later-marked G a before now gap p k0 r at patience heard up down = record {
-  resent = λ e. inr (controlling.marked (bound_of a) n t, r.queued, ap (map (controlling.marked (bound_of a) n)) r.alone, (r.went.0, goes e));
-  held = λ e. inr (controlling.held_back (bound_of a) n t, r.queued, ap (map (controlling.held_back (bound_of a) n)) r.alone, holds e (transmission.is_late n t.transmission) refl);
+  resent = λ e. inr (controlling.marked tick t, r.queued, ap (map (controlling.marked tick)) r.alone, (r.went.0, goes e));
+  held = λ e. inr (controlling.held_back tick t, r.queued, ap (map (controlling.held_back tick)) r.alone, holds e (transmission.is_late n t.transmission) refl);
   rests = λ e f. inr (t, r.queued, r.alone, (r.went.0, subst (λ (x : Transmission). G now x) (stays f) (goes e)));
 }
   where
@@ -528,11 +541,14 @@ later-marked G a before now gap p k0 r at patience heard up down = record {
     t : SentControl
     t = r.sent
 
+    tick : Tick
+    tick = tick_at a now
+
     grows : Bool → Transmission
-    grows b = cond b (record t.transmission { timeout = transmission.grown_time (bound_of a) t.transmission.timeout; due = true }) t.transmission
+    grows b = cond b (record t.transmission { timeout = transmission.next_time tick t.transmission; due = true }) t.transmission
 
     -- nothing is late: it stays as it was
-    stays : has_late p.outbox n ≡ false → transmission.marked (bound_of a) n t.transmission ≡ t.transmission
+    stays : has_late p.outbox n ≡ false → transmission.marked tick t.transmission ≡ t.transmission
     stays f =
         let first : (transmission.is_late n t.transmission || false) ≡ false = ap (list_any (controlling.is_late n)) (sym r.alone) ∙ or-left (list_any (controlling.is_late n) p.outbox.control.sent) _ f in
         ap grows (or-left (transmission.is_late n t.transmission) false first)
@@ -551,12 +567,12 @@ later-marked G a before now gap p k0 r at patience heard up down = record {
         alone false y f = refl
         alone true y f = or-left y false f
 
-    goes : Lasting p n → G now (transmission.marked (bound_of a) n t.transmission)
+    goes : Lasting p n → G now (transmission.marked tick t.transmission)
     goes e = k0.marks before now t.transmission r.went.1 r.waits up down (not_ended e) (not_past e)
 
     -- it counts as tried, as if it had gone
-    holds : Lasting p n → (b : Bool) → transmission.is_late n t.transmission ≡ b → Went G a now (cond b (record t { transmission = transmission.again n (transmission.marked (bound_of a) n t.transmission) }) t)
-    holds e true late = (r.went.0, k0.again now (transmission.marked (bound_of a) n t.transmission) (goes e) (ap (λ b. (grows b).due) late))
+    holds : Lasting p n → (b : Bool) → transmission.is_late n t.transmission ≡ b → Went G a now (cond b (record t { transmission = transmission.again n (transmission.marked tick t.transmission) }) t)
+    holds e true late = (r.went.0, k0.again now (transmission.marked tick t.transmission) (goes e) (ap (λ b. (grows b).due) late))
     holds e false late = (r.went.0, subst (λ (x : Transmission). G now x) (ap grows late) (goes e))
 
 -- at the end of a turn nothing is left to be put out, so the command waits
@@ -575,7 +591,7 @@ rests-left G a now c none (inr (t, queued, sent, w)) = by t.transmission.due ref
 
 turn-rests : (G : ℕ → Transmission → Type 0) (a : Attempt) {gap : ℕ} (k0 : Course G a gap) (now : ℕ) (p q : Peering) → ((short : Bool) → (moved short p (now % 2 ^ 32)).state ≡ state_of a.kind → Lasts G a now (moved short p (now % 2 ^ 32))) → Turn (state_of a.kind) now p q → Rested G a now q
 turn-rests G a k0 now p q first turn = subst (λ (x : Peering). Rested G a now x) (sym turn.after) (subst (λ (x : Peering). Rested G a now x) (sym (waits-on a.kind r l.state)) (record {
-  lasts = record { state = l.state; empty = kept.0; patience = l.patience; estimate = l.estimate; heard = l.heard; shape = (let k = kept.1 in inr (k.sent, k.queued, k.alone, k.went)) };
+  lasts = record { state = l.state; empty = kept.0; patience = l.patience; estimate = l.estimate; heard = l.heard; channels = l.channels; shape = (let k = kept.1 in inr (k.sent, k.queued, k.alone, k.went)) };
   rests = kept.1;
 }))
   where
@@ -604,7 +620,7 @@ turns-last G a gap k0 [] now p q first turn = first q turn
 turns-last G a gap k0 (next ∷ later) now p q first (r, turn, up, down, rest) =
     let k = first r turn in
     turns-last G a gap k0 later next r q
-    (λ x t. turn-rests G a k0 next r x (λ short e. moved-lasts G a next short r k.lasts.state k.lasts.empty k.lasts.patience k.lasts.estimate k.lasts.heard (later-marked G a now next gap r k0 k.rests k.lasts.state k.lasts.patience k.lasts.heard up down) e) t)
+    (λ x t. turn-rests G a k0 next r x (λ short e. moved-lasts G a next short r k.lasts.state k.lasts.empty k.lasts.patience k.lasts.estimate k.lasts.heard k.lasts.channels (later-marked G a now next gap r k0 k.rests k.lasts.state k.lasts.patience k.lasts.heard up down) e) t)
     rest
 
 -- a peer of which channel 0xFF has its command queued, alone, and no channel anything
@@ -618,13 +634,13 @@ pub record Begins (k : Kind) (p : Peering) : Type 0 where
 
 -- the attempt that it begins at this moment, and the command as it goes at the end of a turn
 abbrev pub attempt_of : (k : Kind) (p : Peering) → Begins k p → ℕ → Attempt
-attempt_of k p b now = record { kind = k; command = b.command; first = now; patience = p.patience; estimate = p.estimate; heard = p.heard; about = b.about }
+attempt_of k p b now = record { kind = k; command = b.command; first = now; patience = p.patience; estimate = p.estimate; heard = p.heard; channels = p.offer.channels; about = b.about }
 
 pub begun-goes : (G : ℕ → Transmission → Type 0) (k : Kind) (p : Peering) (b : Begins k p) (gap now : ℕ) (moments : List ℕ) (q : Peering) → Course G (attempt_of k p b now) gap → Turns (state_of k) gap now p moments q
     → (t : Transmission) × (t.due ≡ false) × G (last_of now moments) t
 begun-goes G k p b gap now moments q k0 turns =
     let a : Attempt = attempt_of k p b now in
-    let last = turns-last G a gap k0 moments now p q (λ r t. turn-rests G a k0 now p r (λ short e. moved-lasts G a now short p b.state b.empty refl refl refl (first-marked G a p b.queued b.none) e) t) turns in
+    let last = turns-last G a gap k0 moments now p q (λ r t. turn-rests G a k0 now p r (λ short e. moved-lasts G a now short p b.state b.empty refl refl refl refl (first-marked G a p b.queued b.none) e) t) turns in
     let r = last.rests in
     (r.sent.transmission, r.waits, r.went.1)
 
@@ -633,7 +649,7 @@ timed-course : (a : Attempt) (gap : ℕ) → wait_of a + 2 * a.patience.maximum 
 timed-course a gap near = record {
   begins = timed-begun a.first (wait_of a) (wait_of a) a.patience.maximum (omega arith);
   again = λ now t w due. timed-again a.first (wait_of a) a.patience.maximum now t w due;
-  marks = λ before now t w waits up down not_ended not_past. timed-marked a.first (wait_of a) a.patience.maximum before now (bound_of a) t w waits up (let x = w.in_time in omega arith)
+  marks = λ before now t w waits up down not_ended not_past. timed-marked a.first (wait_of a) a.patience.maximum before now (tick_at a now) t refl (omega arith) w waits up (let x = w.in_time in omega arith)
       (λ late. or-left (leb a.patience.maximum (elapsed_time (now % 2 ^ 32) t.first)) _ (ap (λ b. b && gives_up a.patience (now % 2 ^ 32) a.heard t) (sym late) ∙ not_ended));
 }
 

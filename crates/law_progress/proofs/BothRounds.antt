@@ -1,5 +1,5 @@
 -- What a round brings to two ends, over all their channels.
-use Rattle.std.proofs.Common.{◌≡◌, ℕ, zero, suc, ◌+◌, ◌%◌, ◌^◌, ◌<◌, ◌≤◌, ◌||◌, ltb, max, min, Bool, true, false, cond, List, [], ◌∷◌, length, map, refl, sym, ap, subst, ◌∙◌, inl, inr, ◌⊎◌, arith, Option, Some, None, is_some}
+use Rattle.std.proofs.Common.{◌≡◌, ℕ, zero, suc, ◌+◌, ◌%◌, ◌^◌, ◌<◌, ◌≤◌, ◌||◌, ltb, max, min, Bool, true, false, cond, List, [], ◌∷◌, length, map, refl, sym, ap, subst, ◌∙◌, inl, inr, ◌⊎◌, arith, Some, is_some}
 use Rattle.std.proofs.lemmas.Bool.{eq-eqb}
 use Rattle.std.proofs.lemmas.Bool.Decides.{nat_tests}
 use Rattle.std.proofs.lemmas.List.{length-map}
@@ -12,33 +12,34 @@ use Rattle.enet_rtt.specs.Clock.{told_time, meant_time}
 use Rattle.enet_rtt.specs.Transmission as transmission
 use Rattle.enet_rtt.specs.Transmission.{went_at}
 use Rattle.enet_rtt.specs.declared.transmission.Transmission.{Transmission}
+use Rattle.enet_rtt.specs.declared.transmission.Tick.{Tick as Moment}
 use Rattle.enet_rtt.specs.declared.expiry.Expiry.{Expiry}
 use Rattle.enet_rtt.specs.declared.expiry.Expiry.TheVariants.{No, Resend, End as Ends}
 use Rattle.enet_sender.specs.Sender.{left, marked, is_late as has_waited_out}
 use Rattle.enet_sender.specs.declared.sent.Sent.{Sent}
 use Rattle.enet_sender.specs.Due.{SendingEnd}
+use Rattle.enet_senders.specs.Controlling as controlling
 use Rattle.enet_senders.specs.declared.control.Control.TheVariants as control
 use Rattle.enet_outbox.specs.declared.parts.Acknowledgement.{Acknowledgement}
-use Rattle.enet_outbox.specs.Outbox.{marked_sender, with_control}
-use Rattle.enet_outbox.specs.Emission.{filled, acknowledgement_of, occasion}
+use Rattle.enet_outbox.specs.Outbox.{has_late, marked_sender, with_control}
+use Rattle.enet_outbox.specs.Emission.{filled, acknowledgement_of}
 use Rattle.enet_peer.specs.declared.parts.PeerState.{PeerState}
 use Rattle.enet_peer.specs.declared.parts.PeerState.TheVariants as state
 use Rattle.enet_peer.specs.Endings.{cut_off_in}
 use Rattle.enet_peer.specs.Peering.{Peering}
-use Rattle.enet_peer.specs.Calls.{pace_of, is_answering, moved, ticked, pinged, is_pinged, after_timeouts_by, growth_bound}
+use Rattle.enet_peer.specs.Calls.{pace_of, is_answering, moved, ticked, pinged, is_pinged, after_timeouts_by, tick_of}
 use Rattle.law_connection.specs.Connection.{End, Connection, is_acknowledgement}
 use Rattle.law_connection.specs.Steps.{Emit, Tick, Happens}
 use Rattle.law_connection.specs.Invariant.{Invariant}
 use Rattle.law_connection.specs.Law.{offset_in, offset_of}
 use Rattle.law_connection.specs.Linked.{sends_in, dispatches_in, sender_in}
-use Rattle.law_progress.specs.Exchanges.{PutsOne, PutsMany, PutsAll, IsOpen, RoundOfBoth, outstanding_over, OnlyWaits, ProgressesBoth, HasSent, AllAcknowledged, AllOver, RoundsOfBoth, BothThrough}
-use Rattle.law_progress.specs.Outboxes.{AllFit, AreQuiet, NothingMayGo}
+use Rattle.law_progress.specs.Exchanges.{PutsOne, PutsMany, PutsAll, IsOpen, RoundOfBoth, outstanding_over, OnlyWaits, ProgressesBoth, HasSent, HasWaited, AllAcknowledged, AllOver, RoundsOfBoth, BothThrough}
+use Rattle.law_progress.specs.Outboxes.{AllFit, NothingMayGo}
 use Rattle.law_progress.proofs.Delivered.{delivered-forth, delivered-back}
-use Rattle.law_progress.proofs.Blocked.{some-sent, idle-senders}
+use Rattle.law_progress.proofs.Blocked.{some-in-transit, idle-senders}
 use Rattle.law_progress.proofs.Emitted.{AreSound, Went, Emitted, PutIn, emitted, Waits, emitted-waits, emitted-from}
-use Rattle.law_progress.proofs.Carried.{nums, Has-nums}
+use Rattle.law_progress.proofs.Carried.{Has-nums}
 use Rattle.law_progress.proofs.Exchanges.{Joint, joint-swap, joint-event, same-peer, sound-of, low-channel, as_read, reads-itself, same-message, no-acknowledgement, put_out, Gone, gone, Came, all-came, all-joint, came-answers, came-less, came-none, IsToldTime, told-still, waits-of, one-sent, then-came, took-all, takes-joint}
-use Rattle.law_progress.proofs.Found.{sender-rests}
 use Rattle.law_progress.proofs.Kept.{go-or-stay}
 use Rattle.law_progress.proofs.Moving.{by-expiry, by-moved, moved-elsewhere}
 use Rattle.law_progress.proofs.Obeyed.{Kept, kept-self, kept-least, kept-then}
@@ -66,11 +67,6 @@ OnItsWay offset other channel t =
 
 abbrev pub AnswersAt : ℕ → Peering → ℕ → ℕ → Transmission → Type 0
 AnswersAt offset q channel number t = (time : ℕ) × Has q.outbox.acknowledgements (record { channel = channel; number = number; time = time }) × IsToldTime offset time t
-
--- so too of a command that has the same number, and the same sends
-pub on-its-way : (offset : ℕ) (other : End) (channel : ℕ) (x t : Sent) → x.command.number ≡ t.command.number → ((time : ℕ) → went_at time x.transmission ≡ went_at time t.transmission) → OnItsWay offset other channel x → OnItsWay offset other channel t
-on-its-way offset other channel x t number went w =
-    (w.0, w.1, w.2, subst (λ n. Has w.1.outbox.acknowledgements (record { channel = channel; number = n; time = w.0 })) number w.3, sym (went (meant_time w.0 (offset % 2 ^ 16))) ∙ w.4)
 
 -- the time that a datagram tells is that of the last send of each command that it carries
 pub went-last : (t : Transmission) (now : ℕ) → t.last ≡ now → went_at (now % 65536) t ≡ true
@@ -263,7 +259,7 @@ sending-many joined D now there zero p0 q0 from to from' to' m k = subst (λ (x 
 sending-many joined D now there (suc n) p0 q0 from to from' to' m k = sending-many joined D now there n p0 q0 m.0 m.1 from' to' m.3 (sending-one joined D now there p0 q0 from to m.0 m.1 m.2 k)
 
 -- an acknowledgement that waits goes and comes, or waits still
-answers-many : (joined : Bool) (now there n : ℕ) (from to from' to' : End) (q p : Peering) (a : Acknowledgement) (t : Sent) → PutsMany now there n from to from' to' → Joint joined from to → from.peer ≡ Some q → q.state ≡ state.Connected
+pub answers-many : (joined : Bool) (now there n : ℕ) (from to from' to' : End) (q p : Peering) (a : Acknowledgement) (t : Sent) → PutsMany now there n from to from' to' → Joint joined from to → from.peer ≡ Some q → q.state ≡ state.Connected
     → to.peer ≡ Some p → p.state ≡ state.Connected → a.channel < 255 → HasSent p.outbox.senders a.channel t → t.command.number ≡ a.number → IsToldTime p.offset a.time t.transmission → Has q.outbox.acknowledgements a
     → (r : Peering) × (to'.peer ≡ Some r) × ((outstanding_over r.outbox.senders < outstanding_over p.outbox.senders) ⊎ ((s : Peering) × (from'.peer ≡ Some s) × Has s.outbox.acknowledgements a))
 answers-many joined now there zero from to from' to' q p a t m j is on other_is other_on low w number went_so has =
@@ -374,7 +370,6 @@ pub record Exchanged (joined : Bool) (D : ℕ → Sent → Type 0) (now : ℕ) (
   pub then' : Sending joined (HasSent first.other.outbox.senders) first.other first.peer to2 from2
   -- nothing waits any more whose acknowledgement was on its way
   pub none : (channel : ℕ) (t : Sent) → HasSent then'.other.outbox.senders channel t → D channel t
-  pub due : (channel : ℕ) (t : Sent) → HasSent then'.other.outbox.senders channel t → t.transmission.due ≡ false
   pub least : outstanding_over then'.other.outbox.senders ≤ outstanding_over p0.outbox.senders
   pub how : (outstanding_over then'.other.outbox.senders < outstanding_over p0.outbox.senders)
       ⊎ ((then'.other.outbox.senders ≡ p0.outbox.senders) × (first.peer.outbox.senders ≡ p0.outbox.senders) × NothingMayGo (pace_of first.peer now) first.peer.outbox)
@@ -386,7 +381,6 @@ exchanged joined D now there p0 q0 from to from1 to1 to2 from2 j is on other_is 
   first = s;
   then' = t;
   none = none;
-  due = due;
   least = (let a = s.least in let b = kept-least s.peer t.other t.other_kept in omega arith);
   how = by s.how;
 }
@@ -419,12 +413,6 @@ exchanged joined D now there p0 q0 from to from1 to1 to2 from2 j is on other_is 
           | inr w ↦ absurd (subst (λ (l : List Acknowledgement). Has l (record { channel = channel; number = x.command.number; time = w.0 })) rests.acknowledgements w.1)
         ]
 
-    due : (channel : ℕ) (x : Sent) → HasSent u.outbox.senders channel x → x.transmission.due ≡ false
-    due channel x h =
-        let before : HasSent s.peer.outbox.senders channel x = t.other_kept.sent channel x h in
-        let rests = forth.spent s.peer s.is in
-        sender-rests (occasion (pace_of s.peer now) s.peer.outbox) before.0.sender (rests.channels channel before.0 before.1) x before.2
-
     by : (s.peer.outbox.senders ≡ p0.outbox.senders) ⊎ ((outstanding_over s.peer.outbox.senders < outstanding_over p0.outbox.senders) ⊎ Coming to1 s.peer)
         → (outstanding_over u.outbox.senders < outstanding_over p0.outbox.senders) ⊎ ((u.outbox.senders ≡ p0.outbox.senders) × (s.peer.outbox.senders ≡ p0.outbox.senders) × NothingMayGo (pace_of s.peer now) s.peer.outbox)
     by (inr (inl less)) = inl (let b = kept-least s.peer u t.other_kept in omega arith)
@@ -442,92 +430,77 @@ exchanged joined D now there p0 q0 from to from1 to1 to2 from2 j is on other_is 
         ]
 
 -- ---- the clock goes on
-abbrev pub NoneDue : List SendingEnd → Type 0
-NoneDue xs = (s : SendingEnd) → Has xs s → (t : Sent) → Has s.sender.sent t → t.transmission.due ≡ false
-
 abbrev pub NoneLate : ℕ → List SendingEnd → Type 0
 NoneLate now xs = (s : SendingEnd) → Has xs s → (t : Sent) → Has s.sender.sent t → has_waited_out now t ≡ false
 
 pub record Ticked (now : ℕ) (p q : Peering) : Type 0 where
+  pub senders : q.outbox.senders ≡ map (marked_sender (tick_of p now)) p.outbox.senders
   pub over : outstanding_over q.outbox.senders ≡ outstanding_over p.outbox.senders
   pub mtu : q.terms.mtu ≡ p.terms.mtu
   pub offset : q.offset ≡ p.offset
-  pub idle : NoneDue q.outbox.senders → (q.outbox.senders ≡ p.outbox.senders) × NoneLate now p.outbox.senders
+  -- what isn't due after the moment is as it was, and not late; and what is sent was sent, as often, and still is
   pub from : (channel : ℕ) (t : Sent) → HasSent q.outbox.senders channel t → t.transmission.due ≡ false → HasSent p.outbox.senders channel t × (has_waited_out now t ≡ false)
-  pub was : (channel : ℕ) (t : Sent) → HasSent q.outbox.senders channel t → (x : Sent) × HasSent p.outbox.senders channel x × (x.command.number ≡ t.command.number) × ((time : ℕ) → went_at time x.transmission ≡ went_at time t.transmission)
-  pub still : (channel number : ℕ) → Waits p.outbox.senders channel number → Waits q.outbox.senders channel number
+  pub was : (channel : ℕ) (t : Sent) → HasSent q.outbox.senders channel t → (x : Sent) × HasSent p.outbox.senders channel x × (marked (tick_of p now) x ≡ t)
+  pub still : (channel : ℕ) (x : Sent) → HasSent p.outbox.senders channel x → HasSent q.outbox.senders channel (marked (tick_of p now) x)
   pub acknowledgements : q.outbox.acknowledgements ≡ p.outbox.acknowledgements
 
-over-marked : (bound now : ℕ) (xs : List SendingEnd) → outstanding_over (map (marked_sender bound now) xs) ≡ outstanding_over xs
-over-marked bound now [] = refl
-over-marked bound now (x ∷ xs) =
-    let rest = over-marked bound now xs in
-    let size : length (map (marked bound now) x.sender.sent) ≡ length x.sender.sent = length-map x.sender.sent (marked bound now) in
+over-marked : (tick : Moment) (xs : List SendingEnd) → outstanding_over (map (marked_sender tick) xs) ≡ outstanding_over xs
+over-marked tick [] = refl
+over-marked tick (x ∷ xs) =
+    let rest = over-marked tick xs in
+    let size : length (map (marked tick) x.sender.sent) ≡ length x.sender.sent = length-map x.sender.sent (marked tick) in
     omega arith
 
-marks-none : (bound now : ℕ) (sent : List Sent) → ((t : Sent) → Has (map (marked bound now) sent) t → t.transmission.due ≡ false) → (map (marked bound now) sent ≡ sent) × ((t : Sent) → Has sent t → has_waited_out now t ≡ false)
-marks-none bound now [] h = (refl, λ t k. absurd k)
-marks-none bound now (x ∷ xs) h = by (transmission.is_late now x.transmission) refl (marks-none bound now xs (λ t k. h t (inr k)))
+-- where nothing is late, nothing is marked
+marks-none : (tick : Moment) (sent : List Sent) → ((t : Sent) → Has sent t → has_waited_out tick.now t ≡ false) → map (marked tick) sent ≡ sent
+marks-none tick [] h = refl
+marks-none tick (x ∷ xs) h =
+    let rest = marks-none tick xs (λ t k. h t (inr k)) in
+    let same : marked tick x ≡ x = ap as_is (h x (inl refl)) in
+    (λ i. same i ∷ rest i)
   where
     as_is : Bool → Sent
-    as_is b = record x { transmission = cond b (record x.transmission { timeout = transmission.grown_time bound x.transmission.timeout; due = true }) x.transmission }
+    as_is b = record x { transmission = cond b (record x.transmission { timeout = transmission.next_time tick x.transmission; due = true }) x.transmission }
 
-    by : (b : Bool) → transmission.is_late now x.transmission ≡ b → (map (marked bound now) xs ≡ xs) × ((t : Sent) → Has xs t → has_waited_out now t ≡ false)
-        → (map (marked bound now) (x ∷ xs) ≡ x ∷ xs) × ((t : Sent) → Has (x ∷ xs) t → has_waited_out now t ≡ false)
-    by true late rest =
-        let was : marked bound now x ≡ as_is true = ap as_is late in
-        let z : true ≡ false = ap (λ (y : Sent). y.transmission.due) (sym was) ∙ h (marked bound now x) (inl refl) in
-        absurd (cc)
-    by false late rest =
-        let was : marked bound now x ≡ x = ap as_is late in
-        ((λ i. was i ∷ rest.0 i), (λ t k. elim k [ inl is ↦ subst (λ (y : Sent). transmission.is_late now y.transmission ≡ false) is late | inr j ↦ rest.1 t j ]))
+all-marks-none : (tick : Moment) (xs : List SendingEnd) → NoneLate tick.now xs → map (marked_sender tick) xs ≡ xs
+all-marks-none tick [] h = refl
+all-marks-none tick (x ∷ xs) h =
+    let own = marks-none tick x.sender.sent (h x (inl refl)) in
+    let rest = all-marks-none tick xs (λ s k. h s (inr k)) in
+    let same : marked_sender tick x ≡ x = ap (λ (l : List Sent). record x { sender = record x.sender { sent = l } }) own in
+    (λ i. same i ∷ rest i)
 
-all-marks-none : (bound now : ℕ) (xs : List SendingEnd) → NoneDue (map (marked_sender bound now) xs) → (map (marked_sender bound now) xs ≡ xs) × NoneLate now xs
-all-marks-none bound now [] h = (refl, λ s k. absurd k)
-all-marks-none bound now (x ∷ xs) h =
-    let own = marks-none bound now x.sender.sent (λ t k. h (marked_sender bound now x) (inl refl) t k) in
-    let rest = all-marks-none bound now xs (λ s k. h s (inr k)) in
-    let same : marked_sender bound now x ≡ x = ap (λ (l : List Sent). record x { sender = record x.sender { sent = l } }) own.0 in (
-      (λ i. same i ∷ rest.0 i),
-      (λ s k. elim k [
-        | inl is ↦ λ t m. own.1 t (subst (λ (y : SendingEnd). Has y.sender.sent t) (sym is) m)
-        | inr j ↦ λ t m. rest.1 s j t m
-      ]),
-    )
-
--- marks leave the times of sends
-pub went-marked : (bound now : ℕ) (x : Transmission) (time : ℕ) → went_at time (transmission.marked bound now x) ≡ went_at time x
-went-marked bound now x time = by (transmission.is_late now x)
+-- marks leave the times of sends, and the command
+pub went-marked : (tick : Moment) (x : Transmission) (time : ℕ) → went_at time (transmission.marked tick x) ≡ went_at time x
+went-marked tick x time = by (transmission.is_late tick.now x)
   where
-    by : (b : Bool) → went_at time (cond b (record x { timeout = transmission.grown_time bound x.timeout; due = true }) x) ≡ went_at time x
+    by : (b : Bool) → went_at time (cond b (record x { timeout = transmission.next_time tick x; due = true }) x) ≡ went_at time x
     by true = refl
     by false = refl
 
 -- what is sent after the marks
-sent-marked : (bound now : ℕ) (xs : List SendingEnd) (channel : ℕ) (t : Sent) → HasSent (map (marked_sender bound now) xs) channel t → (x : SendingEnd) × (slice_get xs channel ≡ Some x) × Has (map (marked bound now) x.sender.sent) t
-sent-marked bound now xs channel t h =
-    let m = get-map (marked_sender bound now) xs channel h.0 h.1 in
+sent-marked : (tick : Moment) (xs : List SendingEnd) (channel : ℕ) (t : Sent) → HasSent (map (marked_sender tick) xs) channel t → (x : SendingEnd) × (slice_get xs channel ≡ Some x) × Has (map (marked tick) x.sender.sent) t
+sent-marked tick xs channel t h =
+    let m = get-map (marked_sender tick) xs channel h.0 h.1 in
     (m.0, m.1, subst (λ (y : SendingEnd). Has y.sender.sent t) (sym m.2) h.2)
 
-nums-marked : (bound now : ℕ) (xs : List Sent) (n : ℕ) → Has (nums xs) n → Has (nums (map (marked bound now) xs)) n
-nums-marked bound now [] n h = absurd h
-nums-marked bound now (x ∷ xs) n (inl e) = inl e
-nums-marked bound now (x ∷ xs) n (inr h) = inr (nums-marked bound now xs n h)
+-- what was sent before them
+has-marked : (tick : Moment) (xs : List Sent) (x : Sent) → Has xs x → Has (map (marked tick) xs) (marked tick x)
+has-marked tick [] x h = absurd h
+has-marked tick (y ∷ xs) x (inl e) = inl (ap (marked tick) e)
+has-marked tick (y ∷ xs) x (inr h) = inr (has-marked tick xs x h)
 
-waits-marked : (bound now : ℕ) (xs : List SendingEnd) (channel number : ℕ) → Waits xs channel number → Waits (map (marked_sender bound now) xs) channel number
-waits-marked bound now [] channel number w = absurd (let z : ◌≡◌ {A = Option SendingEnd} None (Some w.0) = w.1 in cc)
-waits-marked bound now (x ∷ xs) zero number w =
-    let z : ◌≡◌ {A = Option SendingEnd} (Some x) (Some w.0) = w.1 in
-    let same : w.0 ≡ x = cc in
-    (marked_sender bound now x, refl, nums-marked bound now x.sender.sent number (subst (λ (y : SendingEnd). Has (nums y.sender.sent) number) same w.2))
-waits-marked bound now (x ∷ xs) (suc channel) number w = waits-marked bound now xs channel number w
+at-marked : (tick : Moment) (xs : List SendingEnd) (channel : ℕ) (s : SendingEnd) → slice_get xs channel ≡ Some s → slice_get (map (marked_sender tick) xs) channel ≡ Some (marked_sender tick s)
+at-marked tick [] channel s e = absurd (cc)
+at-marked tick (x ∷ xs) zero s e = let same : x ≡ s = cc in ap (λ (y : SendingEnd). Some (marked_sender tick y)) same
+at-marked tick (x ∷ xs) (suc channel) s e = at-marked tick xs channel s e
 
 state-pinged : (q : Peering) (now : ℕ) → (pinged q now).state ≡ q.state
 state-pinged q now = elim (is_pinged q now) as (λ b. (cond b (record q { outbox = with_control q.outbox control.Ping }) q).state ≡ q.state) [ true ↦ refl | false ↦ refl ]
 
 ticked-pinged : (p q : Peering) (now : ℕ) → Ticked now p q → Ticked now p (pinged q now)
 ticked-pinged p q now k = elim (is_pinged q now) as (λ b. Ticked now p (cond b (record q { outbox = with_control q.outbox control.Ping }) q)) [
-  | true ↦ record { over = k.over; mtu = k.mtu; offset = k.offset; idle = k.idle; from = k.from; was = k.was; still = k.still; acknowledgements = k.acknowledgements }
+  | true ↦ record { senders = k.senders; over = k.over; mtu = k.mtu; offset = k.offset; from = k.from; was = k.was; still = k.still; acknowledgements = k.acknowledgements }
   | false ↦ k
 ]
 
@@ -535,32 +508,36 @@ cut-state : (s : PeerState) (p : Peering) → (cut_off_in s p).state ≡ state.C
 cut-state state.Answering p e = cc
 cut-state s p e = cc
 
+-- a peer whose channels are marked, all else being as it was
+ticks-so : (now : ℕ) (p q : Peering) → q.outbox.senders ≡ map (marked_sender (tick_of p now)) p.outbox.senders → q.terms.mtu ≡ p.terms.mtu → q.offset ≡ p.offset → q.outbox.acknowledgements ≡ p.outbox.acknowledgements → Ticked now p q
+ticks-so now p q senders mtu offset acks = record {
+  senders = senders;
+  over = ap outstanding_over senders ∙ over-marked tick p.outbox.senders;
+  mtu = mtu;
+  offset = offset;
+  from = λ channel t h due. (let m = there channel t h in let k = from-marked tick m.0.sender.sent t m.2 due in ((m.0, m.1, k.0), k.1));
+  was = λ channel t h. (let m = there channel t h in let k = Has-mapped (marked tick) m.0.sender.sent t m.2 in (k.0, (m.0, m.1, k.1), k.2));
+  still = λ channel x h. subst (λ (l : List SendingEnd). HasSent l channel (marked tick x)) (sym senders) (marked_sender tick h.0, at-marked tick p.outbox.senders channel h.0 h.1, has-marked tick h.0.sender.sent x h.2);
+  acknowledgements = acks;
+}
+  where
+    tick : Moment
+    tick = tick_of p now
+
+    there : (channel : ℕ) (t : Sent) → HasSent q.outbox.senders channel t → (x : SendingEnd) × (slice_get p.outbox.senders channel ≡ Some x) × Has (map (marked tick) x.sender.sent) t
+    there channel t h = sent-marked tick p.outbox.senders channel t (subst (λ (l : List SendingEnd). HasSent l channel t) senders h)
+
 pub ticked-so : (p : Peering) (now : ℕ) → (ticked p now).state ≡ state.Connected → Ticked now p (ticked p now)
 ticked-so p now = by-expiry (λ (e : Expiry). (pinged (after e) now).state ≡ state.Connected → Ticked now p (pinged (after e) now)) p now
     (λ stays. absurd (cut-state p.state p (sym (state-pinged (after Ends) now) ∙ stays)))
-    (λ e f stays. ticked-pinged p (after Resend) now (record {
-      over = over-marked (growth_bound p) now p.outbox.senders;
-      mtu = refl;
-      offset = refl;
-      idle = λ h. all-marks-none (growth_bound p) now p.outbox.senders h;
-      from = λ channel t h due. (let m = sent-marked (growth_bound p) now p.outbox.senders channel t h in let k = from-marked (growth_bound p) now m.0.sender.sent t m.2 due in ((m.0, m.1, k.0), k.1));
-      was = λ channel t h. (let m = sent-marked (growth_bound p) now p.outbox.senders channel t h in let k = Has-mapped (marked (growth_bound p) now) m.0.sender.sent t m.2 in (k.0, (m.0, m.1, k.1), ap (λ (y : Sent). y.command.number) k.2, λ time. sym (went-marked (growth_bound p) now k.0.transmission time) ∙ ap (λ (y : Sent). went_at time y.transmission) k.2));
-      still = waits-marked (growth_bound p) now p.outbox.senders;
-      acknowledgements = refl;
-    }))
-    (λ e f stays. ticked-pinged p (after No) now (record {
-      over = refl;
-      mtu = refl;
-      offset = refl;
-      idle = λ h. (refl, λ s k t m. none-of (has_waited_out now) s.sender.sent t (none-of (λ (y : SendingEnd). list_any (has_waited_out now) y.sender.sent) p.outbox.senders s (or-both _ _ f).1 k) m);
-      from = λ channel t h due. (h, none-of (has_waited_out now) h.0.sender.sent t (none-of (λ (y : SendingEnd). list_any (has_waited_out now) y.sender.sent) p.outbox.senders h.0 (or-both _ _ f).1 (Has-at p.outbox.senders channel h.0 h.1)) h.2);
-      was = λ channel t h. (t, h, refl, λ time. refl);
-      still = λ channel number w. w;
-      acknowledgements = refl;
-    }))
+    (λ e f stays. ticked-pinged p (after Resend) now (ticks-so now p (after Resend) refl refl refl refl))
+    (λ e f stays. ticked-pinged p (after No) now (ticks-so now p (after No) (sym (all-marks-none (tick_of p now) p.outbox.senders (none-late f))) refl refl refl))
   where
     after : Expiry → Peering
     after e = after_timeouts_by e p now
+
+    none-late : has_late p.outbox now ≡ false → NoneLate now p.outbox.senders
+    none-late f s k t m = none-of (has_waited_out now) s.sender.sent t (none-of (λ (y : SendingEnd). list_any (has_waited_out now) y.sender.sent) p.outbox.senders s (or-both (list_any (controlling.is_late now) p.outbox.control.sent) (list_any (λ (y : SendingEnd). list_any (has_waited_out now) y.sender.sent) p.outbox.senders) f).1 k) m
 
 -- where a peer stands connected after a moment, nothing was held back
 pub connected-moves : (short : Bool) (p : Peering) (now : ℕ) → (moved short p now).state ≡ state.Connected → moved short p now ≡ ticked p now
@@ -582,44 +559,44 @@ over-none (x ∷ xs) h =
     let rest = over-none xs (λ i s e. h (suc i) s e) in
     omega arith
 
+-- where nothing went, nothing is outstanding, or something is in transit
 pub only-waits : (now : ℕ) (p p0 v u : Peering) → Ticked now p p0 → ((when : ℕ) → AllFit (pace_of p when) p.outbox) → v.outbox.senders ≡ p0.outbox.senders → v.terms.mtu ≡ p0.terms.mtu → u.outbox.senders ≡ p0.outbox.senders
     → NothingMayGo (pace_of v now) v.outbox → OnlyWaits now p u
 only-waits now p p0 v u t fit at_v mtu at_u rests = record {
-  same = same;
-  fresh = λ s h x k. (due s (subst (λ (l : List SendingEnd). Has l s) at_u h) x k, idle.1 s (subst (λ (l : List SendingEnd). Has l s) same h) x k);
-  waits = subst (λ (l : List SendingEnd). (outstanding_over l ≡ 0) ⊎ ((s : SendingEnd) × Has l s × (x : Sent) × Has s.sender.sent x)) (at_v ∙ sym at_u) (by (some-sent v.outbox.senders));
+  same = at_u ∙ t.senders;
+  waits = elim (some-in-transit v.outbox.senders) [
+    | inl due ↦ inl (ap outstanding_over (at_u ∙ sym at_v) ∙ over-none v.outbox.senders (idle-senders (pace_of v now) v.outbox all due rests))
+    | inr some ↦
+        let there : Has u.outbox.senders some.0 = subst (λ (l : List SendingEnd). Has l some.0) (at_v ∙ sym at_u) some.1 in
+        let i = has-place p0.outbox.senders some.0 (subst (λ (l : List SendingEnd). Has l some.0) at_v some.1) in
+        inr (some.0, there, some.2, some.3, some.4, (t.from i.0 some.2 (some.0, i.1, some.3) some.4).1)
+  ];
 }
   where
-    due : NoneDue p0.outbox.senders
-    due s h x k =
-        let i = has-place v.outbox.senders s (subst (λ (l : List SendingEnd). Has l s) (sym at_v) h) in
-        sender-rests (occasion (pace_of v now) v.outbox) s.sender (rests.channels i.0 s i.1) x k
-
-    idle : (p0.outbox.senders ≡ p.outbox.senders) × NoneLate now p.outbox.senders
-    idle = t.idle due
-
-    same : u.outbox.senders ≡ p.outbox.senders
-    same = at_u ∙ idle.0
+    tick : Moment
+    tick = tick_of p now
 
     at_least : (a b : ℕ) → a ≤ max a b
     at_least a b = grind (arith, nat_tests)
 
-    by : AreQuiet v.outbox.senders ⊎ ((s : SendingEnd) × Has v.outbox.senders s × (x : Sent) × Has s.sender.sent x) → (outstanding_over v.outbox.senders ≡ 0) ⊎ ((s : SendingEnd) × Has v.outbox.senders s × (x : Sent) × Has s.sender.sent x)
-    by (inr some) = inr some
-    by (inl quiet) = inl (over-none v.outbox.senders (λ i s e. (idle-senders (pace_of v now) v.outbox all quiet rests i s e, quiet i s e)))
-      where
-        mtu_is : (pace_of p now).mtu ≡ (pace_of v now).mtu
-        mtu_is = ap (λ m. max 576 (min m 4096)) (sym (mtu ∙ t.mtu))
+    mtu_is : (pace_of p now).mtu ≡ (pace_of v now).mtu
+    mtu_is = ap (λ m. max 576 (min m 4096)) (sym (mtu ∙ t.mtu))
 
-        all : AllFit (pace_of v now) v.outbox
-        all = record {
-          fit = record {
-            mtu = at_least 576 (min v.terms.mtu 4096);
-            unsequenced = λ x h. absurd (subst (λ l. Has l x) rests.unsequenced h);
-            queued = λ i s e c h. subst (λ m. length c.body + 28 ≤ m) mtu_is ((fit now).fit.queued i s (ap (λ (l : List SendingEnd). slice_get l i) (sym (at_v ∙ idle.0)) ∙ e) c h);
-          };
-          sent = λ i s e x h. absurd (subst (λ (l : List Sent). Has l x) (quiet i s e) h);
-        }
+    -- a channel after the marks has what it had before them
+    was : (i : ℕ) (s : SendingEnd) → slice_get v.outbox.senders i ≡ Some s → (x : SendingEnd) × (slice_get p.outbox.senders i ≡ Some x) × (marked_sender tick x ≡ s)
+    was i s e = get-map (marked_sender tick) p.outbox.senders i s (ap (λ (l : List SendingEnd). slice_get l i) (sym (at_v ∙ t.senders)) ∙ e)
+
+    all : AllFit (pace_of v now) v.outbox
+    all = record {
+      fit = record {
+        mtu = at_least 576 (min v.terms.mtu 4096);
+        unsequenced = λ x h. absurd (subst (λ l. Has l x) rests.unsequenced h);
+        queued = λ i s e c h. (let w = was i s e in subst (λ m. length c.body + 28 ≤ m) mtu_is ((fit now).fit.queued i w.0 w.1 c (subst (λ (y : SendingEnd). Has y.sender.queued c) (sym w.2) h)));
+      };
+      sent = λ i s e x h. (let w = was i s e in
+          let k = Has-mapped (marked tick) w.0.sender.sent x (subst (λ (y : SendingEnd). Has y.sender.sent x) (sym w.2) h) in
+          subst (λ m. length x.command.body + 28 ≤ m) mtu_is (subst (λ (y : Sent). length y.command.body + 28 ≤ (pace_of p now).mtu) k.2 ((fit now).sent i w.0 w.1 k.0 k.1)));
+    }
 
 -- ---- a round
 pub tick-moves : (own other new : End) (now : ℕ) (p : Peering) → Happens own other (Tick now) new → own.peer ≡ Some p → (short : Bool) × (new.peer ≡ Some (moved short p now))
@@ -645,9 +622,7 @@ pub record Rounded (joined : Bool) (D E : ℕ → Sent → Type 0) (now there : 
   pub between : Peering
   pub is_between : r.one_in.peer ≡ Some between
   pub none_one : (channel : ℕ) (t : Sent) → HasSent between.outbox.senders channel t → D channel t
-  pub due_one : (channel : ℕ) (t : Sent) → HasSent between.outbox.senders channel t → t.transmission.due ≡ false
   pub none_two : (channel : ℕ) (t : Sent) → HasSent progresses.two.outbox.senders channel t → E channel t
-  pub due_two : (channel : ℕ) (t : Sent) → HasSent progresses.two.outbox.senders channel t → t.transmission.due ≡ false
   pub way : (channel : ℕ) (t : Sent) → HasSent progresses.one.outbox.senders channel t → HasSent between.outbox.senders channel t ⊎ OnItsWay progresses.one.offset d.two channel t
 
 rounded : (joined : Bool) (D E : ℕ → Sent → Type 0) (now there : ℕ) (c d : Connection) (p q : Peering) → Invariant joined c → IsOpen c.one p → IsOpen c.two q → (r : RoundOfBoth now there c d)
@@ -667,9 +642,7 @@ rounded joined D E now there c d p q i open_one open_two r waits_one waits_two =
   between = u;
   is_between = a.then'.other_is;
   none_one = a.none;
-  due_one = a.due;
   none_two = b.none;
-  due_two = b.due;
   way = λ channel t h. elim (b.then'.all channel t h) [ inl old ↦ inl (subst (λ (x : Peering). HasSent x.outbox.senders channel t) (same-peer r.one_in b.first.other u b.first.other_is a.then'.other_is) old) | inr w ↦ inr w ];
 }
   where
@@ -757,14 +730,22 @@ as-before joined now there c d p q i open_one open_two r =
 pub round-progresses : (joined : Bool) (now there : ℕ) (c d : Connection) (p q : Peering) → Invariant joined c → IsOpen c.one p → IsOpen c.two q → (r : RoundOfBoth now there c d) → ProgressesBoth now there p q r
 round-progresses joined now there c d p q i open_one open_two r = (let k = as-before joined now there c d p q i open_one open_two r in k.progresses)
 
+-- what waits after a moment waited before it
+has-waited : (now : ℕ) (p q : Peering) → Ticked now p q → HasWaited now p q
+has-waited now p q k channel t h = by t.transmission.due refl
+  where
+    by : (b : Bool) → t.transmission.due ≡ b → (HasSent p.outbox.senders channel t × (t.transmission.due ≡ false) × (has_waited_out now t ≡ false)) ⊎ ((t.transmission.due ≡ true) × (x : Sent) × HasSent p.outbox.senders channel x × (marked (tick_of p now) x ≡ t))
+    by true due = (let w = k.was channel t h in inr (due, w.0, w.1, w.2))
+    by false waits = (let f = k.from channel t h waits in inl (f.0, waits, f.1))
+
 pub round-acknowledges : (joined : Bool) (now there : ℕ) (c d : Connection) (p q : Peering) → Invariant joined c → IsOpen c.one p → IsOpen c.two q → (r : RoundOfBoth now there c d) → AllAcknowledged now there p q r
 round-acknowledges joined now there c d p q i open_one open_two r = record {
   one = k.between;
   is_one = k.is_between;
-  old_one = λ channel t h. (let f = (one-ticks now there c d p open_one r).from channel t (k.none_one channel t h) (k.due_one channel t h) in (f.0, k.due_one channel t h, f.1));
+  old_one = λ channel t h. has-waited now p (ticked p now) (one-ticks now there c d p open_one r) channel t (k.none_one channel t h);
   two = k.progresses.two;
   is_two = k.progresses.is_two;
-  old_two = λ channel t h. (let f = (two-ticks now there c d q open_two r).from channel t (k.none_two channel t h) (k.due_two channel t h) in (f.0, k.due_two channel t h, f.1));
+  old_two = λ channel t h. has-waited there q (ticked q there) (two-ticks now there c d q open_two r) channel t (k.none_two channel t h);
 }
   where
     k : Rounded joined (HasSent (ticked p now).outbox.senders) (HasSent (ticked q there).outbox.senders) now there p q r
@@ -774,41 +755,45 @@ round-acknowledges joined now there c d p q i open_one open_two r = record {
 abbrev pub total : Peering → Peering → ℕ
 total p q = outstanding_over p.outbox.senders + outstanding_over q.outbox.senders
 
-abbrev pub NothingSent : Peering → Type 0
-NothingSent p = (channel : ℕ) (t : Sent) → HasSent p.outbox.senders channel t → ⊥
+-- all that was sent is due to go again
+abbrev pub IsDue : ℕ → Sent → Type 0
+IsDue channel t = t.transmission.due ≡ true
 
--- where time alone passed and nothing waits, nothing is outstanding
-pub none-waits : (now : ℕ) (p u : Peering) → OnlyWaits now p u → NothingSent u → (outstanding_over p.outbox.senders ≡ 0) × (outstanding_over u.outbox.senders ≡ 0)
-none-waits now p u o nothing = (sym (ap outstanding_over o.same) ∙ none, none)
+abbrev pub AllSentDue : Peering → Type 0
+AllSentDue p = (channel : ℕ) (t : Sent) → HasSent p.outbox.senders channel t → IsDue channel t
+
+-- where time alone passed and all that waits is due, nothing is outstanding
+pub none-waits : (now : ℕ) (p u : Peering) → OnlyWaits now p u → AllSentDue u → (outstanding_over p.outbox.senders ≡ 0) × (outstanding_over u.outbox.senders ≡ 0)
+none-waits now p u o due = (sym (ap outstanding_over o.same ∙ over-marked (tick_of p now) p.outbox.senders) ∙ none, none)
   where
     none : outstanding_over u.outbox.senders ≡ 0
     none = elim o.waits [
       | inl z ↦ z
-      | inr w ↦ (let i = has-place u.outbox.senders w.0 w.1 in absurd (nothing i.0 w.2 (w.0, i.1, w.3)))
+      | inr w ↦ (let i = has-place u.outbox.senders w.0 w.1 in absurd (let z : true ≡ false = sym (due i.0 w.2 (w.0, i.1, w.3)) ∙ w.4 in cc))
     ]
 
--- where nothing waits between the one end's turns, nor at the other end at last, fewer are outstanding, or none
-less-or-none : (joined : Bool) (D E : ℕ → Sent → Type 0) (now there : ℕ) (p q : Peering) (c d : Connection) (r : RoundOfBoth now there c d) (k : Rounded joined D E now there p q r) → NothingSent k.between → NothingSent k.progresses.two
+-- where all that waits between the one end's turns is due, and so at the other end at last, fewer are outstanding, or none
+less-or-none : (joined : Bool) (D E : ℕ → Sent → Type 0) (now there : ℕ) (p q : Peering) (c d : Connection) (r : RoundOfBoth now there c d) (k : Rounded joined D E now there p q r) → AllSentDue k.between → AllSentDue k.progresses.two
     → (total k.progresses.one k.progresses.two < total p q) ⊎ (total k.progresses.one k.progresses.two ≡ 0)
-less-or-none joined D E now there p q c d r k none_one none_two = elim k.progresses.less [
+less-or-none joined D E now there p q c d r k due_one due_two = elim k.progresses.less [
   | inl less ↦ inl less
   | inr w ↦
       let same : k.between ≡ w.1.0 = same-peer r.one_in k.between w.1.0 k.is_between w.1.1 in
-      let x = none-waits now p w.1.0 w.1.2 (subst NothingSent same none_one) in
-      let y = none-waits there q k.progresses.two w.2 none_two in
+      let x = none-waits now p w.1.0 w.1.2 (subst AllSentDue same due_one) in
+      let y = none-waits there q k.progresses.two w.2 due_two in
       inr (let a = w.0 in let z = x.0 in let t = y.1 in omega arith)
 ]
 
--- all that waits at the one end was acknowledged, by what waits to go at the other, where nothing waits
+-- all that waits at the one end is due, or was acknowledged, by what waits to go at the other, where all that waits is due
 record Fresh (c : Connection) (p q : Peering) : Type 0 where
-  one : (channel : ℕ) (t : Sent) → HasSent p.outbox.senders channel t → OnItsWay p.offset c.two channel t
-  two : NothingSent q
+  one : (channel : ℕ) (t : Sent) → HasSent p.outbox.senders channel t → IsDue channel t ⊎ OnItsWay p.offset c.two channel t
+  two : AllSentDue q
 
-fresh-after : (joined : Bool) (D E : ℕ → Sent → Type 0) (now there : ℕ) (p q : Peering) (c d : Connection) (r : RoundOfBoth now there c d) (k : Rounded joined D E now there p q r) → NothingSent k.between → NothingSent k.progresses.two
+fresh-after : (joined : Bool) (D E : ℕ → Sent → Type 0) (now there : ℕ) (p q : Peering) (c d : Connection) (r : RoundOfBoth now there c d) (k : Rounded joined D E now there p q r) → AllSentDue k.between → AllSentDue k.progresses.two
     → Fresh d k.progresses.one k.progresses.two
-fresh-after joined D E now there p q c d r k none_one none_two = record {
-  one = λ channel t h. elim (k.way channel t h) [ inl old ↦ absurd (none_one channel t old) | inr w ↦ w ];
-  two = none_two;
+fresh-after joined D E now there p q c d r k due_one due_two = record {
+  one = λ channel t h. elim (k.way channel t h) [ inl old ↦ inl (due_one channel t old) | inr w ↦ inr w ];
+  two = due_two;
 }
 
 -- of what is nowhere outstanding, nothing is left on any channel
@@ -838,17 +823,22 @@ both-through joined d p q i is_one is_two on_one on_two none = record {
   back = λ channel low. delivered-back joined d channel i low q p (record { from_is = is_two; to_is = is_one; sends = ap sends_in on_two; dispatches = ap dispatches_in on_one; none = nothing-left q.outbox.senders channel (omega arith) });
 }
 
+-- after a moment each that waits is due, or as it was
+pub due-or-was : (now : ℕ) (p q : Peering) → Ticked now p q → (channel : ℕ) (t : Sent) → HasSent q.outbox.senders channel t → IsDue channel t ⊎ HasSent p.outbox.senders channel t
+due-or-was now p q k channel t h = by t.transmission.due refl
+  where
+    by : (b : Bool) → t.transmission.due ≡ b → IsDue channel t ⊎ HasSent p.outbox.senders channel t
+    by true due = inl due
+    by false waits = inr (k.from channel t h waits).0
+
 -- rounds from there on
 fresh-rounds : (joined : Bool) (moments : List (ℕ × ℕ)) (c d : Connection) (p q : Peering) → Invariant joined c → c.one.peer ≡ Some p → c.two.peer ≡ Some q → p.state ≡ state.Connected → q.state ≡ state.Connected → Fresh c p q
     → RoundsOfBoth moments c d → total p q ≤ length moments → BothThrough d
 fresh-rounds joined [] c d p q i is_one is_two on_one on_two f r few = subst BothThrough (sym r) (both-through joined c p q i is_one is_two on_one on_two (omega arith))
 fresh-rounds joined (m ∷ moments) c d p q i is_one is_two on_one on_two f r few =
-    fresh-rounds joined moments r.4 d k.progresses.one k.progresses.two k.joint k.progresses.is_one k.progresses.is_two k.on_one k.on_two (fresh-after joined None' None' m.0 m.1 r.0 r.1 c r.4 r.5 k k.none_one k.none_two) r.6
-    (elim (less-or-none joined None' None' m.0 m.1 r.0 r.1 c r.4 r.5 k k.none_one k.none_two) [ inl less ↦ (let w = was in omega arith) | inr none ↦ omega arith ])
+    fresh-rounds joined moments r.4 d k.progresses.one k.progresses.two k.joint k.progresses.is_one k.progresses.is_two k.on_one k.on_two (fresh-after joined IsDue IsDue m.0 m.1 r.0 r.1 c r.4 r.5 k k.none_one k.none_two) r.6
+    (elim (less-or-none joined IsDue IsDue m.0 m.1 r.0 r.1 c r.4 r.5 k k.none_one k.none_two) [ inl less ↦ (let w = was in omega arith) | inr none ↦ omega arith ])
   where
-    None' : ℕ → Sent → Type 0
-    None' channel t = ⊥
-
     same_one : r.0 ≡ p
     same_one = same-peer c.one r.0 p r.2.is is_one
 
@@ -858,30 +848,38 @@ fresh-rounds joined (m ∷ moments) c d p q i is_one is_two on_one on_two f r fe
     was : total r.0 r.1 ≡ total p q
     was = λ j. total (same_one j) (same_two j)
 
-    k : Rounded joined None' None' m.0 m.1 r.0 r.1 r.5
-    k = rounded joined None' None' m.0 m.1 c r.4 r.0 r.1 i r.2 r.3 r.5
-        (λ channel t h. (let w = (one-ticks m.0 m.1 c r.4 r.0 r.2 r.5).was channel t h in
-        inr (on-its-way r.0.offset c.two channel w.0 t w.2 w.3
-        (subst (λ (x : Peering). OnItsWay x.offset c.two channel w.0) (sym same_one) (f.one channel w.0 (subst (λ (x : Peering). HasSent x.outbox.senders channel w.0) same_one w.1))))))
-        (λ channel t h. (let w = (two-ticks m.0 m.1 c r.4 r.1 r.3 r.5).was channel t h in f.two channel w.0 (subst (λ (x : Peering). HasSent x.outbox.senders channel w.0) same_two w.1)))
+    fresh : Fresh c r.0 r.1
+    fresh = subst (λ (x : Peering). Fresh c x r.1) (sym same_one) (subst (λ (y : Peering). Fresh c p y) (sym same_two) f)
+
+    k : Rounded joined IsDue IsDue m.0 m.1 r.0 r.1 r.5
+    k = rounded joined IsDue IsDue m.0 m.1 c r.4 r.0 r.1 i r.2 r.3 r.5
+        (λ channel t h. elim (due-or-was m.0 r.0 (ticked r.0 m.0) (one-ticks m.0 m.1 c r.4 r.0 r.2 r.5) channel t h) [ inl due ↦ inl due | inr old ↦ fresh.one channel t old ])
+        (λ channel t h. elim (due-or-was m.1 r.1 (ticked r.1 m.1) (two-ticks m.0 m.1 c r.4 r.1 r.3 r.5) channel t h) [ inl due ↦ due | inr old ↦ fresh.two channel t old ])
+
+-- where all that waited was due or late at a moment, all that waits after it is due
+pub over-due-at : (now : ℕ) (p q : Peering) → Ticked now p q → AllOver now p → AllSentDue q
+over-due-at now p q k over channel t h = by t.transmission.due refl
+  where
+    by : (b : Bool) → t.transmission.due ≡ b → IsDue channel t
+    by true due = due
+    by false waits =
+        let f = k.from channel t h waits in
+        elim (over f.0.0 (Has-at p.outbox.senders channel f.0.0 f.0.1) t f.0.2) [
+          | inl e ↦ e
+          | inr e ↦ absurd (let z : true ≡ false = sym e ∙ f.1 in cc)
+        ]
 
 pub all-get-through : (joined : Bool) (now there : ℕ) (moments : List (ℕ × ℕ)) (c b d : Connection) (p q : Peering) → Invariant joined c → IsOpen c.one p → IsOpen c.two q → AllOver now p → AllOver there q
     → RoundOfBoth now there c b → RoundsOfBoth moments b d → total p q ≤ length moments → BothThrough d
 all-get-through joined now there moments c b d p q i open_one open_two over_one over_two r rest few =
-    fresh-rounds joined moments b d k.progresses.one k.progresses.two k.joint k.progresses.is_one k.progresses.is_two k.on_one k.on_two (fresh-after joined _ _ now there p q c b r k none_one none_two) rest
-    (elim (less-or-none joined _ _ now there p q c b r k none_one none_two) [ inl less ↦ omega arith | inr none ↦ omega arith ])
+    fresh-rounds joined moments b d k.progresses.one k.progresses.two k.joint k.progresses.is_one k.progresses.is_two k.on_one k.on_two (fresh-after joined _ _ now there p q c b r k due_one due_two) rest
+    (elim (less-or-none joined _ _ now there p q c b r k due_one due_two) [ inl less ↦ omega arith | inr none ↦ omega arith ])
   where
     k : Rounded joined (HasSent (ticked p now).outbox.senders) (HasSent (ticked q there).outbox.senders) now there p q r
     k = as-before joined now there c b p q i open_one open_two r
 
-    gone : (when : ℕ) (x : Peering) (channel : ℕ) (t : Sent) → AllOver when x → HasSent x.outbox.senders channel t → t.transmission.due ≡ false → has_waited_out when t ≡ false → ⊥
-    gone when x channel t over h due late = elim (over h.0 (Has-at x.outbox.senders channel h.0 h.1) t h.2) [
-      | inl e ↦ (let z : true ≡ false = sym e ∙ due in cc)
-      | inr e ↦ (let z : true ≡ false = sym e ∙ late in cc)
-    ]
+    due_one : AllSentDue k.between
+    due_one channel t h = over-due-at now p (ticked p now) (one-ticks now there c b p open_one r) over_one channel t (k.none_one channel t h)
 
-    none_one : NothingSent k.between
-    none_one channel t h = (let f = (one-ticks now there c b p open_one r).from channel t (k.none_one channel t h) (k.due_one channel t h) in gone now p channel t over_one f.0 (k.due_one channel t h) f.1)
-
-    none_two : NothingSent k.progresses.two
-    none_two channel t h = (let f = (two-ticks now there c b q open_two r).from channel t (k.none_two channel t h) (k.due_two channel t h) in gone there q channel t over_two f.0 (k.due_two channel t h) f.1)
+    due_two : AllSentDue k.progresses.two
+    due_two channel t h = over-due-at there q (ticked q there) (two-ticks now there c b q open_two r) over_two channel t (k.none_two channel t h)

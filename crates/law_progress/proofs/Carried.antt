@@ -1,6 +1,8 @@
 -- What goes in a round comes, and is acknowledged.
 use Rattle.std.proofs.Common.{◌≡◌, ℕ, zero, suc, ◌+◌, ◌%◌, ◌<◌, ◌≤◌, ◌&&◌, ◌==◌, Bool, true, false, cond, List, [], ◌∷◌, ◌++◌, length, map, refl, sym, ap, subst, ◌∙◌, inl, inr, ◌⊎◌, arith, Some, append_assoc, append-nil}
+use Rattle.std.proofs.lemmas.Bool.{eq-eqb}
 use Rattle.std.proofs.lemmas.Bool.Decides.{nat_tests}
+use Rattle.std.proofs.lemmas.List.{length-append}
 use Rattle.std.specs.List.{slice_get, slice_set}
 use Rattle.enet_seq.specs.Numbering.{wire}
 use Rattle.enet_fragment.specs.declared.data.DataCommand.{DataCommand}
@@ -17,7 +19,7 @@ use Rattle.law_connection.proofs.LinkRuns.{Sound-happens, Sound-runs}
 use Rattle.law_connection.proofs.Lists.{Has-push, Has-push_left, Has-push_cases, Has-slice_get}
 use Rattle.law_connection.proofs.Shown.{Images, IsRising, Sound}
 use Rattle.law_connection.proofs.SoundSender.{next_cases}
-use Rattle.law_progress.specs.Links.{Waits, AreShort}
+use Rattle.law_progress.specs.Links.{Waits, AreShort, outstanding_at, outstanding}
 use Rattle.law_progress.specs.Rounds.{Fills, comes, all_come, Carries, CarriesMany, answer_of, hears, all_heard}
 use Rattle.law_progress.proofs.Answered as answering
 use Rattle.law_progress.proofs.Trips.{fresh-in_time, Has-map, Runs-append, Images-has}
@@ -41,7 +43,7 @@ record Step (o : Sender) (n : Next) : Type 0 where
   own : n.command.reliable ≡ true → Has (nums n.sender.sent) n.command.number
   from : (p : Sent) → Has n.sender.sent p → Has o.sent p ⊎ ((n.command.reliable ≡ true) × (p.command.number ≡ n.command.number))
   queued : length n.sender.queued ≤ length o.queued
-  moved : (length n.sender.sent ≤ length o.sent) ⊎ (length n.sender.queued < length o.queued)
+  least : outstanding_at n.sender ≤ outstanding_at o
 
 -- to send again changes no number
 pub set-nums : (xs : List Sent) (i now : ℕ) (q : Sent) → slice_get xs i ≡ Some q → nums (slice_set xs i (again now q)) ≡ nums xs
@@ -91,7 +93,7 @@ step-of mtu v occasion n s sending e = elim (next_cases occasion v.outgoing n e)
           own = λ t. subst (λ (l : List ℕ). Has l q.command.number) (sym same) (Has-nums o.sent q has);
           from = λ p h. elim (set-from o.sent i occasion.now q p there h) [ inl k ↦ inl k | inr is ↦ inr (kind, is) ];
           queued = omega arith;
-          moved = inl (omega arith);
+          least = omega arith;
         }
 
     first-step : (c : DataCommand) (rest : List DataCommand) → o.queued ≡ c ∷ rest → (b : Bool) → c.reliable ≡ b → Step o (first_sent occasion.now occasion.timeout o c rest)
@@ -102,11 +104,15 @@ step-of mtu v occasion n s sending e = elim (next_cases occasion v.outgoing n e)
           own = λ t. own b kind t;
           from = λ p h. from b kind p h;
           queued = omega arith;
-          moved = inr (omega arith);
+          least = (let size = pushed c.reliable in omega arith);
         }
       where
         p0 : Sent
         p0 = begun occasion.now occasion.timeout c
+
+        pushed : (b : Bool) → length (cond b (o.sent ++ p0 ∷ []) o.sent) ≤ length o.sent + 1
+        pushed true = (let size = length-append o.sent (p0 ∷ []) in omega arith)
+        pushed false = omega arith
 
         kept : (b : Bool) → c.reliable ≡ b → (x : ℕ) → Has (nums o.sent) x → Has (nums (cond c.reliable (o.sent ++ p0 ∷ []) o.sent)) x
         kept true k x h = subst (λ r. Has (nums (cond r (o.sent ++ p0 ∷ []) o.sent)) x) (sym k) (Has-more o.sent (p0 ∷ []) x h)
@@ -141,12 +147,7 @@ record Filled (mtu : ℕ) (start u : WireLink) : Type 0 where
   waits : (c : DataCommand) → Has u.making c → c.reliable ≡ true → Has (nums u.outgoing.sent) c.number
   from : (p : Sent) → Has u.outgoing.sent p → Has start.outgoing.sent p ⊎ ((c : DataCommand) × Has u.making c × (c.reliable ≡ true) × (p.command.number ≡ c.number))
   queued : length u.outgoing.queued ≤ length start.outgoing.queued
-  moved : (length u.outgoing.sent ≤ length start.outgoing.sent) ⊎ (length u.outgoing.queued < length start.outgoing.queued)
-
-on-moved : (a b c x y z : ℕ) → (a ≤ b) ⊎ (x < y) → (c ≤ a) ⊎ (z < x) → x ≤ y → z ≤ x → (c ≤ b) ⊎ (z < y)
-on-moved a b c x y z (inl p) (inl q) m n = inl (omega arith)
-on-moved a b c x y z (inl p) (inr q) m n = inr (omega arith)
-on-moved a b c x y z (inr p) q m n = inr (omega arith)
+  least : outstanding u ≤ outstanding start
 
 filled-send : (mtu : ℕ) (start u : WireLink) (occasion : Occasion) (n : Next) → 28 < mtu → next wire occasion u.outgoing ≡ Some n → Filled mtu start u → Filled mtu start (sends u n)
 filled-send mtu start u occasion n big due k =
@@ -171,7 +172,7 @@ filled-send mtu start u occasion n big due k =
         | inr w ↦ inr (n.command, Has-push u.making n.command, w.0, w.1)
       ];
       queued = (let a = k.queued in let b = t.queued in omega arith);
-      moved = on-moved _ _ _ _ _ _ k.moved t.moved k.queued t.queued;
+      least = (let a = k.least in let b = t.least in omega arith);
     }
 
 filled-drop : (mtu : ℕ) (start u : WireLink) (occasion : Occasion) (n : Next) → 28 < mtu → next wire occasion u.outgoing ≡ Some n → n.command.reliable ≡ false → Filled mtu start u → Filled mtu start (drops u n)
@@ -192,18 +193,14 @@ filled-drop mtu start u occasion n big due plain k =
         | inr w ↦ absurd (let f : true ≡ false = sym w.0 ∙ plain in cc)
       ];
       queued = (let a = k.queued in let b = t.queued in omega arith);
-      moved = on-moved _ _ _ _ _ _ k.moved (still t.moved) k.queued (let b = t.queued in omega arith);
+      least = (let a = k.least in let b = t.least in omega arith);
     }
-  where
-    still : (length n.sender.sent ≤ length u.outgoing.sent) ⊎ (length n.sender.queued < length u.outgoing.queued) → (length n.sender.sent ≤ length u.outgoing.sent) ⊎ (length (skipped n.sender.queued) < length u.outgoing.queued)
-    still (inl p) = inl p
-    still (inr q) = inr (let a = skipped-length n.sender.queued in omega arith)
 
 filled-event : (mtu : ℕ) (start : WireLink) (e : Event) (u w : WireLink) → 28 < mtu → Fills e → Happens mtu e u w → Filled mtu start u → Filled mtu start w
 filled-event mtu start (Send o) u w big f h k = subst (λ z. Filled mtu start z) (sym h.after) (filled-send mtu start u o h.due big h.is_due k)
 filled-event mtu start (Drop o) u w big f h k = subst (λ z. Filled mtu start z) (sym h.after) (filled-drop mtu start u o h.due big h.is_due h.unreliable k)
 filled-event mtu start (Submit p) u w big f h k = absurd f
-filled-event mtu start (Mark b n) u w big f h k = absurd f
+filled-event mtu start (Mark t) u w big f h k = absurd f
 filled-event mtu start PutsOut u w big f h k = absurd f
 filled-event mtu start (Arrive c m b) u w big f h k = absurd f
 filled-event mtu start (ArriveAnswered c m b) u w big f h k = absurd f
@@ -296,7 +293,7 @@ pub record Went (mtu : ℕ) (start u : WireLink) : Type 0 where
   -- what waits now has waited before, or its acknowledgement waits to go
   pub from : (p : Sent) → Has u.outgoing.sent p → Has start.outgoing.sent p ⊎ Has u.answers p.command.number
   pub queued : length u.outgoing.queued ≤ length start.outgoing.queued
-  pub moved : (length u.outgoing.sent ≤ length start.outgoing.sent) ⊎ (length u.outgoing.queued < length start.outgoing.queued)
+  pub least : outstanding u ≤ outstanding start
 
 went-one : (mtu most : ℕ) (start u w : WireLink) → 28 < mtu → AreShort most start.submitted → Went mtu start u → Carries mtu most u w → Went mtu start w
 went-one mtu most start u w big short k c = subst (λ z. Went mtu start z) (sym c.after) made-comes
@@ -318,7 +315,7 @@ went-one mtu most start u w big short k c = subst (λ z. Went mtu start z) (sym 
       waits = λ x h. absurd (subst (λ l. Has l x) k.between h);
       from = λ p h. inl h;
       queued = omega arith;
-      moved = inl (omega arith);
+      least = omega arith;
     })
 
     s : Sound mtu out
@@ -357,7 +354,7 @@ went-one mtu most start u w big short k c = subst (λ z. Went mtu start z) (sym 
             | inr x ↦ inr (subst (λ z. Has (all_come most out made.making).answers z) (sym x.3) (came.new x.0 x.1 x.2))
           ];
           queued = subst (λ (o : Sender). length o.queued ≤ length start.outgoing.queued) (sym same) (let a = f.queued in let b = k.queued in omega arith);
-          moved = subst (λ (o : Sender). (length o.sent ≤ length start.outgoing.sent) ⊎ (length o.queued < length start.outgoing.queued)) (sym same) (on-moved _ _ _ _ _ _ k.moved f.moved k.queued f.queued);
+          least = subst (λ (o : Sender). outstanding_at o ≤ outstanding start) (sym same) (let a = f.least in let b = k.least in omega arith);
         }
 
 pub went-all : (mtu most n : ℕ) (start w : WireLink) → 28 < mtu → AreShort most start.submitted → Went mtu start start → CarriesMany mtu most n start w → Went mtu start w
@@ -427,10 +424,36 @@ pub record Heard (mtu : ℕ) (as' : List Answer) (u w : WireLink) : Type 0 where
   pub queued : w.outgoing.queued ≡ u.outgoing.queued
   pub sent : (p : Sent) → Has w.outgoing.sent p → Has u.outgoing.sent p
   pub none : (p : Sent) → Has w.outgoing.sent p → Has as' (answer_of u.greatest p.command.number) → ⊥
+  pub least : length w.outgoing.sent ≤ length u.outgoing.sent
+  pub fewer : (p : Sent) → Has u.outgoing.sent p → Has as' (answer_of u.greatest p.command.number) → length w.outgoing.sent < length u.outgoing.sent
+
+-- what is dropped, and what stays
+drop-least : (f : Sent → Bool) (sent : List Sent) → length (drop_first f sent) ≤ length sent
+drop-least f [] = omega arith
+drop-least f (q ∷ sent) = let k = drop-least f sent in elim (f q) as (λ b. length (cond b sent (q ∷ drop_first f sent)) ≤ suc (length sent)) [ true ↦ omega arith | false ↦ omega arith ]
+
+drop-fewer : (f : Sent → Bool) (sent : List Sent) (p : Sent) → Has sent p → f p ≡ true → length (drop_first f sent) < length sent
+drop-fewer f [] p h e = absurd h
+drop-fewer f (q ∷ sent) p h e = by (λ k. drop-fewer f sent p k e) (f q) refl h
+  where
+    by : (Has sent p → length (drop_first f sent) < length sent) → (b : Bool) → f q ≡ b → Has (q ∷ sent) p → length (cond b sent (q ∷ drop_first f sent)) < suc (length sent)
+    by rest true t k = omega arith
+    by rest false t (inl is) = absurd (let z : true ≡ false = sym e ∙ ap f (sym is) ∙ t in cc)
+    by rest false t (inr k) = (let l = rest k in omega arith)
+
+drop-stays : (f : Sent → Bool) (sent : List Sent) (p : Sent) → Has sent p → f p ≡ false → Has (drop_first f sent) p
+drop-stays f [] p h e = absurd h
+drop-stays f (q ∷ sent) p h e = by (λ k. drop-stays f sent p k e) (f q) refl h
+  where
+    by : (Has sent p → Has (drop_first f sent) p) → (b : Bool) → f q ≡ b → Has (q ∷ sent) p → Has (cond b sent (q ∷ drop_first f sent)) p
+    by rest true t (inl is) = absurd (let z : true ≡ false = sym t ∙ ap f is ∙ e in cc)
+    by rest true t (inr k) = k
+    by rest false t (inl is) = inl is
+    by rest false t (inr k) = inr (rest k)
 
 pub heard-all : (mtu : ℕ) (as' : List Answer) (u : WireLink) → 28 < mtu → Sound mtu u → u.is_sending ≡ true → u.making ≡ [] → ((a : Answer) → Has as' a → Has u.acks a) → Heard mtu as' u (all_heard u as')
 heard-all mtu [] u big s sending between logged =
-    record { run = ([], refl); sending = refl; open' = refl; making = refl; submitted = refl; queued = refl; sent = λ p h. h; none = λ p h k. k }
+    record { run = ([], refl); sending = refl; open' = refl; making = refl; submitted = refl; queued = refl; sent = λ p h. h; none = λ p h k. k; least = omega arith; fewer = λ p h k. absurd k }
 heard-all mtu (a ∷ rest) u big s sending between logged =
     by (heard-all mtu rest u big s sending between (λ x h. logged x (inr h))) (λ sx. heard-all mtu rest (answered u a) big sx sending between (λ x h. logged x (inr h))) (is_late u.greatest a.sent_then a.number) refl
   where
@@ -451,6 +474,14 @@ heard-all mtu (a ∷ rest) u big s sending between logged =
                 let mine : is_late u.greatest a.sent_then a.number ≡ is_late u.greatest u.greatest p.command.number = ap (λ (x : Answer). is_late u.greatest x.sent_then x.number) e in
                 (let f : true ≡ false = sym late ∙ mine ∙ timely in absurd (cc))
             | inr j ↦ k.none p h j
+          ];
+          least = k.least;
+          fewer = λ p h. elim [
+            | inl e ↦
+                let timely = waits-in_time mtu u p s sending h in
+                let mine : is_late u.greatest a.sent_then a.number ≡ is_late u.greatest u.greatest p.command.number = ap (λ (x : Answer). is_late u.greatest x.sent_then x.number) e in
+                (let f : true ≡ false = sym late ∙ mine ∙ timely in absurd (cc))
+            | inr j ↦ k.fewer p h j
           ];
         })
     by stays go false timely =
@@ -476,4 +507,30 @@ heard-all mtu (a ∷ rest) u big s sending between logged =
                 (ap (λ (y : Answer). y.number) (sym e))
             | inr j ↦ k.none p h j
           ];
+          least = (let l = k.least in let d = at-most in omega arith);
+          fewer = λ p h. elim [
+            | inl e ↦ (let l = k.least in let d = less p h (eq-eqb p.command.number a.number (ap (λ (y : Answer). y.number) (sym e))) in omega arith)
+            | inr j ↦ goes k p h j (p.command.number == a.number) refl
+          ];
         })
+      where
+        test : Sent → Bool
+        test q = q.command.number == a.number
+
+        is_drop : (answered u a).outgoing.sent ≡ drop_first test u.outgoing.sent
+        is_drop = without-first test u.outgoing.sent
+
+        at-most : length (answered u a).outgoing.sent ≤ length u.outgoing.sent
+        at-most = subst (λ (l : List Sent). length l ≤ length u.outgoing.sent) (sym is_drop) (drop-least test u.outgoing.sent)
+
+        less : (p : Sent) → Has u.outgoing.sent p → (p.command.number == a.number) ≡ true → length (answered u a).outgoing.sent < length u.outgoing.sent
+        less p h t = subst (λ (l : List Sent). length l < length u.outgoing.sent) (sym is_drop) (drop-fewer test u.outgoing.sent p h t)
+
+        goes : (k : Heard mtu rest (answered u a) (all_heard (answered u a) rest)) (p : Sent) → Has u.outgoing.sent p → Has rest (answer_of u.greatest p.command.number) → (b : Bool) → (p.command.number == a.number) ≡ b
+            → length (all_heard (answered u a) rest).outgoing.sent < length u.outgoing.sent
+        goes k p h j true t = (let l = k.least in let d = less p h t in omega arith)
+        goes k p h j false t =
+            let there : Has (answered u a).outgoing.sent p = subst (λ (l : List Sent). Has l p) (sym is_drop) (drop-stays test u.outgoing.sent p h t) in
+            let l = k.fewer p there j in
+            let d = at-most in
+            omega arith

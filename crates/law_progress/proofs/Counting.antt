@@ -7,6 +7,7 @@ use Rattle.enet_rtt.specs.Transmission as transmission
 use Rattle.enet_rtt.specs.SendTimes.{no_sends, with_send, has_time}
 use Rattle.enet_rtt.specs.declared.send_times.SendTimes.{SendTimes}
 use Rattle.enet_rtt.specs.Clock.{told_time, meant_time}
+use Rattle.enet_rtt.specs.declared.transmission.Tick.{Tick}
 use Rattle.enet_senders.specs.Controlling as controlling
 use Rattle.enet_senders.specs.declared.control.Control.{Control}
 use Rattle.enet_senders.specs.declared.control.Control.TheVariants as control
@@ -67,11 +68,11 @@ again-counts now offset t size = counted now offset t.times (controlling.again n
 went-verify : (time : ℕ) (t : SentControl) (verify : Verify) → t.command.control ≡ control.VerifyConnect verify → controlling.went_at time t ≡ has_time time t.times
 went-verify time t verify is = ap (λ (what : Control). controlling.went_as what time t) is
 
-pub held-counts : (bound now : ℕ) (t : SentControl) → CountsAsBefore t (controlling.held_back bound now t)
-held-counts bound now t = elim (transmission.is_late now t.transmission) as (λ b. CountsAsBefore t (cond b tried t)) [
+pub held-counts : (tick : Tick) (t : SentControl) → CountsAsBefore t (controlling.held_back tick t)
+held-counts tick t = elim (transmission.is_late tick.now t.transmission) as (λ b. CountsAsBefore t (cond b tried t)) [
   | true ↦ record { command = refl; places = refl; counts = λ verify time is. went-verify time tried verify is ∙ sym (went-verify time t verify is) }
   | false ↦ record { command = refl; places = refl; counts = λ verify time is. refl }
 ]
   where
     tried : SentControl
-    tried = record t { transmission = transmission.again now (transmission.marked bound now t.transmission) }
+    tried = record t { transmission = transmission.again tick.now (transmission.marked tick t.transmission) }

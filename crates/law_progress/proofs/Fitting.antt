@@ -11,6 +11,7 @@ use Rattle.enet_codec.specs.declared.stop.Stop.TheVariants as stop
 use Rattle.enet_codec.specs.Message.{Message, Body, acknowledge, connect, verify_connect, disconnect, ping, send_reliable, send_unreliable, send_fragment, send_unsequenced, send_unreliable_fragment, bandwidth_limit, throttle_configure}
 use Rattle.enet_seq.specs.Numbering.{wire}
 use Rattle.enet_rtt.specs.Clock.{meant_time}
+use Rattle.enet_rtt.specs.declared.transmission.Tick.{Tick}
 use Rattle.enet_rtt.specs.declared.expiry.Expiry.{Expiry}
 use Rattle.enet_rtt.specs.declared.expiry.Expiry.TheVariants.{No, Resend, End}
 use Rattle.enet_connect.specs.Sizes.{mtu_of}
@@ -44,8 +45,8 @@ use Rattle.enet_peer.specs.declared.parts.Offsets.{Offsets}
 use Rattle.enet_peer.specs.Peering.{Peering, joined, connecting, answering}
 use Rattle.enet_peer.specs.Endings.{ended, freed, parting, settled, disconnecting, is_later, cut_off_in}
 use Rattle.enet_peer.proofs.Obeying.{unless-holds, unwelcomed-holds}
-use Rattle.enet_peer.specs.CommandEffect.{obeyed, unless_refused, stopped, is_allowed, is_connect, by_body, by_answer, by_arrival, on_data, answered, answered_at, is_answered_in, is_connecting, on_acknowledge, on_match, sampled, with_answer, on_verify_in, welcomed, on_disconnect_in, on_last_disconnect, on_bandwidth, on_throttle}
-use Rattle.enet_peer.specs.Calls.{Leave, AtOnce, TellsOnce, Asks, AsksLater, Refused, left, submitted, pace_of, gone_on_in, expiry_of, held_back, moved, ticked, pinged, is_pinged, after_timeouts_by, growth_bound, next_event, event_after, packet_event, last_event}
+use Rattle.enet_peer.specs.CommandEffect.{obeyed, unless_refused, stopped, is_allowed, is_connect, by_body, by_answer, by_arrival, on_data, answered, answered_at, is_answered_in, is_connecting, on_acknowledge, on_match, acknowledged, with_answer, on_verify_in, welcomed, on_disconnect_in, on_last_disconnect, on_bandwidth, on_throttle}
+use Rattle.enet_peer.specs.Calls.{Leave, AtOnce, TellsOnce, Asks, AsksLater, Refused, left, submitted, pace_of, gone_on_in, expiry_of, held_back, moved, ticked, pinged, is_pinged, after_timeouts_by, tick_of, next_event, event_after, packet_event, last_event}
 use Rattle.law_progress.specs.Attempts.{Hears, PutsOut, Takes, after_take}
 use Rattle.law_progress.specs.Fits.{StaysFit}
 use Rattle.law_progress.specs.Outboxes.{AllFit}
@@ -176,12 +177,12 @@ small-submitted mtu o channel q low a = by (outbox.is_unsequenced mtu q) refl
       sent = a.sent;
     }
 
-small-marked : (most bound now : ℕ) (o : Outbox) → Small most o → Small most (outbox.marked o bound now)
-small-marked most bound now o a = record {
+small-marked : (most : ℕ) (tick : Tick) (o : Outbox) → Small most o → Small most (outbox.marked o tick)
+small-marked most tick o a = record {
   unsequenced = a.unsequenced;
-  queued = λ s h c k. (let w = Has-mapped (marked_sender bound now) o.senders s h in a.queued w.0 w.1 c (subst (λ (z : SendingEnd). Has z.sender.queued c) (sym w.2) k));
-  sent = λ s h t k. (let w = Has-mapped (marked_sender bound now) o.senders s h in
-      let m = Has-mapped (sender.marked bound now) w.0.sender.sent t (subst (λ (z : SendingEnd). Has z.sender.sent t) (sym w.2) k) in
+  queued = λ s h c k. (let w = Has-mapped (marked_sender tick) o.senders s h in a.queued w.0 w.1 c (subst (λ (z : SendingEnd). Has z.sender.queued c) (sym w.2) k));
+  sent = λ s h t k. (let w = Has-mapped (marked_sender tick) o.senders s h in
+      let m = Has-mapped (sender.marked tick) w.0.sender.sent t (subst (λ (z : SendingEnd). Has z.sender.sent t) (sym w.2) k) in
       subst (λ (y : Sent). length y.command.body + 28 ≤ most) m.2 (a.sent w.0 w.1 m.0 m.1));
 }
 
@@ -247,7 +248,7 @@ fits-acknowledge p now channel number told f = by-state (is_connecting p.state)
     time = meant_time told (p.offset % 2 ^ 16)
 
     q : Peering
-    q = sampled (record p { outbox = after_acknowledgement p.outbox channel number }) now time
+    q = acknowledged p now channel number time
 
     b : Small (room_of p.terms.mtu) (after_acknowledgement p.outbox channel number)
     b = small-gone (room_of p.terms.mtu) p.outbox channel number f.small
@@ -401,7 +402,7 @@ fits-ticked p n f = by (expiry_of p n)
 
     by : (e : Expiry) → Fits (pinged (after_timeouts_by e p n) n)
     by End = pings (cut_off_in p.state p) (cut p.state)
-    by Resend = pings (record p { outbox = outbox.marked p.outbox (growth_bound p) n }) (record { mtu = f.mtu; small = small-marked (room_of p.terms.mtu) (growth_bound p) n p.outbox f.small })
+    by Resend = pings (record p { outbox = outbox.marked p.outbox (tick_of p n) }) (record { mtu = f.mtu; small = small-marked (room_of p.terms.mtu) (tick_of p n) p.outbox f.small })
     by No = pings p f
 
 pub fits-moved : (short : Bool) (p : Peering) (n : ℕ) → Fits p → Fits (moved short p n)

@@ -3,15 +3,12 @@ use Rattle.std.proofs.Common.{◌≡◌, ℕ, zero, suc, ◌+◌, ◌==◌, not,
 use Rattle.std.proofs.lemmas.Bool.{eq-eqb}
 use Rattle.std.proofs.lemmas.Bool.Decides.{nat_tests}
 use Rattle.std.specs.List.{position, prefix_len, slice_get, remove}
-use Rattle.enet_seq.specs.Numbering.{wire}
 use Rattle.enet_senders.specs.Controlling as controlling
 use Rattle.enet_senders.specs.Controlling.{Commands}
 use Rattle.enet_senders.specs.declared.control.SentControl.{SentControl}
 use Rattle.enet_receiver.specs.Members.{Has}
 use Rattle.enet_sender.specs.declared.sent.Sent.{Sent}
 use Rattle.enet_sender.specs.Sender as sender
-use Rattle.enet_sender.specs.declared.outgoing.Occasion.{Occasion}
-use Rattle.enet_sender.specs.Sender.{Sender, next, next_of}
 use Rattle.law_connection.proofs.Firsts.{drop_first, without-first}
 use Rattle.law_progress.proofs.Controls.{some-is}
 use Rattle.law_progress.proofs.Waiting.{Rests}
@@ -67,17 +64,7 @@ placed sent t h none =
     test : Sent → Bool
     test q = q.command.number == t.command.number
 
--- where nothing goes next, nothing is due to go again
-pub sender-rests : (o : Occasion) (s : Sender) → next wire o s ≡ None → (t : Sent) → Has s.sent t → Rests t.transmission
-sender-rests o s none t h = by t.transmission.due refl
-  where
-    by : (b : Bool) → t.transmission.due ≡ b → Rests t.transmission
-    by false e = e
-    by true e =
-        let w = found (λ (p : Sent). p.transmission.due) s.sent t h e in
-        let goes : next wire o s ≡ Some (sender.resent o.now s w.0 w.2) = ap (next_of wire o s) w.1 ∙ ap (sender.next_resent o.now s w.0) w.3 in
-        absurd (let z : None ≡ Some _ = sym none ∙ goes in cc)
-
+-- where nothing of channel 0xFF goes next, nothing of it is due to go again
 pub controls-rest : (now wait : ℕ) (c : Commands) → controlling.next now wait c ≡ None → (t : SentControl) → Has c.sent t → Rests t.transmission
 controls-rest now wait c none t h = by t.transmission.due refl
   where

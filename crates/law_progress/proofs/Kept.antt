@@ -26,7 +26,7 @@ use Rattle.law_progress.proofs.SomethingGoes.{get-set, set-other, set-same, same
 use Rattle.law_progress.proofs.Spent.{Goes, First, Again, goes-of}
 
 -- a member stays where another place is set
-stays-set : {X : Type 0} (xs : List X) (i : ℕ) (p x y : X) → slice_get xs i ≡ Some p → Has xs x → Has (slice_set xs i y) x ⊎ (p ≡ x)
+pub stays-set : {X : Type 0} (xs : List X) (i : ℕ) (p x y : X) → slice_get xs i ≡ Some p → Has xs x → Has (slice_set xs i y) x ⊎ (p ≡ x)
 stays-set [] i p x y e h = absurd h
 stays-set (z ∷ zs) zero p x y e (inl same) = (let it : z ≡ p = cc in inr (sym it ∙ same))
 stays-set (z ∷ zs) zero p x y e (inr h) = inl (inr h)

@@ -32,6 +32,7 @@ pub mod TakenAway
 pub mod Settled
 pub mod Moving
 pub mod Timed
+pub mod Paces
 pub mod Attempts
 pub mod Told
 pub mod Waiting

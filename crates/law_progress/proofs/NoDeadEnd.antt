@@ -1,16 +1,16 @@
 -- From each link that was reached a calm run leads to where nothing is outstanding.
-use Rattle.std.proofs.Common.{◌≡◌, ℕ, zero, suc, ◌+◌, ◌*◌, ◌^◌, ◌<◌, ◌≤◌, ◌&&◌, ◌||◌, not, leb, ltb, max, min, Bool, true, false, cond, List, [], ◌∷◌, length, map, refl, sym, ap, subst, ◌∙◌, inl, inr, arith, Some, None}
+use Rattle.std.proofs.Common.{◌≡◌, ℕ, zero, suc, ◌+◌, ◌*◌, ◌^◌, ◌<◌, ◌≤◌, ◌&&◌, not, leb, max, min, Bool, true, false, cond, List, [], ◌∷◌, length, map, refl, sym, ap, subst, ◌∙◌, inl, inr, arith, Some}
 use Rattle.std.proofs.lemmas.Bool.Decides.{nat_tests}
 use Rattle.std.proofs.lemmas.List.{length-map}
 use Rattle.enet_seq.specs.Numbering.{wire}
 use Rattle.enet_rtt.specs.Clock.{elapsed_time}
 use Rattle.enet_rtt.specs.declared.transmission.Transmission.{Transmission}
+use Rattle.enet_rtt.specs.declared.transmission.Tick.{Tick}
 use Rattle.enet_rtt.specs.Transmission as transmission
 use Rattle.enet_fragment.specs.declared.data.DataCommand.{DataCommand}
 use Rattle.enet_sender.specs.CommandChoice.{carried}
-use Rattle.std.specs.List.{position, prefix_len, slice_get}
 use Rattle.enet_sender.specs.declared.outgoing.Occasion.{Occasion}
-use Rattle.enet_sender.specs.Sender.{Sender, Next, next, next_of, next_queued, next_resent, may_go, first_sent, resent, marked}
+use Rattle.enet_sender.specs.Sender.{Sender, Next, next, has_room, first_sent, resent, marked}
 use Rattle.enet_sender.specs.declared.sent.Sent.{Sent}
 use Rattle.law_connection.specs.Image.{reliable_count}
 use Rattle.law_connection.specs.WireLink.{WireLink, marks}
@@ -19,51 +19,32 @@ use Rattle.law_connection.proofs.LinkRuns.{Sound-happens, Sound-runs, Sound-fres
 use Rattle.law_connection.proofs.Shown.{Sound}
 use Rattle.law_progress.specs.Links.{AreShort, IsUp, outstanding, AreTimed, AllDispatched, GetsThrough}
 use Rattle.law_progress.proofs.Trips.{Calm, Calm-none, Calm-first, Calm-then, trip}
+use Rattle.law_progress.proofs.SomethingGoes.{room-for, first-due, head-due}
 use Rattle.law_progress.proofs.Complete.{Consumed-all, dispatched-consumed}
 
+-- nothing is in transit, and a body so long may be
 abbrev occasion_for : ℕ → Occasion
-occasion_for most = record { now = 0; timeout = 0; transit = 0; most = most }
+occasion_for most = record { now = 0; timeout = 0; transit = 0; most = most; prices = 0; dearest = most + 28 }
+
+room : (c : DataCommand) → has_room (occasion_for (length c.body)) c ≡ true
+room c = room-for (occasion_for (length c.body)) c (omega arith) (omega arith)
+
+-- a moment at which nothing was heard
+abbrev moment : ℕ → Tick
+moment now = record { now = now; heard = 0; bound = 1000; present = 0 }
 
 -- where nothing waits for its acknowledgement, the head of the queue may go
 head-goes : (s : Sender) (c : DataCommand) (rest : List DataCommand) → s.sent ≡ [] → s.queued ≡ c ∷ rest → (n : Next) × (next wire (occasion_for (length c.body)) s ≡ Some n)
-head-goes s c rest none queued =
-    let o : Occasion = occasion_for (length c.body) in
-    let fits : leb (0 + length c.body) (length c.body) ≡ true = le-leb (0 + length c.body) (length c.body) (omega arith) in
-    let may : may_go wire s.sent 0 (length c.body) c ≡ true = ap (λ l. may_go wire l 0 (length c.body) c) none ∙ (λ i. not c.reliable || (true && fits i)) ∙ or_true (not c.reliable) in (
-      first_sent 0 0 s c rest,
-      ap (λ (l : List Sent). next_of wire o s (position (λ (p : Sent). p.transmission.due) l)) none
-          ∙ ap (next_queued wire o s) queued
-          ∙ ap (λ b. cond b (Some (first_sent 0 0 s c rest)) None) may,
-    )
-  where
-    le-leb : (m n : ℕ) → m ≤ n → leb m n ≡ true
-    le-leb m n h = grind (arith, nat_tests)
-
-    or_true : (b : Bool) → (b || true) ≡ true
-    or_true true = refl
-    or_true false = refl
+head-goes s c rest none queued = (first_sent 0 0 s c rest, head-due (occasion_for (length c.body)) s c rest none queued (room c))
 
 -- what is due to go again goes
-due-goes : (s : Sender) (x : Sent) (xs : List Sent) → s.sent ≡ x ∷ xs → x.transmission.due ≡ true → (n : Next) × (next wire (occasion_for 0) s ≡ Some n)
-due-goes s x xs sent due =
-    let o : Occasion = occasion_for 0 in
-    let place : position (λ (p : Sent). p.transmission.due) s.sent ≡ Some 0 = ap (position (λ (p : Sent). p.transmission.due)) sent ∙ first_place in (
-      resent 0 s 0 x,
-      ap (next_of wire o s) place ∙ ap (λ (l : List Sent). next_resent 0 s 0 (slice_get l 0)) sent,
-    )
-  where
-    some_place : (n : ℕ) → ltb 0 (suc n) ≡ true
-    some_place n = grind (arith, nat_tests)
-
-    first_place : position (λ (p : Sent). p.transmission.due) (x ∷ xs) ≡ Some 0
-    first_place =
-        (λ i. let k : ℕ = cond (not (due i)) (1 + prefix_len (λ (p : Sent). not p.transmission.due) xs) 0 in cond (ltb k (suc (length xs))) (Some k) None)
-        ∙ ap (λ c. cond c (Some 0) None) (some_place (length xs))
+due-goes : (s : Sender) (x : Sent) (xs : List Sent) → s.sent ≡ x ∷ xs → x.transmission.due ≡ true → (n : Next) × (next wire (occasion_for (length x.command.body)) s ≡ Some n)
+due-goes s x xs sent due = (resent 0 s 0 x, first-due (occasion_for (length x.command.body)) s x xs sent due (room x.command))
 
 -- the moment at which a sent command is due to go again
-wakes : (bound : ℕ) (t : Transmission) → t.timeout < 2 ^ 32 → (transmission.marked bound (t.last + t.timeout) t).due ≡ true
-wakes bound t brief =
-    elim (transmission.is_late (t.last + t.timeout) t) as (λ b. transmission.is_late (t.last + t.timeout) t ≡ b → (cond b (record t { timeout = transmission.grown_time bound t.timeout; due = true }) t).due ≡ true) [
+wakes : (t : Transmission) → t.timeout < 2 ^ 32 → (transmission.marked (moment (t.last + t.timeout)) t).due ≡ true
+wakes t brief =
+    elim (transmission.is_late (t.last + t.timeout) t) as (λ b. transmission.is_late (t.last + t.timeout) t ≡ b → (cond b (record t { timeout = transmission.next_time (moment (t.last + t.timeout)) t; due = true }) t).due ≡ true) [
       | true ↦ λ e. refl
       | false ↦ λ e. already t.due (ap (λ b. not t.due && b) (sym over) ∙ e)
     ] refl
@@ -81,17 +62,27 @@ wakes bound t brief =
     already true e = refl
     already false e = absurd (cc)
 
-timed-marked : (bound now : ℕ) (sent : List Sent) → bound < 2 ^ 32 → AreTimed sent → AreTimed (map (marked bound now) sent)
-timed-marked bound now [] small all p h = absurd h
-timed-marked bound now (x ∷ xs) small all p (inl e) = subst (λ (y : Sent). y.transmission.timeout < 2 ^ 32) e (by (transmission.is_late now x.transmission))
+timed-marked : (now : ℕ) (sent : List Sent) → AreTimed sent → AreTimed (map (marked (moment now)) sent)
+timed-marked now [] all p h = absurd h
+timed-marked now (x ∷ xs) all p (inl e) = subst (λ (y : Sent). y.transmission.timeout < 2 ^ 32) e (by (transmission.is_late now x.transmission))
   where
-    by : (b : Bool) → (cond b (record x.transmission { timeout = transmission.grown_time bound x.transmission.timeout; due = true }) x.transmission).timeout < 2 ^ 32
-    by true = least x.transmission.timeout (2 * x.transmission.timeout) (all x (inl refl))
+    t : Transmission
+    t = x.transmission
+
+    grows : (b : Bool) → cond b (transmission.answered_time 0 t.timeout) (transmission.grown_time 1000 t.timeout) < 2 ^ 32
+    grows true = answered (2 * t.timeout)
       where
-        least : (t k : ℕ) → t < 2 ^ 32 → max t (min k bound) < 2 ^ 32
-        least t k low = grind (arith, nat_tests)
+        answered : (k : ℕ) → max 0 (min k 100) < 2 ^ 32
+        answered k = grind (arith, nat_tests)
+    grows false = grown t.timeout (2 * t.timeout) (all x (inl refl))
+      where
+        grown : (m k : ℕ) → m < 2 ^ 32 → max m (min k 1000) < 2 ^ 32
+        grown m k low = grind (arith, nat_tests)
+
+    by : (b : Bool) → (cond b (record t { timeout = transmission.next_time (moment now) t; due = true }) t).timeout < 2 ^ 32
+    by true = grows (transmission.is_heard_since (moment now) t)
     by false = all x (inl refl)
-timed-marked bound now (x ∷ xs) small all p (inr h) = timed-marked bound now xs small (λ q k. all q (inr k)) p h
+timed-marked now (x ∷ xs) all p (inr h) = timed-marked now xs (λ q k. all q (inr k)) p h
 
 -- something is outstanding: one command less is, a calm run later
 pub record Gets (mtu most : ℕ) (v : WireLink) : Type 0 where
@@ -116,23 +107,24 @@ gets mtu most v big s up short timed some' = by v.outgoing.sent refl
     by [] e = none_sent e v.outgoing.queued refl
     by (p ∷ ps) e =
         let now = p.transmission.last + p.transmission.timeout in
-        let w = marks v 1000 now in
-        let step : Happens mtu (Mark 1000 now) v w = record { sending = up.sending; after = refl } in
-        let sw : Sound mtu w = Sound-happens mtu (Mark 1000 now) v w big s step in
+        let at : Tick = moment now in
+        let w = marks v at in
+        let step : Happens mtu (Mark at) v w = record { sending = up.sending; after = refl } in
+        let sw : Sound mtu w = Sound-happens mtu (Mark at) v w big s step in
         let wup : IsUp w = record { sending = up.sending; open' = up.open'; between = up.between } in
         let brief = timed p (subst (λ (l : List Sent). Has l p) (sym e) (inl refl)) in
-        let first : w.outgoing.sent ≡ marked 1000 now p ∷ map (marked 1000 now) ps = ap (map (marked 1000 now)) e in
-        let k = due-goes w.outgoing (marked 1000 now p) (map (marked 1000 now) ps) first (wakes 1000 p.transmission brief) in
-        let t = trip mtu most w (occasion_for 0) k.0 big sw wup short (omega arith) k.1 in
-        let same : length (map (marked 1000 now) v.outgoing.sent) ≡ length v.outgoing.sent = length-map v.outgoing.sent (marked 1000 now) in
+        let first : w.outgoing.sent ≡ marked at p ∷ map (marked at) ps = ap (map (marked at)) e in
+        let k = due-goes w.outgoing (marked at p) (map (marked at) ps) first (wakes p.transmission brief) in
+        let t = trip mtu most w (occasion_for (length p.command.body)) k.0 big sw wup short (omega arith) k.1 in
+        let same : length (map (marked at) v.outgoing.sent) ≡ length v.outgoing.sent = length-map v.outgoing.sent (marked at) in
         let less = t.less in
         record {
           after = t.after;
-          run = Calm-first mtu most (Mark 1000 now) v w t.after tt step t.run;
+          run = Calm-first mtu most (Mark at) v w t.after tt step t.run;
           up = t.up;
           submitted = t.submitted;
           less = omega arith;
-          timed = t.timed (timed-marked 1000 now v.outgoing.sent (omega arith) timed);
+          timed = t.timed (timed-marked now v.outgoing.sent timed);
         }
 
 record Ends (mtu most : ℕ) (v : WireLink) : Type 0 where

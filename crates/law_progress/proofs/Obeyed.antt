@@ -10,6 +10,7 @@ use Rattle.enet_senders.specs.Controlling as controlling
 use Rattle.enet_sender.specs.Sender as sender
 use Rattle.enet_sender.specs.Sender.{Sender}
 use Rattle.enet_sender.specs.declared.sent.Sent.{Sent}
+use Rattle.enet_sender.specs.declared.outgoing.Acknowledged.{Acknowledged}
 use Rattle.enet_sender.specs.Due.{SendingEnd}
 use Rattle.enet_inbox.specs.DataEffect.{DataEffect, arrival}
 use Rattle.enet_outbox.specs.declared.parts.Acknowledgement.{Acknowledgement}
@@ -79,8 +80,11 @@ set-self (z ∷ zs) (suc k) x e = ap (λ (l : List SendingEnd). z ∷ l) (set-se
 gone-kept : (p : Peering) (now channel number time : ℕ) → Kept p (acknowledged p now channel number time)
 gone-kept p now channel number time = by (channel == 0xFF)
   where
+    told : Option Acknowledged
+    told = outbox.told_by p.outbox channel number time
+
     after : Outbox → Peering
-    after o = effect.sampled (record p { outbox = o }) now time
+    after o = effect.sampled (record p { outbox = outbox.with_growth o told }) now time
 
     on : (x : Option SendingEnd) → slice_get p.outbox.senders channel ≡ x → Kept p (after (outbox.acknowledged_on p.outbox channel number x))
     on None e = record { senders = inl refl; mtu = refl; offset = refl; acknowledgements = λ a h. h; sent = λ k t h. h }

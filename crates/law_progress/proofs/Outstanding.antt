@@ -81,7 +81,7 @@ few-happens mtu (Drop occasion) v w x k = subst (IsFew mtu) (sym x.after) (λ se
     let shorter = skipped-length x.due.sender.queued in
     let was = k sending in
     omega arith)
-few-happens mtu (Mark bound now) v w x k = subst (IsFew mtu) (sym x.after) (λ sending. let same = length-map v.outgoing.sent (marked bound now) in let was = k sending in omega arith)
+few-happens mtu (Mark tick) v w x k = subst (IsFew mtu) (sym x.after) (λ sending. let same = length-map v.outgoing.sent (marked tick) in let was = k sending in omega arith)
 few-happens mtu PutsOut v w x k = subst (IsFew mtu) (sym x) k
 few-happens mtu (Arrive command max_packet full) v w x k = subst (IsFew mtu) (sym x.after) k
 few-happens mtu (ArriveAnswered command max_packet full) v w x k = subst (IsFew mtu) (sym x.after) k

@@ -12,7 +12,7 @@ use Rattle.enet_senders.specs.declared.control.SentControl.{SentControl}
 use Rattle.enet_fragment.specs.declared.data.DataCommand.{DataCommand}
 use Rattle.enet_sender.specs.declared.sent.Sent.{Sent}
 use Rattle.enet_sender.specs.declared.outgoing.Occasion.{Occasion}
-use Rattle.enet_sender.specs.Sender.{Sender, Next, next, next_of, next_queued, next_resent, may_go, first_sent, resent, again, begun, with_skipped}
+use Rattle.enet_sender.specs.Sender.{Sender, Next, next, next_of, next_queued, next_resent, may_go, has_room, first_sent, resent, again, begun, with_skipped}
 use Rattle.enet_sender.specs.Due.{SendingEnd}
 use Rattle.enet_outbox.specs.declared.parts.Acknowledgement.{Acknowledgement}
 use Rattle.enet_outbox.specs.declared.parts.Unsequenced.{Unsequenced}
@@ -58,6 +58,11 @@ found-passes {X} f (x ∷ xs) i p e t = go (f x) refl (λ j k h. found-passes f 
             rest before (ap (λ c. cond c (Some before) None) (below before (length xs) l)) (ap (slice_get (x ∷ xs)) (sym place) ∙ t)
         by false l h = absurd (cc)
 
+-- what is given under a test
+pub if-some : {X : Type 0} (b : Bool) (x y : X) → cond b (Some x) None ≡ Some y → x ≡ y
+if-some {X} true x y e = cc
+if-some {X} false x y e = absurd (cc)
+
 -- how many are due
 count-set : (xs : List Sent) (i : ℕ) (p q : Sent) → slice_get xs i ≡ Some p → p.transmission.due ≡ true → q.transmission.due ≡ false → due_count (slice_set xs i q) + 1 ≡ due_count xs
 count-set [] i p q t d f = absurd (cc)
@@ -96,7 +101,7 @@ ready-next o s n e = go (position (λ (p : Sent). p.transmission.due) s.sent) re
     from_queue : (q : List DataCommand) → s.queued ≡ q → next_queued wire o s q ≡ Some n → ready_at n.sender + 1 ≤ ready_at s
     from_queue [] t k = absurd (cc)
     from_queue (c ∷ rest) t k =
-        elim (may_go wire s.sent o.transit o.most c) as (λ b. cond b (Some (first_sent o.now o.timeout s c rest)) None ≡ Some n → ready_at n.sender + 1 ≤ ready_at s) [
+        elim (may_go wire s.sent o c) as (λ b. cond b (Some (first_sent o.now o.timeout s c rest)) None ≡ Some n → ready_at n.sender + 1 ≤ ready_at s) [
           | true ↦ λ f.
               let is : first_sent o.now o.timeout s c rest ≡ n = cc in
               let len : length s.queued ≡ suc (length rest) = ap (λ (l : List DataCommand). length l) t in
@@ -107,10 +112,10 @@ ready-next o s n e = go (position (λ (p : Sent). p.transmission.due) s.sent) re
           | false ↦ λ f. absurd (cc)
         ] k
 
-    from_sent : (i : ℕ) → position (λ (p : Sent). p.transmission.due) s.sent ≡ Some i → (p : Option Sent) → slice_get s.sent i ≡ p → next_resent o.now s i p ≡ Some n → ready_at n.sender + 1 ≤ ready_at s
+    from_sent : (i : ℕ) → position (λ (p : Sent). p.transmission.due) s.sent ≡ Some i → (p : Option Sent) → slice_get s.sent i ≡ p → next_resent o s i p ≡ Some n → ready_at n.sender + 1 ≤ ready_at s
     from_sent i w None t k = absurd (cc)
     from_sent i w (Some p) t k =
-        let is : resent o.now s i p ≡ n = cc in
+        let is : resent o.now s i p ≡ n = if-some (has_room o p.command) (resent o.now s i p) n k in
         let due = found-passes (λ (q : Sent). q.transmission.due) s.sent i p w t in
         let less = count-set s.sent i p (again o.now p) t due refl in
         let same : ready_at n.sender ≡ length s.queued + due_count (slice_set s.sent i (again o.now p)) = ap (λ (x : Next). ready_at x.sender) (sym is) in

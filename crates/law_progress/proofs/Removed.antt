@@ -6,8 +6,9 @@ use Rattle.std.specs.List.{slice_get, slice_set, remove}
 use Rattle.enet_codec.specs.Message.{Message, acknowledge}
 use Rattle.enet_rtt.specs.Clock.{meant_time}
 use Rattle.enet_rtt.specs.Transmission.{went_at}
-use Rattle.enet_sender.specs.Sender.{position_of, without_place, after_acknowledgement, size_at, size_of}
+use Rattle.enet_sender.specs.Sender.{position_of, without_place, after_acknowledgement, matching_at, matching, told_of}
 use Rattle.enet_sender.specs.declared.sent.Sent.{Sent}
+use Rattle.enet_sender.specs.declared.outgoing.Acknowledged.{Acknowledged}
 use Rattle.enet_sender.specs.Due.{SendingEnd}
 use Rattle.enet_outbox.specs.declared.parts.Matched.TheVariants as matched
 use Rattle.enet_outbox.specs.Outbox.{Outbox, matched_on, as_data, acknowledged_on}
@@ -52,8 +53,11 @@ removed-at p now sent m number told s connected quiet body low there i t place a
     less : length after.sender.sent + 1 ≡ length s.sender.sent
     less = ap (λ o. length (without_place s.sender.sent o) + 1) place ∙ one-less s.sender.sent i t at
 
+    told_is : Option Acknowledged
+    told_is = outbox.told_by p.outbox channel number time
+
     gone : Peering
-    gone = sampled (record p { outbox = record p.outbox { senders = slice_set p.outbox.senders channel after } }) now time
+    gone = sampled (record p { outbox = outbox.with_growth (record p.outbox { senders = slice_set p.outbox.senders channel after }) told_is }) now time
 
     Good : Peering → Type 0
     Good q = IsRemoved p channel number s (answered q m sent true)
@@ -74,11 +78,11 @@ removed-at p now sent m number told s connected quiet body low there i t place a
     matches =
         ap (λ b. cond b (outbox.as_control (Rattle.enet_senders.specs.Controlling.acknowledged_control p.outbox.control number time)) (matched_on (slice_get p.outbox.senders channel) number time)) apart
         ∙ ap (λ o. matched_on o number time) there
-        ∙ ap as_data (ap (size_at time s.sender.sent) place ∙ ap (size_of time) at ∙ ap (λ b. cond b (Some (length t.command.body)) None) went)
+        ∙ ap as_data (ap (matching_at time s.sender.sent) place ∙ ap (matching time) at ∙ ap (λ b. cond b (Some (told_of time t)) None) went)
 
     good-accepted : Good (effect.accepted p now channel number time)
     good-accepted = subst (λ x. Good (on_match x p (effect.acknowledged p now channel number time))) (sym matches)
-        (subst (λ (o : Outbox). Good (settled (sampled (record p { outbox = o }) now time))) (sym outbox-after) good-settled)
+        (subst (λ (o : Outbox). Good (settled (sampled (record p { outbox = outbox.with_growth o told_is }) now time))) (sym outbox-after) good-settled)
 
     good : Good (on_acknowledge p now channel number told)
     good = subst (λ t. Good (cond (effect.is_connecting t) p (effect.accepted p now channel number time))) (sym connected) good-accepted

@@ -5,7 +5,7 @@ use Rattle.std.proofs.lemmas.List.Sums.{sum_by-cons}
 use Rattle.std.proofs.lemmas.Nat.{mod-mul-add}
 use Rattle.std.specs.Prelude.{sum_by, unwrap_or}
 use Rattle.std.specs.Option.{option_map}
-use Rattle.std.specs.List.{position, slice_get, slice_set, range_with_len}
+use Rattle.std.specs.List.{position, prefix_len, slice_get, slice_set, range_with_len}
 use Rattle.enet_codec.specs.Message.{Message}
 use Rattle.enet_seq.specs.Numbering.{wire}
 use Rattle.enet_throttle.specs.Throttle.{is_admitted}
@@ -16,13 +16,14 @@ use Rattle.enet_sender.specs.declared.outgoing.Kind.{Kind}
 use Rattle.enet_sender.specs.declared.outgoing.Kind.TheVariants.{Reliable, Begins, More}
 use Rattle.enet_sender.specs.declared.sent.Sent.{Sent}
 use Rattle.enet_sender.specs.declared.outgoing.Occasion.{Occasion}
-use Rattle.enet_sender.specs.Sender.{Sender, Next, next, next_of, next_queued, first_sent, begun, may_go, is_more, skipped, with_skipped, bytes_in_transit}
+use Rattle.enet_sender.specs.Sender.{Sender, Next, next, next_of, next_queued, next_resent, first_sent, resent, begun, may_go, has_room, bytes_of, price_of, is_more, skipped, with_skipped}
 use Rattle.enet_sender.specs.Due.{SendingEnd, due_kind}
 use Rattle.enet_outbox.specs.declared.parts.Acknowledgement.{Acknowledgement}
 use Rattle.enet_outbox.specs.declared.parts.Unsequenced.{Unsequenced}
 use Rattle.enet_outbox.specs.declared.parts.Pace.{Pace}
-use Rattle.enet_outbox.specs.Outbox.{Outbox, transit_of}
-use Rattle.enet_outbox.specs.Emission.{Filling, empty_datagram, size_of, fits, with_command, shut, asked, repeated, acknowledgement_of, acknowledgement_step, with_one_acknowledgement, with_acknowledgements, control_step, with_one_control, with_controls, unsequenced_of, unsequenced_asked, unsequenced_step, with_one_unsequenced, with_unsequenced, with_sender, data_put, data_step, due_step, channel_step, with_one_data, with_channel, turns_of, channel_turns, control_turns, with_channels, turn_order, transit_limit, occasion, filled}
+use Rattle.enet_outbox.specs.Allowance.{limit}
+use Rattle.enet_outbox.specs.Outbox.{Outbox, transit_of, prices_of}
+use Rattle.enet_outbox.specs.Emission.{Filling, empty_datagram, size_of, fits, with_command, shut, asked, repeated, acknowledgement_of, acknowledgement_step, with_one_acknowledgement, with_acknowledgements, control_step, with_one_control, with_controls, unsequenced_of, unsequenced_asked, unsequenced_step, with_one_unsequenced, with_unsequenced, with_sender, data_put, data_step, due_step, channel_step, with_one_data, with_channel, turns_of, channel_turns, control_turns, with_channels, turn_order, transit_limit, price_limit, occasion, filled}
 use Rattle.enet_outbox.proofs.Repeats.{by-repeated}
 use Rattle.enet_receiver.specs.Members.{Has}
 use Rattle.law_progress.specs.Outboxes.{AreFit, AreQuiet, HasNew, AreSome}
@@ -109,20 +110,77 @@ unsequenced-goes pace k f big g = by f.outbox.unsequenced refl g
           | false ↦ inl left
         ])
 
--- where nothing waits for its acknowledgement, no bytes are in transit
-pub no-transit : (senders : List SendingEnd) → AreQuiet senders → sum_by (λ (s : SendingEnd). bytes_in_transit s.sender) senders ≡ 0
-no-transit [] quiet = refl
-no-transit (s ∷ rest) quiet =
-    let own : bytes_in_transit s.sender ≡ 0 = ap (λ (l : List Sent). sum_by (λ (p : Sent). length p.command.body) l) (quiet 0 s refl) in
-    let others = no-transit rest (λ i x t. quiet (suc i) x t) in
-    let both = sum_by-cons (λ (x : SendingEnd). bytes_in_transit x.sender) s rest in
+-- all that was sent is due to go again
+abbrev pub AreDue : List Sent → Type 0
+AreDue sent = (t : Sent) → Has sent t → t.transmission.due ≡ true
+
+abbrev pub AllDue : List SendingEnd → Type 0
+AllDue senders = (i : ℕ) (s : SendingEnd) → slice_get senders i ≡ Some s → AreDue s.sender.sent
+
+pub quiet-due : (senders : List SendingEnd) → AreQuiet senders → AllDue senders
+quiet-due senders quiet i s there t h = absurd (subst (λ (l : List Sent). Has l t) (quiet i s there) h)
+
+-- so no bytes are in transit, whatever each weighs
+pub none-weighs : (weight : DataCommand → ℕ) (sent : List Sent) → AreDue sent → sum_by (λ (p : Sent). cond p.transmission.due 0 (weight p.command)) sent ≡ 0
+none-weighs weight [] due = refl
+none-weighs weight (p ∷ ps) due =
+    let own : cond p.transmission.due 0 (weight p.command) ≡ 0 = ap (λ b. cond b 0 (weight p.command)) (due p (inl refl)) in
+    let others = none-weighs weight ps (λ t h. due t (inr h)) in
+    let both = sum_by-cons (λ (q : Sent). cond q.transmission.due 0 (weight q.command)) p ps in
     omega arith
 
--- so the head of each queue may go
-pub head-due : (o : Occasion) (s : Sender) (c : DataCommand) (rest : List DataCommand) → s.sent ≡ [] → s.queued ≡ c ∷ rest → o.transit + length c.body ≤ o.most → next wire o s ≡ Some (first_sent o.now o.timeout s c rest)
-head-due o s c rest none queued small =
-    let size : leb (o.transit + length c.body) o.most ≡ true = le-leb (o.transit + length c.body) o.most small in
-    let may : may_go wire s.sent o.transit o.most c ≡ true = ap (λ l. may_go wire l o.transit o.most c) none ∙ (λ i. not c.reliable || (true && size i)) ∙ or_true (not c.reliable) in
+none-weighs-over : (weight : DataCommand → ℕ) (senders : List SendingEnd) → AllDue senders → sum_by (λ (s : SendingEnd). sum_by (λ (p : Sent). cond p.transmission.due 0 (weight p.command)) s.sender.sent) senders ≡ 0
+none-weighs-over weight [] due = refl
+none-weighs-over weight (s ∷ rest) due =
+    let own = none-weighs weight s.sender.sent (due 0 s refl) in
+    let others = none-weighs-over weight rest (λ i x t. due (suc i) x t) in
+    let both = sum_by-cons (λ (x : SendingEnd). sum_by (λ (p : Sent). cond p.transmission.due 0 (weight p.command)) x.sender.sent) s rest in
+    omega arith
+
+pub no-transit : (o : Outbox) → AllDue o.senders → transit_of o ≡ 0
+no-transit o due = none-weighs-over bytes_of o.senders due
+
+pub no-prices : (o : Outbox) → AllDue o.senders → prices_of o ≡ 0
+no-prices o due = none-weighs-over price_of o.senders due
+
+-- there is room for a command, where there is for its whole body
+pub room-for : (o : Occasion) (c : DataCommand) → o.transit + length c.body ≤ o.most → o.prices + (length c.body + 28) ≤ o.dearest → has_room o c ≡ true
+room-for o c small cheap = by c.reliable
+  where
+    by : (b : Bool) → (leb (o.transit + cond b (length c.body) 0) o.most && leb (o.prices + cond b (length c.body + 28) 0) o.dearest) ≡ true
+    by true = (λ i. le-leb (o.transit + length c.body) o.most small i && le-leb (o.prices + (length c.body + 28)) o.dearest cheap i)
+    by false = (λ i. le-leb (o.transit + 0) o.most (omega arith) i && le-leb (o.prices + 0) o.dearest (omega arith) i)
+
+-- so it is for each that fits a datagram, where nothing is in transit
+pub room-alone : (pace : Pace) (o : Outbox) (c : DataCommand) → AllDue o.senders → length c.body + 28 ≤ pace.mtu → has_room (occasion pace o) c ≡ true
+room-alone pace o c due short =
+    let transit = no-transit o due in
+    let prices = no-prices o due in
+    let most : pace.mtu ≤ transit_limit pace o = at_least (o.throttle.limit * pace.window / 32) pace.mtu in
+    let dearest : pace.mtu ≤ price_limit pace o = at_least (limit o.allowance) pace.mtu in
+    room-for (occasion pace o) c (omega arith) (omega arith)
+  where
+    at_least : (a b : ℕ) → b ≤ max a b
+    at_least a b = grind (arith, nat_tests)
+
+-- so the first that was sent goes again
+pub first-due : (o : Occasion) (s : Sender) (p : Sent) (ps : List Sent) → s.sent ≡ p ∷ ps → p.transmission.due ≡ true → has_room o p.command ≡ true → next wire o s ≡ Some (resent o.now s 0 p)
+first-due o s p ps sent due free =
+    let place : position (λ (q : Sent). q.transmission.due) s.sent ≡ Some 0 = ap (position (λ (q : Sent). q.transmission.due)) sent ∙ first_place in
+    ap (next_of wire o s) place ∙ ap (λ (l : List Sent). next_resent o s 0 (slice_get l 0)) sent ∙ ap (λ b. cond b (Some (resent o.now s 0 p)) None) free
+  where
+    some_place : (n : ℕ) → ltb 0 (suc n) ≡ true
+    some_place n = grind (arith, nat_tests)
+
+    first_place : position (λ (q : Sent). q.transmission.due) (p ∷ ps) ≡ Some 0
+    first_place =
+        (λ i. let k : ℕ = cond (not (due i)) (1 + prefix_len (λ (q : Sent). not q.transmission.due) ps) 0 in cond (ltb k (suc (length ps))) (Some k) None)
+        ∙ ap (λ c. cond c (Some 0) None) (some_place (length ps))
+
+-- and the head of each queue may go, where nothing waits for its acknowledgement
+pub head-due : (o : Occasion) (s : Sender) (c : DataCommand) (rest : List DataCommand) → s.sent ≡ [] → s.queued ≡ c ∷ rest → has_room o c ≡ true → next wire o s ≡ Some (first_sent o.now o.timeout s c rest)
+head-due o s c rest none queued free =
+    let may : may_go wire s.sent o c ≡ true = ap (λ l. may_go wire l o c) none ∙ (λ i. not c.reliable || (true && free i)) ∙ or_true (not c.reliable) in
     ap (λ (l : List Sent). next_of wire o s (position (λ (p : Sent). p.transmission.due) l)) none
     ∙ ap (next_queued wire o s) queued
     ∙ ap (λ b. cond b (Some (first_sent o.now o.timeout s c rest)) None) may
@@ -208,9 +266,6 @@ data-kept pace i k f e = at (slice_get f.outbox.senders i) refl
     fit : AreFit pace f.outbox
     fit = e.fit
 
-    transit-none : transit_of f.outbox ≡ 0
-    transit-none = no-transit f.outbox.senders e.quiet
-
     at : (o : Option SendingEnd) → slice_get f.outbox.senders i ≡ o → Kept pace i k f (channel_step pace i f o)
     at None t = inr (e, λ s u same there other. absurd (let x : Some s ≡ None = sym there ∙ ap (slice_get f.outbox.senders) (sym same) ∙ t in cc))
     at (Some s) t = queue s.sender.queued refl
@@ -231,16 +286,12 @@ data-kept pace i k f e = at (slice_get f.outbox.senders i) refl
         queue (c ∷ rest) is =
             let short = fit.queued i s t c (subst (λ (l : List DataCommand). Has l c) (sym is) (inl refl)) in
             let big = fit.mtu in
-            let most : pace.mtu ≤ transit_limit pace f.outbox = at_least (f.outbox.throttle.value * pace.window / 32) pace.mtu in
             let n : Next = first_sent pace.now pace.timeout s.sender c rest in
-            let due : next wire (occasion pace f.outbox) s.sender ≡ Some n = head-due (occasion pace f.outbox) s.sender c rest none is (let z = transit-none in omega arith) in
+            let due : next wire (occasion pace f.outbox) s.sender ≡ Some n = head-due (occasion pace f.outbox) s.sender c rest none is (room-alone pace f.outbox c (quiet-due f.outbox.senders e.quiet) short) in
             let ok = room pace k f (message_of s.channel c) big e (let z = data-size s.channel c in omega arith) in
             subst (λ x. Kept pace i k f (due_step f i s x)) (sym due)
             (subst (λ b. Kept pace i k f (cond b (data_step f i s n (due_kind c)) (shut f))) (sym ok) (kind (due_kind c) refl))
           where
-            at_least : (a b : ℕ) → b ≤ max a b
-            at_least a b = grind (arith, nat_tests)
-
             n0 : Next
             n0 = first_sent pace.now pace.timeout s.sender c rest
 

@@ -1,5 +1,5 @@
 -- Where a datagram would have nothing in it, nothing may go: no command is due, and no head of a queue may go.
-use Rattle.std.proofs.Common.{◌≡◌, ◌≢◌, ℕ, zero, suc, ◌+◌, ◌-◌, ◌*◌, ◌/◌, ◌<◌, ◌≤◌, ◌&&◌, leb, ltb, max, Bool, true, false, cond, List, [], ◌∷◌, ◌++◌, length, refl, sym, ap, subst, ◌∙◌, inl, inr, ◌⊎◌, arith, Option, Some, None}
+use Rattle.std.proofs.Common.{◌≡◌, ◌≢◌, ℕ, zero, suc, ◌+◌, ◌-◌, ◌<◌, ◌≤◌, ◌&&◌, leb, ltb, Bool, true, false, cond, List, [], ◌∷◌, ◌++◌, length, refl, sym, ap, subst, ◌∙◌, inl, inr, ◌⊎◌, arith, Option, Some, None}
 use Rattle.std.proofs.lemmas.Bool.Decides.{nat_tests}
 use Rattle.std.proofs.lemmas.List.Sums.{sum_by-cons}
 use Rattle.std.specs.Prelude.{sum_by, unwrap_or}
@@ -15,13 +15,13 @@ use Rattle.enet_sender.specs.declared.outgoing.Kind.{Kind}
 use Rattle.enet_sender.specs.declared.outgoing.Kind.TheVariants.{Reliable, Begins, More}
 use Rattle.enet_sender.specs.declared.sent.Sent.{Sent}
 use Rattle.enet_sender.specs.declared.outgoing.Occasion.{Occasion}
-use Rattle.enet_sender.specs.Sender.{Sender, Next, next, next_of, next_queued, next_resent, first_sent, resent, again, begun, may_go, is_more, skipped, with_skipped, bytes_in_transit}
+use Rattle.enet_sender.specs.Sender.{Sender, Next, next, next_of, next_queued, next_resent, first_sent, resent, again, begun, may_go, has_room, bytes_of, price_of, is_more, skipped, with_skipped, bytes_in_transit, prices_in_transit}
 use Rattle.enet_sender.specs.Due.{SendingEnd, due_kind}
 use Rattle.enet_outbox.specs.declared.parts.Acknowledgement.{Acknowledgement}
 use Rattle.enet_outbox.specs.declared.parts.Unsequenced.{Unsequenced}
 use Rattle.enet_outbox.specs.declared.parts.Pace.{Pace}
-use Rattle.enet_outbox.specs.Outbox.{Outbox, transit_of}
-use Rattle.enet_outbox.specs.Emission.{Filling, empty_datagram, size_of, fits, with_command, shut, asked, repeated, with_one_acknowledgement, with_acknowledgements, control_step, with_one_control, with_controls, control_turns, unsequenced_of, unsequenced_asked, unsequenced_step, with_one_unsequenced, with_unsequenced, with_sender, data_put, data_step, due_step, channel_step, with_one_data, with_channel, turns_of, channel_turns, with_channels, turn_order, occasion, filled}
+use Rattle.enet_outbox.specs.Outbox.{Outbox, transit_of, prices_of}
+use Rattle.enet_outbox.specs.Emission.{Filling, empty_datagram, size_of, fits, with_command, shut, asked, repeated, with_one_acknowledgement, with_acknowledgements, control_step, with_one_control, with_controls, control_turns, unsequenced_of, unsequenced_asked, unsequenced_step, with_one_unsequenced, with_unsequenced, with_sender, data_put, data_step, due_step, channel_step, with_one_data, with_channel, turns_of, channel_turns, with_channels, turn_order, transit_limit, price_limit, occasion, filled}
 use Rattle.enet_outbox.proofs.Repeats.{by-repeated, repeated-idle}
 use Rattle.enet_outbox.proofs.Filled.{by-filling}
 use Rattle.enet_receiver.specs.Members.{Has}
@@ -29,13 +29,13 @@ use Rattle.law_progress.specs.Outboxes.{AreFit, AllFit, NothingMayGo, due_count,
 use Rattle.law_progress.proofs.AcknowledgementsGo.{none-waits}
 use Rattle.law_progress.proofs.Filling.{le-leb, data-size, unsequenced-size, Filled, filled-with, unsequenced-filled, data-filled, channel-filled, order-filled}
 use Rattle.law_progress.proofs.NothingLeft.{nothing-left}
-use Rattle.law_progress.proofs.PutsOut.{found-passes, ready-next}
+use Rattle.law_progress.proofs.PutsOut.{found-passes, if-some, ready-next}
 use Rattle.law_progress.proofs.SomethingGoes.{get-set, set-same, same-number, Has-skipped, skipped-length, in-order, below-length}
 use Rattle.law_progress.proofs.Waiting.{Has-at, Has-set, Has-pushed}
 
 -- what a sender puts out next: the head of its queue, or a sent command that is due to go again
 pub data Goes (o : Occasion) (s : Sender) (n : Next) : Type 0 where
-  First : (c : DataCommand) (rest : List DataCommand) → s.queued ≡ c ∷ rest → may_go wire s.sent o.transit o.most c ≡ true → first_sent o.now o.timeout s c rest ≡ n → Goes o s n
+  First : (c : DataCommand) (rest : List DataCommand) → s.queued ≡ c ∷ rest → may_go wire s.sent o c ≡ true → first_sent o.now o.timeout s c rest ≡ n → Goes o s n
   Again : (i : ℕ) (p : Sent) → slice_get s.sent i ≡ Some p → p.transmission.due ≡ true → resent o.now s i p ≡ n → Goes o s n
 
 pub goes-of : (o : Occasion) (s : Sender) (n : Next) → next wire o s ≡ Some n → Goes o s n
@@ -46,15 +46,15 @@ goes-of o s n e = go (position (λ (p : Sent). p.transmission.due) s.sent) refl 
 
     head : (q : List DataCommand) → s.queued ≡ q → next_queued wire o s q ≡ Some n → Goes o s n
     head [] t k = absurd (cc)
-    head (c ∷ rest) t k = by (may_go wire s.sent o.transit o.most c) refl k
+    head (c ∷ rest) t k = by (may_go wire s.sent o c) refl k
       where
-        by : (b : Bool) → may_go wire s.sent o.transit o.most c ≡ b → cond b (Some (first_sent o.now o.timeout s c rest)) None ≡ Some n → Goes o s n
+        by : (b : Bool) → may_go wire s.sent o c ≡ b → cond b (Some (first_sent o.now o.timeout s c rest)) None ≡ Some n → Goes o s n
         by true m h = First c rest t m (some-is h)
         by false m h = absurd (cc)
 
-    sent : (i : ℕ) → position (λ (p : Sent). p.transmission.due) s.sent ≡ Some i → (p : Option Sent) → slice_get s.sent i ≡ p → next_resent o.now s i p ≡ Some n → Goes o s n
+    sent : (i : ℕ) → position (λ (p : Sent). p.transmission.due) s.sent ≡ Some i → (p : Option Sent) → slice_get s.sent i ≡ p → next_resent o s i p ≡ Some n → Goes o s n
     sent i w None t k = absurd (cc)
-    sent i w (Some p) t k = Again i p t (found-passes (λ (q : Sent). q.transmission.due) s.sent i p w t) (some-is k)
+    sent i w (Some p) t k = Again i p t (found-passes (λ (q : Sent). q.transmission.due) s.sent i p w t) (if-some (has_room o p.command) (resent o.now s i p) n k)
 
     go : (w : Option ℕ) → position (λ (p : Sent). p.transmission.due) s.sent ≡ w → next_of wire o s w ≡ Some n → Goes o s n
     go None w k = head s.queued refl k
@@ -95,12 +95,23 @@ sum-set f (z ∷ zs) (suc k) x y t e =
     let b : sum_by f (z ∷ zs) ≡ f z + sum_by f zs = sum_by-cons f z zs in
     omega arith
 
-transit-left : (o : Occasion) (s : Sender) (n : Next) → Goes o s n → n.command.reliable ≡ false → bytes_in_transit n.sender ≡ bytes_in_transit s
-transit-left o s n (First c rest q may is) unreliable =
+-- what an unreliable command weighs in transit, which is nothing, changes nothing
+abbrev weighs : (DataCommand → ℕ) → Sent → ℕ
+weighs weight p = cond p.transmission.due 0 (weight p.command)
+
+weight-left : (weight : DataCommand → ℕ) → ((c : DataCommand) → c.reliable ≡ false → weight c ≡ 0) → (o : Occasion) (s : Sender) (n : Next) → Goes o s n → n.command.reliable ≡ false → sum_by (weighs weight) n.sender.sent ≡ sum_by (weighs weight) s.sent
+weight-left weight none o s n (First c rest q may is) unreliable =
     let r : c.reliable ≡ false = ap (λ (x : Next). x.command.reliable) is ∙ unreliable in
-    ap (λ (x : Next). bytes_in_transit x.sender) (sym is) ∙ ap (λ b. sum_by (λ (p : Sent). length p.command.body) (cond b (s.sent ++ begun o.now o.timeout c ∷ []) s.sent)) r
-transit-left o s n (Again i p there due is) unreliable =
-    ap (λ (x : Next). bytes_in_transit x.sender) (sym is) ∙ sum-set (λ (q : Sent). length q.command.body) s.sent i p (again o.now p) there refl
+    ap (λ (x : Next). sum_by (weighs weight) x.sender.sent) (sym is) ∙ ap (λ b. sum_by (weighs weight) (cond b (s.sent ++ begun o.now o.timeout c ∷ []) s.sent)) r
+weight-left weight none o s n (Again i p there due is) unreliable =
+    let r : p.command.reliable ≡ false = ap (λ (x : Next). x.command.reliable) is ∙ unreliable in
+    ap (λ (x : Next). sum_by (weighs weight) x.sender.sent) (sym is) ∙ sum-set (weighs weight) s.sent i p (again o.now p) there (none p.command r ∙ sym (ap (λ b. cond b 0 (weight p.command)) due))
+
+transit-left : (o : Occasion) (s : Sender) (n : Next) → Goes o s n → n.command.reliable ≡ false → bytes_in_transit n.sender ≡ bytes_in_transit s
+transit-left o s n g unreliable = weight-left bytes_of (λ c r. ap (λ b. cond b (length c.body) 0) r) o s n g unreliable
+
+prices-left : (o : Occasion) (s : Sender) (n : Next) → Goes o s n → n.command.reliable ≡ false → prices_in_transit n.sender ≡ prices_in_transit s
+prices-left o s n g unreliable = weight-left price_of (λ c r. ap (λ b. cond b (length c.body + 28) 0) r) o s n g unreliable
 
 -- where nothing is ready, nothing goes
 none-ready : (o : Occasion) (s : Sender) → ready_at s ≤ 0 → next wire o s ≡ None
@@ -151,23 +162,18 @@ filled-fits pace o all = by-filling pace o (λ f. AllFit pace f.outbox) (record 
       (λ x h. sent-left _ s.sender n (λ c. length c.body + 28 ≤ pace.mtu) (goes-of _ s.sender n due) (λ c j. g.fit.queued k s there c j) (λ p j. g.sent k s there p j) x h);
 }) all
 
--- what a sender is told, by the bytes in transit and the throttle's value
-abbrev told : Pace → ℕ → ℕ → Occasion
-told pace transit value = record { now = pace.now; timeout = pace.timeout; transit = transit; most = max (value * pace.window / 32) pace.mtu }
-
--- a datagram that is still empty, of an outbox with so many bytes in transit, this throttle and at most so many unsequenced packets
-record Blank (pace : Pace) (transit value most : ℕ) (f : Filling) : Type 0 where
+-- a datagram that is still empty, of an outbox whose senders are told this, with at most so many unsequenced packets
+record Blank (pace : Pace) (told : Occasion) (most : ℕ) (f : Filling) : Type 0 where
   closed : f.closed ≡ false
   bytes : f.bytes ≡ pace.mtu - 4
   commands : f.commands ≡ 32
   fit : AllFit pace f.outbox
-  transit_is : transit_of f.outbox ≡ transit
-  value_is : f.outbox.throttle.value ≡ value
+  told_is : occasion pace f.outbox ≡ told
   few : length f.outbox.unsequenced ≤ most
 
 -- into it each of them fits
-room : (pace : Pace) (transit value most : ℕ) (f : Filling) (m : Message) → Blank pace transit value most f → 576 ≤ pace.mtu → size_of m ≤ pace.mtu - 4 → fits f m ≡ true
-room pace transit value most f m e big small =
+room : (pace : Pace) (told : Occasion) (most : ℕ) (f : Filling) (m : Message) → Blank pace told most f → 576 ≤ pace.mtu → size_of m ≤ pace.mtu - 4 → fits f m ≡ true
+room pace told most f m e big small =
     let bytes = e.bytes in
     let a : ltb 0 f.commands ≡ true = some f.commands e.commands in
     let b : leb (size_of m) f.bytes ≡ true = le-leb (size_of m) f.bytes (omega arith) in
@@ -177,8 +183,8 @@ room pace transit value most f m e big small =
     some n h = grind (arith, nat_tests)
 
 -- unsequenced packets: one goes, or is dropped
-unsequenced-once : (pace : Pace) (transit value most : ℕ) (f : Filling) → Blank pace transit value (suc most) f → Filled (with_one_unsequenced f) ⊎ Blank pace transit value most (with_one_unsequenced f)
-unsequenced-once pace transit value most f e = by f.outbox.unsequenced refl
+unsequenced-once : (pace : Pace) (told : Occasion) (most : ℕ) (f : Filling) → Blank pace told (suc most) f → Filled (with_one_unsequenced f) ⊎ Blank pace told most (with_one_unsequenced f)
+unsequenced-once pace told most f e = by f.outbox.unsequenced refl
   where
     all : AllFit pace f.outbox
     all = e.fit
@@ -186,16 +192,16 @@ unsequenced-once pace transit value most f e = by f.outbox.unsequenced refl
     fit : AreFit pace f.outbox
     fit = all.fit
 
-    by : (us : List Unsequenced) → f.outbox.unsequenced ≡ us → Filled (unsequenced_step f us) ⊎ Blank pace transit value most (unsequenced_step f us)
-    by [] is = inr (record { closed = e.closed; bytes = e.bytes; commands = e.commands; fit = e.fit; transit_is = e.transit_is; value_is = e.value_is; few = (let z : length f.outbox.unsequenced ≡ 0 = ap (λ (l : List Unsequenced). length l) is in omega arith) })
+    by : (us : List Unsequenced) → f.outbox.unsequenced ≡ us → Filled (unsequenced_step f us) ⊎ Blank pace told most (unsequenced_step f us)
+    by [] is = inr (record { closed = e.closed; bytes = e.bytes; commands = e.commands; fit = e.fit; told_is = e.told_is; few = (let z : length f.outbox.unsequenced ≡ 0 = ap (λ (l : List Unsequenced). length l) is in omega arith) })
     by (u ∷ rest) is =
         let m = unsequenced_of u in
         let short = fit.unsequenced u (subst (λ xs. Has xs u) (sym is) (inl refl)) in
         let big = fit.mtu in
-        let ok = room pace transit value (suc most) f m e big (let z = unsequenced-size u in omega arith) in
+        let ok = room pace told (suc most) f m e big (let z = unsequenced-size u in omega arith) in
         let put : Filling = with_command f m (record (asked f.outbox) { unsequenced = rest; last = Some u.channel }) in
         let drop : Filling = record f { outbox = record (asked f.outbox) { unsequenced = rest } } in
-        let left : Blank pace transit value most drop = record {
+        let left : Blank pace told most drop = record {
           closed = e.closed;
           bytes = e.bytes;
           commands = e.commands;
@@ -203,44 +209,43 @@ unsequenced-once pace transit value most f e = by f.outbox.unsequenced refl
             fit = record { mtu = fit.mtu; unsequenced = λ x h. fit.unsequenced x (subst (λ xs. Has xs x) (sym is) (inr h)); queued = fit.queued };
             sent = all.sent;
           };
-          transit_is = e.transit_is;
-          value_is = e.value_is;
+          told_is = e.told_is;
           few = (let few = e.few in let z : length f.outbox.unsequenced ≡ suc (length rest) = ap (λ (l : List Unsequenced). length l) is in omega arith);
         } in
-        subst (λ b. Filled (cond b (unsequenced_asked f u rest) (shut f)) ⊎ Blank pace transit value most (cond b (unsequenced_asked f u rest) (shut f))) (sym ok)
-        (elim (is_admitted f.outbox.throttle) as (λ b. Filled (cond b put drop) ⊎ Blank pace transit value most (cond b put drop)) [
+        subst (λ b. Filled (cond b (unsequenced_asked f u rest) (shut f)) ⊎ Blank pace told most (cond b (unsequenced_asked f u rest) (shut f))) (sym ok)
+        (elim (is_admitted f.outbox.throttle) as (λ b. Filled (cond b put drop) ⊎ Blank pace told most (cond b put drop)) [
           | true ↦ inl (filled-with f m (record (asked f.outbox) { unsequenced = rest; last = Some u.channel }))
           | false ↦ inr left
         ])
 
-unsequenced-all : (pace : Pace) (transit value n : ℕ) (f : Filling) → Blank pace transit value n f → Filled (repeated n with_one_unsequenced f) ⊎ Blank pace transit value 0 (repeated n with_one_unsequenced f)
-unsequenced-all pace transit value zero f e = inr e
-unsequenced-all pace transit value (suc n) f e =
-    subst (λ (g : Filling). Filled (repeated n with_one_unsequenced g) ⊎ Blank pace transit value 0 (repeated n with_one_unsequenced g)) (sym (ap (λ b. cond b f (with_one_unsequenced f)) e.closed))
-    (elim (unsequenced-once pace transit value n f e) [
+unsequenced-all : (pace : Pace) (told : Occasion) (n : ℕ) (f : Filling) → Blank pace told n f → Filled (repeated n with_one_unsequenced f) ⊎ Blank pace told 0 (repeated n with_one_unsequenced f)
+unsequenced-all pace told zero f e = inr e
+unsequenced-all pace told (suc n) f e =
+    subst (λ (g : Filling). Filled (repeated n with_one_unsequenced g) ⊎ Blank pace told 0 (repeated n with_one_unsequenced g)) (sym (ap (λ b. cond b f (with_one_unsequenced f)) e.closed))
+    (elim (unsequenced-once pace told n f e) [
       | inl h ↦ inl (by-repeated Filled n with_one_unsequenced unsequenced-filled (with_one_unsequenced f) h)
-      | inr g ↦ unsequenced-all pace transit value n (with_one_unsequenced f) g
+      | inr g ↦ unsequenced-all pace told n (with_one_unsequenced f) g
     ])
 
 -- of a channel nothing may go
-abbrev Done : Pace → ℕ → ℕ → ℕ → Filling → Type 0
-Done pace transit value k f = (s : SendingEnd) → slice_get f.outbox.senders k ≡ Some s → next wire (told pace transit value) s.sender ≡ None
+abbrev Done : Pace → Occasion → ℕ → Filling → Type 0
+Done pace told k f = (s : SendingEnd) → slice_get f.outbox.senders k ≡ Some s → next wire told s.sender ≡ None
 
 -- a command of channel i was due, and was dropped: less is ready there, and the other channels are as before
-record Dropped (pace : Pace) (transit value i : ℕ) (f g : Filling) : Type 0 where
-  blank : Blank pace transit value 0 g
+record Dropped (pace : Pace) (told : Occasion) (i : ℕ) (f g : Filling) : Type 0 where
+  blank : Blank pace told 0 g
   end : SendingEnd
   there : slice_get f.outbox.senders i ≡ Some end
   due : Next
-  is_due : next wire (told pace transit value) end.sender ≡ Some due
+  is_due : next wire told end.sender ≡ Some due
   less : (t : SendingEnd) → slice_get g.outbox.senders i ≡ Some t → ready_at t.sender + 1 ≤ ready_at end.sender
   others : (j : ℕ) → i ≢ j → (t : SendingEnd) → slice_get g.outbox.senders j ≡ Some t → slice_get f.outbox.senders j ≡ Some t
 
-abbrev After : Pace → ℕ → ℕ → ℕ → Filling → Filling → Type 0
-After pace transit value i f g = Filled g ⊎ (((g ≡ f) × Done pace transit value i f) ⊎ Dropped pace transit value i f g)
+abbrev After : Pace → Occasion → ℕ → Filling → Filling → Type 0
+After pace told i f g = Filled g ⊎ (((g ≡ f) × Done pace told i f) ⊎ Dropped pace told i f g)
 
-data-after : (pace : Pace) (transit value i : ℕ) (f : Filling) → Blank pace transit value 0 f → After pace transit value i f (with_one_data pace i f)
-data-after pace transit value i f e = at (slice_get f.outbox.senders i) refl
+data-after : (pace : Pace) (told : Occasion) (i : ℕ) (f : Filling) → Blank pace told 0 f → After pace told i f (with_one_data pace i f)
+data-after pace told i f e = at (slice_get f.outbox.senders i) refl
   where
     all : AllFit pace f.outbox
     all = e.fit
@@ -248,32 +253,29 @@ data-after pace transit value i f e = at (slice_get f.outbox.senders i) refl
     fit : AreFit pace f.outbox
     fit = all.fit
 
-    same-told : occasion pace f.outbox ≡ told pace transit value
-    same-told = λ j. record { now = pace.now; timeout = pace.timeout; transit = e.transit_is j; most = max (e.value_is j * pace.window / 32) pace.mtu }
-
-    at : (o : Option SendingEnd) → slice_get f.outbox.senders i ≡ o → After pace transit value i f (channel_step pace i f o)
+    at : (o : Option SendingEnd) → slice_get f.outbox.senders i ≡ o → After pace told i f (channel_step pace i f o)
     at None t = inr (inl (refl, λ s there. absurd (let x : Some s ≡ None = sym there ∙ t in cc)))
-    at (Some s) t = subst (λ (o : Occasion). After pace transit value i f (due_step f i s (next wire o s.sender))) (sym same-told) (due (next wire (told pace transit value) s.sender) refl)
+    at (Some s) t = subst (λ (o : Occasion). After pace told i f (due_step f i s (next wire o s.sender))) (sym e.told_is) (due (next wire told s.sender) refl)
       where
         o : Occasion
-        o = told pace transit value
+        o = told
 
-        due : (x : Option Next) → next wire o s.sender ≡ x → After pace transit value i f (due_step f i s x)
+        due : (x : Option Next) → next wire o s.sender ≡ x → After pace told i f (due_step f i s x)
         due None is = inr (inl (refl, λ x there. (let one : Some s ≡ Some x = sym t ∙ there in let it : s ≡ x = cc in subst (λ (y : SendingEnd). next wire o y.sender ≡ None) it is)))
         due (Some n) is =
             let g = goes-of o s.sender n is in
             let big = fit.mtu in
             let short : length n.command.body + 28 ≤ pace.mtu = member o s.sender n (λ c. length c.body + 28 ≤ pace.mtu) g (λ c h. fit.queued i s t c h) (λ x h. all.sent i s t x h) in
-            let ok = room pace transit value 0 f (message_of s.channel n.command) e big (let z = data-size s.channel n.command in omega arith) in
-            subst (λ b. After pace transit value i f (cond b (data_step f i s n (due_kind n.command)) (shut f))) (sym ok) (kind (due_kind n.command) refl)
+            let ok = room pace told 0 f (message_of s.channel n.command) e big (let z = data-size s.channel n.command in omega arith) in
+            subst (λ b. After pace told i f (cond b (data_step f i s n (due_kind n.command)) (shut f))) (sym ok) (kind (due_kind n.command) refl)
           where
             g : Goes o s.sender n
             g = goes-of o s.sender n is
 
-            kind : (d : Kind) → due_kind n.command ≡ d → After pace transit value i f (data_step f i s n d)
+            kind : (d : Kind) → due_kind n.command ≡ d → After pace told i f (data_step f i s n d)
             kind Reliable x = inl (filled-with f (message_of s.channel n.command) (record (with_sender f.outbox i (record s { sender = n.sender })) { last = Some i }))
             kind More x = inl (filled-with f (message_of s.channel n.command) (record (with_sender f.outbox i (record s { sender = n.sender })) { last = Some i }))
-            kind Begins x = elim (is_admitted f.outbox.throttle) as (λ b. After pace transit value i f (cond b (data_put f i s n (asked f.outbox)) dropped)) [
+            kind Begins x = elim (is_admitted f.outbox.throttle) as (λ b. After pace told i f (cond b (data_put f i s n (asked f.outbox)) dropped)) [
               | true ↦ inl (filled-with f (message_of s.channel n.command) (record (with_sender (asked f.outbox) i (record s { sender = n.sender })) { last = Some i }))
               | false ↦ inr (inr left)
             ]
@@ -291,7 +293,16 @@ data-after pace transit value i f e = at (slice_get f.outbox.senders i) refl
                     by true m h = cc
                     by false m h = refl
 
-                blank : Blank pace transit value 0 dropped
+                transit_same : transit_of dropped.outbox ≡ transit_of f.outbox
+                transit_same = sum-set (λ (z : SendingEnd). bytes_in_transit z.sender) f.outbox.senders i s after t (transit-left o s.sender n g unreliable)
+
+                prices_same : prices_of dropped.outbox ≡ prices_of f.outbox
+                prices_same = sum-set (λ (z : SendingEnd). prices_in_transit z.sender) f.outbox.senders i s after t (prices-left o s.sender n g unreliable)
+
+                same_told : occasion pace dropped.outbox ≡ occasion pace f.outbox
+                same_told = λ j. record { now = pace.now; timeout = pace.timeout; transit = transit_same j; most = transit_limit pace f.outbox; prices = prices_same j; dearest = price_limit pace f.outbox }
+
+                blank : Blank pace told 0 dropped
                 blank = record {
                   closed = e.closed;
                   bytes = e.bytes;
@@ -299,12 +310,11 @@ data-after pace transit value i f e = at (slice_get f.outbox.senders i) refl
                   fit = sender-fits pace f.outbox dropped.outbox i s after e.fit t refl refl
                       (λ d h. fit.queued i s t d (queued-left o s.sender n d g (Has-skipped n.sender.queued d h)))
                       (λ d h. sent-left o s.sender n (λ c. length c.body + 28 ≤ pace.mtu) g (λ c k. fit.queued i s t c k) (λ p k. all.sent i s t p k) d h);
-                  transit_is = sum-set (λ (z : SendingEnd). bytes_in_transit z.sender) f.outbox.senders i s after t (transit-left o s.sender n g unreliable) ∙ e.transit_is;
-                  value_is = e.value_is;
+                  told_is = same_told ∙ e.told_is;
                   few = e.few;
                 }
 
-                left : Dropped pace transit value i f dropped
+                left : Dropped pace told i f dropped
                 left = record {
                   blank = blank;
                   end = s;
@@ -322,58 +332,58 @@ data-after pace transit value i f e = at (slice_get f.outbox.senders i) refl
                 }
 
 -- asked often enough, a channel puts something in, or nothing of it may go
-drains : (pace : Pace) (transit value k n : ℕ) (f : Filling) → Blank pace transit value 0 f → ((s : SendingEnd) → slice_get f.outbox.senders k ≡ Some s → ready_at s.sender ≤ n)
-    → Filled (repeated n (with_one_data pace k) f) ⊎ (Blank pace transit value 0 (repeated n (with_one_data pace k) f) × Done pace transit value k (repeated n (with_one_data pace k) f))
-drains pace transit value k zero f e few = inr (e, λ s there. none-ready (told pace transit value) s.sender (few s there))
-drains pace transit value k (suc n) f e few =
+drains : (pace : Pace) (told : Occasion) (k n : ℕ) (f : Filling) → Blank pace told 0 f → ((s : SendingEnd) → slice_get f.outbox.senders k ≡ Some s → ready_at s.sender ≤ n)
+    → Filled (repeated n (with_one_data pace k) f) ⊎ (Blank pace told 0 (repeated n (with_one_data pace k) f) × Done pace told k (repeated n (with_one_data pace k) f))
+drains pace told k zero f e few = inr (e, λ s there. none-ready told s.sender (few s there))
+drains pace told k (suc n) f e few =
     subst (λ (g : Filling). Rests (repeated n (with_one_data pace k) g)) (sym (ap (λ b. cond b f (with_one_data pace k f)) e.closed))
-    (elim (data-after pace transit value k f e) [
+    (elim (data-after pace told k f e) [
       | inl h ↦ inl (channel-filled pace k n (with_one_data pace k f) h)
       | inr (inl idle) ↦ subst (λ (g : Filling). Rests g) (sym (ap (repeated n (with_one_data pace k)) idle.0 ∙ repeated-idle n (with_one_data pace k) f e.closed idle.0)) (inr (e, idle.1))
-      | inr (inr d) ↦ drains pace transit value k n (with_one_data pace k f) d.blank (λ s there. (let less = d.less s there in let all = few d.end d.there in omega arith))
+      | inr (inr d) ↦ drains pace told k n (with_one_data pace k f) d.blank (λ s there. (let less = d.less s there in let all = few d.end d.there in omega arith))
     ])
   where
     Rests : Filling → Type 0
-    Rests g = Filled g ⊎ (Blank pace transit value 0 g × Done pace transit value k g)
+    Rests g = Filled g ⊎ (Blank pace told 0 g × Done pace told k g)
 
 -- another channel, whether or not nothing of the one may go
-abbrev Going : Pace → ℕ → ℕ → Filling → Type 0
-Going pace transit value f = Filled f ⊎ Blank pace transit value 0 f
+abbrev Going : Pace → Occasion → Filling → Type 0
+Going pace told f = Filled f ⊎ Blank pace told 0 f
 
-abbrev Gone : Pace → ℕ → ℕ → ℕ → Filling → Type 0
-Gone pace transit value k f = Filled f ⊎ (Blank pace transit value 0 f × Done pace transit value k f)
+abbrev Gone : Pace → Occasion → ℕ → Filling → Type 0
+Gone pace told k f = Filled f ⊎ (Blank pace told 0 f × Done pace told k f)
 
-going-step : (pace : Pace) (transit value i : ℕ) (f : Filling) → Going pace transit value f → Going pace transit value (with_one_data pace i f)
-going-step pace transit value i f (inl h) = inl (data-filled pace i f h)
-going-step pace transit value i f (inr e) = elim (data-after pace transit value i f e) [
+going-step : (pace : Pace) (told : Occasion) (i : ℕ) (f : Filling) → Going pace told f → Going pace told (with_one_data pace i f)
+going-step pace told i f (inl h) = inl (data-filled pace i f h)
+going-step pace told i f (inr e) = elim (data-after pace told i f e) [
   | inl h ↦ inl h
-  | inr (inl idle) ↦ inr (subst (λ (g : Filling). Blank pace transit value 0 g) (sym idle.0) e)
+  | inr (inl idle) ↦ inr (subst (λ (g : Filling). Blank pace told 0 g) (sym idle.0) e)
   | inr (inr d) ↦ inr d.blank
 ]
 
-gone-step : (pace : Pace) (transit value k i : ℕ) (f : Filling) → Gone pace transit value k f → Gone pace transit value k (with_one_data pace i f)
-gone-step pace transit value k i f (inl h) = inl (data-filled pace i f h)
-gone-step pace transit value k i f (inr (e, none)) = elim (data-after pace transit value i f e) [
+gone-step : (pace : Pace) (told : Occasion) (k i : ℕ) (f : Filling) → Gone pace told k f → Gone pace told k (with_one_data pace i f)
+gone-step pace told k i f (inl h) = inl (data-filled pace i f h)
+gone-step pace told k i f (inr (e, none)) = elim (data-after pace told i f e) [
   | inl h ↦ inl h
-  | inr (inl idle) ↦ inr (subst (λ (g : Filling). Blank pace transit value 0 g × Done pace transit value k g) (sym idle.0) (e, none))
+  | inr (inl idle) ↦ inr (subst (λ (g : Filling). Blank pace told 0 g × Done pace told k g) (sym idle.0) (e, none))
   | inr (inr d) ↦ elim (same-number i k) [
     | inl same ↦ absurd (let z : Some d.due ≡ None = sym d.is_due ∙ none d.end (subst (λ j. slice_get f.outbox.senders j ≡ Some d.end) same d.there) in cc)
     | inr apart ↦ inr (d.blank, λ s there. none s (d.others k apart s there))
   ]
 ]
 
-order-gone : (pace : Pace) (transit value k : ℕ) (order : List ℕ) (f : Filling) → Gone pace transit value k f → Gone pace transit value k (with_channels pace order f)
-order-gone pace transit value k [] f g = g
-order-gone pace transit value k (i ∷ rest) f g =
-    order-gone pace transit value k rest (with_channel pace f i) (by-repeated (Gone pace transit value k) (channel_turns f.outbox i) (with_one_data pace i) (gone-step pace transit value k i) f g)
+order-gone : (pace : Pace) (told : Occasion) (k : ℕ) (order : List ℕ) (f : Filling) → Gone pace told k f → Gone pace told k (with_channels pace order f)
+order-gone pace told k [] f g = g
+order-gone pace told k (i ∷ rest) f g =
+    order-gone pace told k rest (with_channel pace f i) (by-repeated (Gone pace told k) (channel_turns f.outbox i) (with_one_data pace i) (gone-step pace told k i) f g)
 
-order-reaches : (pace : Pace) (transit value k : ℕ) (order : List ℕ) (f : Filling) → Has order k → Going pace transit value f → Gone pace transit value k (with_channels pace order f)
-order-reaches pace transit value k [] f h g = absurd h
-order-reaches pace transit value k (i ∷ rest) f h (inl filled') = inl (order-filled pace (i ∷ rest) f filled')
-order-reaches pace transit value k (i ∷ rest) f (inr h) (inr e) =
-    order-reaches pace transit value k rest (with_channel pace f i) h (by-repeated (Going pace transit value) (channel_turns f.outbox i) (with_one_data pace i) (going-step pace transit value i) f (inr e))
-order-reaches pace transit value k (i ∷ rest) f (inl same) (inr e) =
-    order-gone pace transit value k rest (with_channel pace f i) (subst (λ j. Gone pace transit value k (with_channel pace f j)) (sym same) (drains pace transit value k (channel_turns f.outbox k) f e turns))
+order-reaches : (pace : Pace) (told : Occasion) (k : ℕ) (order : List ℕ) (f : Filling) → Has order k → Going pace told f → Gone pace told k (with_channels pace order f)
+order-reaches pace told k [] f h g = absurd h
+order-reaches pace told k (i ∷ rest) f h (inl filled') = inl (order-filled pace (i ∷ rest) f filled')
+order-reaches pace told k (i ∷ rest) f (inr h) (inr e) =
+    order-reaches pace told k rest (with_channel pace f i) h (by-repeated (Going pace told) (channel_turns f.outbox i) (with_one_data pace i) (going-step pace told i) f (inr e))
+order-reaches pace told k (i ∷ rest) f (inl same) (inr e) =
+    order-gone pace told k rest (with_channel pace f i) (subst (λ j. Gone pace told k (with_channel pace f j)) (sym same) (drains pace told k (channel_turns f.outbox k) f e turns))
   where
     turns : (s : SendingEnd) → slice_get f.outbox.senders k ≡ Some s → ready_at s.sender ≤ channel_turns f.outbox k
     turns s there =
@@ -422,8 +432,8 @@ nothing-may-go pace o fit none = record {
     f3 : Filling
     f3 = with_unsequenced f0
 
-    going : Going pace (transit_of o) o.throttle.value f3
-    going = unsequenced-all pace (transit_of o) o.throttle.value (length o.unsequenced) f0 (record { closed = refl; bytes = refl; commands = refl; fit = fit; transit_is = refl; value_is = refl; few = omega arith })
+    going : Going pace (occasion pace o) f3
+    going = unsequenced-all pace (occasion pace o) (length o.unsequenced) f0 (record { closed = refl; bytes = refl; commands = refl; fit = fit; told_is = refl; few = omega arith })
 
     is : filled pace o ≡ with_channels pace (turn_order o) f3
     is = ap (λ (f : Filling). with_channels pace (turn_order o) (with_unsequenced f)) begins
@@ -431,11 +441,11 @@ nothing-may-go pace o fit none = record {
     empty : Filled (with_channels pace (turn_order o) f3) → ⊥
     empty h = subst (λ (l : List Message). Has l h.0) (ap (λ (f : Filling). f.messages) (sym is) ∙ none) h.1
 
-    gone : (k : ℕ) → k < length o.senders → Blank pace (transit_of o) o.throttle.value 0 (filled pace o) × Done pace (transit_of o) o.throttle.value k (filled pace o)
-    gone k low = subst (λ (f : Filling). Blank pace (transit_of o) o.throttle.value 0 f × Done pace (transit_of o) o.throttle.value k f) (sym is)
-        (by (order-reaches pace (transit_of o) o.throttle.value k (turn_order o) f3 (in-order (unwrap_or (option_map (λ channel. channel + 1) o.last) 0) (length o.senders) k low) going))
+    gone : (k : ℕ) → k < length o.senders → Blank pace (occasion pace o) 0 (filled pace o) × Done pace (occasion pace o) k (filled pace o)
+    gone k low = subst (λ (f : Filling). Blank pace (occasion pace o) 0 f × Done pace (occasion pace o) k f) (sym is)
+        (by (order-reaches pace (occasion pace o) k (turn_order o) f3 (in-order (unwrap_or (option_map (λ channel. channel + 1) o.last) 0) (length o.senders) k low) going))
       where
-        by : Gone pace (transit_of o) o.throttle.value k (with_channels pace (turn_order o) f3) → Blank pace (transit_of o) o.throttle.value 0 (with_channels pace (turn_order o) f3) × Done pace (transit_of o) o.throttle.value k (with_channels pace (turn_order o) f3)
+        by : Gone pace (occasion pace o) k (with_channels pace (turn_order o) f3) → Blank pace (occasion pace o) 0 (with_channels pace (turn_order o) f3) × Done pace (occasion pace o) k (with_channels pace (turn_order o) f3)
         by (inl h) = absurd (empty h)
         by (inr h) = h
 
@@ -449,7 +459,7 @@ nothing-may-go pace o fit none = record {
         alone : filled pace o ≡ f3
         alone = is ∙ ap (λ (l : List SendingEnd). with_channels pace (turn_order (record o { senders = l })) f3) e
 
-        left : Going pace (transit_of o) o.throttle.value f3 → f3.outbox.unsequenced ≡ []
+        left : Going pace (occasion pace o) f3 → f3.outbox.unsequenced ≡ []
         left (inl h) = absurd (empty (order-filled pace (turn_order o) f3 h))
         left (inr b) = nil f3.outbox.unsequenced b.few
     no-unsequenced (x ∷ xs) e = (let g = gone 0 (let z : length o.senders ≡ suc (length xs) = ap (λ (l : List SendingEnd). length l) e in omega arith) in nil (filled pace o).outbox.unsequenced g.0.few)
@@ -469,5 +479,4 @@ nothing-may-go pace o fit none = record {
     channels k s there =
         let g = gone k (below k s there) in
         let b = g.0 in
-        let same : occasion pace (filled pace o).outbox ≡ told pace (transit_of o) o.throttle.value = (λ j. record { now = pace.now; timeout = pace.timeout; transit = b.transit_is j; most = max (b.value_is j * pace.window / 32) pace.mtu }) in
-        ap (λ (x : Occasion). next wire x s.sender) same ∙ g.1 s there
+        ap (λ (x : Occasion). next wire x s.sender) b.told_is ∙ g.1 s there

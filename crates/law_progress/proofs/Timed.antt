@@ -1,10 +1,11 @@
 -- How a command goes again and again, on a clock that doesn't wrap: its timeout grows no faster than the time since its first send.
 -- One that is late may stay so for a while, as long as patience isn't over.
-use Rattle.std.proofs.Common.{◌≡◌, ℕ, ◌+◌, ◌-◌, ◌*◌, ◌%◌, ◌^◌, ◌<◌, ◌≤◌, ◌&&◌, not, leb, Bool, true, false, cond, refl, sym, ap, subst, ◌∙◌, inl, inr, ◌⊎◌, arith}
+use Rattle.std.proofs.Common.{◌≡◌, ℕ, ◌+◌, ◌-◌, ◌*◌, ◌%◌, ◌^◌, ◌<◌, ◌≤◌, ◌&&◌, not, leb, max, Bool, true, false, cond, refl, sym, ap, subst, ◌∙◌, inl, inr, ◌⊎◌, arith}
 use Rattle.std.proofs.lemmas.Bool.Decides.{nat_tests}
 use Rattle.enet_rtt.specs.Clock.{elapsed_time}
 use Rattle.enet_rtt.specs.Transmission as transmission
 use Rattle.enet_rtt.specs.declared.transmission.Transmission.{Transmission}
+use Rattle.enet_rtt.specs.declared.transmission.Tick.{Tick}
 
 -- by now a command that first went at this moment, with at most this timeout, goes on as it should, where patience lasts for `most`
 pub record Timed (first wait most now : ℕ) (t : Transmission) : Type 0 where
@@ -40,8 +41,26 @@ le-of m n e = grind (arith, nat_tests)
 pub lt-of : (m n : ℕ) → leb m n ≡ false → n < m
 lt-of m n e = grind (arith, nat_tests)
 
-at-most-twice : (bound t : ℕ) → transmission.grown_time bound t ≤ 2 * t
-at-most-twice bound t = grind arith
+-- the next timeout is that of a first send, or at most twice what it was
+pub at-most-twice : (tick : Tick) (t : Transmission) → transmission.next_time tick t ≤ max tick.present (2 * t.timeout)
+at-most-twice tick t = by (transmission.is_heard_since tick t)
+  where
+    answered : (present k : ℕ) → transmission.answered_time present k ≤ max present (2 * k)
+    answered present k = grind arith
+
+    grown : (present bound k : ℕ) → transmission.grown_time bound k ≤ max present (2 * k)
+    grown present bound k = grind arith
+
+    by : (b : Bool) → cond b (transmission.answered_time tick.present t.timeout) (transmission.grown_time tick.bound t.timeout) ≤ max tick.present (2 * t.timeout)
+    by true = answered tick.present t.timeout
+    by false = grown tick.present tick.bound t.timeout
+
+-- so it is no longer than the longest at first, and the time since
+pub next-within : (tick : Tick) (t : Transmission) (wait gone : ℕ) → tick.present ≤ wait → 2 * t.timeout ≤ wait + gone → transmission.next_time tick t ≤ wait + gone
+next-within tick t wait gone low twice = least (transmission.next_time tick t) tick.present (2 * t.timeout) low twice (at-most-twice tick t)
+  where
+    least : (n a b : ℕ) → a ≤ wait → b ≤ wait + gone → n ≤ max a b → n ≤ wait + gone
+    least n a b k l h = grind arith
 
 -- a moment comes at which it hasn't waited out its timeout
 pub timed-waits : (first wait most before now : ℕ) (t : Transmission) → Timed first wait most before t → t.due ≡ false → before ≤ now → now < first + 2 ^ 32 → leb t.timeout (elapsed_time (now % 2 ^ 32) t.last) ≡ false
@@ -70,9 +89,9 @@ over-brief first wait most before now t w up near patient =
     omega arith
 
 -- and it is due to go again
-pub timed-late : (first wait most before now bound : ℕ) (t : Transmission) → Timed first wait most before t → t.due ≡ false → before ≤ now → now < first + 2 ^ 32 → leb t.timeout (elapsed_time (now % 2 ^ 32) t.last) ≡ true
-    → leb most (elapsed_time (now % 2 ^ 32) t.first) ≡ false → Timed first wait most now (record t { timeout = transmission.grown_time bound t.timeout; due = true })
-timed-late first wait most before now bound t w waits up near late patient = by w.grown
+pub timed-late : (first wait most before now : ℕ) (tick : Tick) (t : Transmission) → tick.present ≤ wait → Timed first wait most before t → t.due ≡ false → before ≤ now → now < first + 2 ^ 32 → leb t.timeout (elapsed_time (now % 2 ^ 32) t.last) ≡ true
+    → leb most (elapsed_time (now % 2 ^ 32) t.first) ≡ false → Timed first wait most now (record t { timeout = transmission.next_time tick t; due = true })
+timed-late first wait most before now tick t present w waits up near late patient = by w.grown
   where
     low : w.last ≤ now
     low = let b = w.by in omega arith
@@ -87,26 +106,29 @@ timed-late first wait most before now bound t w waits up near late patient = by 
     brief = over-brief first wait most before now t w up near patient
 
     by : ((t.due ≡ false) × (t.timeout + first ≤ wait + w.last) × ((before ≤ w.last + t.timeout) ⊎ (before ≤ first + most))) ⊎ ((t.due ≡ true) × (t.timeout + first ≤ wait + before) × (before ≤ first + most))
-        → Timed first wait most now (record t { timeout = transmission.grown_time bound t.timeout; due = true })
+        → Timed first wait most now (record t { timeout = transmission.next_time tick t; due = true })
     by (inr d) = absurd (let f : true ≡ false = sym d.0 ∙ waits in cc)
-    by (inl k) = (let x = k.1 in let y = over in let z = brief in let v = w.after in let l = low in let g = at-most-twice bound t.timeout in
+    by (inl k) = (let x = k.1 in let y = over in let z = brief in let v = w.after in let l = low in let g = next-within tick t wait (now - first) present (omega arith) in
         record { last = w.last; first_is = w.first_is; last_is = w.last_is; after = w.after; by = low; brief = w.brief; in_time = omega arith; grown = inr (refl, omega arith, brief) })
 
 -- at a moment at which the peer's patience isn't over
-pub timed-marked : (first wait most before now bound : ℕ) (t : Transmission) → Timed first wait most before t → t.due ≡ false → before ≤ now → now < first + 2 ^ 32
-    → (transmission.is_late (now % 2 ^ 32) t ≡ true → leb most (elapsed_time (now % 2 ^ 32) t.first) ≡ false) → Timed first wait most now (transmission.marked bound (now % 2 ^ 32) t)
-timed-marked first wait most before now bound t w waits up near patient = by (leb t.timeout (elapsed_time (now % 2 ^ 32) t.last)) refl
+pub timed-marked : (first wait most before now : ℕ) (tick : Tick) (t : Transmission) → tick.now ≡ now % 2 ^ 32 → tick.present ≤ wait → Timed first wait most before t → t.due ≡ false → before ≤ now → now < first + 2 ^ 32
+    → (transmission.is_late (now % 2 ^ 32) t ≡ true → leb most (elapsed_time (now % 2 ^ 32) t.first) ≡ false) → Timed first wait most now (transmission.marked tick t)
+timed-marked first wait most before now tick t at present w waits up near patient = by (leb t.timeout (elapsed_time (now % 2 ^ 32) t.last)) refl
   where
     n : ℕ
     n = now % 2 ^ 32
 
-    by : (b : Bool) → leb t.timeout (elapsed_time n t.last) ≡ b → Timed first wait most now (transmission.marked bound n t)
+    grows : Bool → Transmission
+    grows b = cond b (record t { timeout = transmission.next_time tick t; due = true }) t
+
+    by : (b : Bool) → leb t.timeout (elapsed_time n t.last) ≡ b → Timed first wait most now (transmission.marked tick t)
     by true late =
         let is_late : transmission.is_late n t ≡ true = (λ i. not (waits i) && late i) in
-        subst (λ b. Timed first wait most now (cond b (record t { timeout = transmission.grown_time bound t.timeout; due = true }) t)) (sym is_late) (timed-late first wait most before now bound t w waits up near late (patient is_late))
+        subst (λ b. Timed first wait most now (grows b)) (sym (ap (λ m. transmission.is_late m t) at ∙ is_late)) (timed-late first wait most before now tick t present w waits up near late (patient is_late))
     by false early =
         let is_early : transmission.is_late n t ≡ false = (λ i. not (waits i) && early i) in
-        subst (λ b. Timed first wait most now (cond b (record t { timeout = transmission.grown_time bound t.timeout; due = true }) t)) (sym is_early) (timed-waits first wait most before now t w waits up near early)
+        subst (λ b. Timed first wait most now (grows b)) (sym (ap (λ m. transmission.is_late m t) at ∙ is_early)) (timed-waits first wait most before now t w waits up near early)
 
 -- or, as long, stays as it is
 pub timed-stays : (first wait most before now : ℕ) (t : Transmission) → Timed first wait most before t → t.due ≡ false → before ≤ now → now < first + 2 ^ 32

@@ -22,7 +22,7 @@ use Rattle.enet_peer.specs.Peering.{Peering}
 use Rattle.enet_peer.specs.Endings.{settled, cut_off_in}
 use Rattle.enet_peer.proofs.Obeying.{unless-holds, unwelcomed-holds}
 use Rattle.enet_peer.specs.CommandEffect.{Outcome, obeyed, unless_refused, stopped, is_allowed, is_of_handshake, is_connect, by_body, answered, answered_at, is_answered_in, on_acknowledge, on_match, acknowledged, with_answer, on_verify_in, welcomed, on_disconnect_in}
-use Rattle.enet_peer.specs.Calls.{pace_of, expiry_of, moved, ticked, pinged, after_timeouts_by, growth_bound, next_event, event_after, packet_event, last_event}
+use Rattle.enet_peer.specs.Calls.{pace_of, expiry_of, moved, ticked, pinged, after_timeouts_by, tick_of, next_event, event_after, packet_event, last_event}
 use Rattle.law_progress.specs.Attempts.{Step, Hears, PutsOut, Takes, after_step, after_take, IsTold, TellsWhenLeft}
 use Rattle.law_progress.proofs.Moving.{by-moved}
 use Rattle.law_progress.proofs.Attempts.{Kind, Asks, Answers, Leaves, state_of, in_state, handshake-alone, waits-on, unpinged}
@@ -178,7 +178,7 @@ ticked-goes k p now = by (expiry_of (in_state k p) now)
 
     by : (e : Expiry) → Goes k (pinged (after_timeouts_by e old now) now)
     by End = cut k
-    by Resend = let q : Peering = record old { outbox = outbox.marked p.outbox (growth_bound old) now } in inl (ap (λ (x : Peering). x.state) (unpinged k q now refl))
+    by Resend = let q : Peering = record old { outbox = outbox.marked p.outbox (tick_of old now) } in inl (ap (λ (x : Peering). x.state) (unpinged k q now refl))
     by No = inl (ap (λ (x : Peering). x.state) (unpinged k old now refl))
 
 moved-goes : (k : Kind) (short : Bool) (p : Peering) (now : ℕ) → Goes k (moved short (in_state k p) now)

@@ -1,18 +1,19 @@
 -- How long an attempt takes: a CONNECT goes at most six times, each timeout twice the one before, and a VERIFY_CONNECT for 7,500 ms.
-use Rattle.std.proofs.Common.{◌≡◌, ◌≢◌, ℕ, zero, suc, ◌+◌, ◌-◌, ◌*◌, ◌%◌, ◌^◌, ◌<◌, ◌≤◌, ◌&&◌, ◌||◌, not, leb, max, min, Bool, true, false, cond, List, refl, sym, ap, subst, ◌∙◌, inl, inr, ◌⊎◌, arith}
+use Rattle.std.proofs.Common.{◌≡◌, ◌≢◌, ℕ, zero, suc, ◌+◌, ◌-◌, ◌*◌, ◌%◌, ◌^◌, ◌<◌, ◌≤◌, ◌&&◌, ◌||◌, not, leb, ltb, max, min, Bool, true, false, cond, List, refl, sym, ap, subst, ◌∙◌, inl, inr, ◌⊎◌, arith}
 use Rattle.std.proofs.lemmas.Bool.Decides.{nat_tests}
 use Rattle.enet_codec.specs.declared.command.Offer.{Offer}
 use Rattle.enet_rtt.specs.Clock.{elapsed_time, since_later}
 use Rattle.enet_rtt.specs.Transmission as transmission
 use Rattle.enet_rtt.specs.Expiry.{gives_up}
 use Rattle.enet_rtt.specs.declared.transmission.Transmission.{Transmission}
+use Rattle.enet_rtt.specs.declared.transmission.Tick.{Tick}
 use Rattle.enet_connect.specs.declared.server.Server.{Server}
 use Rattle.enet_peer.specs.declared.parts.PeerState.TheVariants as state
 use Rattle.enet_peer.specs.declared.parts.Limits.{Limits}
 use Rattle.enet_peer.specs.declared.parts.Offsets.{Offsets}
 use Rattle.enet_peer.specs.Peering.{Peering, connecting, answering}
 use Rattle.law_progress.specs.Attempts.{last_of, LastsAtMost, LastsFor, Turns}
-use Rattle.law_progress.proofs.Attempts.{Asks, Answers, Attempt, Begins, wait_of, bound_of, Course, attempt_of, begun-goes, asking, replying}
+use Rattle.law_progress.proofs.Attempts.{Asks, Answers, Attempt, Begins, wait_of, bound_of, tick_at, Course, attempt_of, begun-goes, asking, replying}
 use Rattle.law_progress.proofs.Timed.{elapsed-is, le-of, lt-of}
 
 -- when try j comes, counted from the first, where each waits so long
@@ -27,6 +28,8 @@ record Plan (a : Attempt) (extra again most : ℕ) : Type 0 where
   begins : wait_of a ≡ wait 0
   some : (j : ℕ) → 0 < wait j
   grows : (j : ℕ) → j < again → transmission.grown_time (bound_of a) (wait j) ≡ wait (suc j)
+  -- nothing is heard meanwhile
+  silent : (j now last : ℕ) (t : Transmission) → j ≤ again → elapsed_time (now % 2 ^ 32) t.last ≡ now - last → a.first ≤ last → last ≤ now → now < a.first + at wait (suc j) + suc j * extra + 1 → transmission.is_heard_since (tick_at a now) t ≡ false
   near : (j : ℕ) → j ≤ again → at wait (suc j) + suc j * extra < 2 ^ 32
   within : (j : ℕ) → j ≤ again → at wait (suc j) + j * extra ≤ most + again * extra
   ends : (now last : ℕ) (t : Transmission) → t.attempts ≡ again + 1 → t.timeout ≡ wait again → elapsed_time (now % 2 ^ 32) t.first ≡ now - a.first → elapsed_time (now % 2 ^ 32) t.last ≡ now - last → now < a.first + at wait (suc again) + suc again * extra + 1
@@ -75,7 +78,7 @@ tried-again a extra again most p now t w due = by w.goes
     }
 
 tried-marked : (a : Attempt) (extra again most : ℕ) (p : Plan a extra again most) (before now : ℕ) (t : Transmission) → Tried a extra again most p before t → t.due ≡ false → before ≤ now → now ≤ before + (extra + 1)
-    → transmission.ends (now % 2 ^ 32) a.patience a.heard t ≡ false → Tried a extra again most p now (transmission.marked (bound_of a) (now % 2 ^ 32) t)
+    → transmission.ends (now % 2 ^ 32) a.patience a.heard t ≡ false → Tried a extra again most p now (transmission.marked (tick_at a now) t)
 tried-marked a extra again most p before now t w waits up down lives = by w.goes
   where
     n : ℕ
@@ -84,8 +87,14 @@ tried-marked a extra again most p before now t w waits up down lives = by w.goes
     j : ℕ
     j = w.try_is
 
+    tick : Tick
+    tick = tick_at a now
+
+    grows : Bool → Transmission
+    grows b = cond b (record t { timeout = transmission.next_time tick t; due = true }) t
+
     by : ((t.due ≡ false) × (t.attempts ≡ w.try_is + 1) × (last : ℕ) × (t.last ≡ last % 2 ^ 32) × (last ≤ before) × (before < last + p.wait w.try_is) × Placed a extra again most p w.try_is last)
-        ⊎ ((t.due ≡ true) × (t.attempts ≡ w.try_is) × Placed a extra again most p w.try_is before) → Tried a extra again most p now (transmission.marked (bound_of a) n t)
+        ⊎ ((t.due ≡ true) × (t.attempts ≡ w.try_is) × Placed a extra again most p w.try_is before) → Tried a extra again most p now (transmission.marked tick t)
     by (inr k) = absurd (let f : true ≡ false = sym k.0 ∙ waits in cc)
     by (inl (k, attempts, last, last_is, low, soon, placed)) = late_or_not (leb t.timeout (elapsed_time n t.last)) refl
       where
@@ -110,10 +119,10 @@ tried-marked a extra again most p before now t w waits up down lives = by w.goes
         since_first : elapsed_time n t.first ≡ now - a.first
         since_first = ap (elapsed_time n) w.first_is ∙ elapsed-is a.first now (let v = early in omega arith) (let x = near in let y = steps in let z = late in omega arith)
 
-        late_or_not : (b : Bool) → leb t.timeout (elapsed_time n t.last) ≡ b → Tried a extra again most p now (transmission.marked (bound_of a) n t)
+        late_or_not : (b : Bool) → leb t.timeout (elapsed_time n t.last) ≡ b → Tried a extra again most p now (transmission.marked tick t)
         late_or_not false e =
             let is_early : transmission.is_late n t ≡ false = (λ i. not (waits i) && e i) in
-            subst (λ b. Tried a extra again most p now (cond b (record t { timeout = transmission.grown_time (bound_of a) t.timeout; due = true }) t)) (sym is_early) (record {
+            subst (λ b. Tried a extra again most p now (grows b)) (sym is_early) (record {
               try_is = j;
               few = w.few;
               first_is = w.first_is;
@@ -122,16 +131,19 @@ tried-marked a extra again most p before now t w waits up down lives = by w.goes
             })
         late_or_not true e =
             let is_late : transmission.is_late n t ≡ true = (λ i. not (waits i) && e i) in
-            subst (λ b. Tried a extra again most p now (cond b (record t { timeout = transmission.grown_time (bound_of a) t.timeout; due = true }) t)) (sym is_late) (record {
+            subst (λ b. Tried a extra again most p now (grows b)) (sym is_late) (record {
               try_is = suc j;
               few = more;
               first_is = w.first_is;
-              timeout_is = ap (transmission.grown_time (bound_of a)) w.timeout_is ∙ p.grows j more;
+              timeout_is = ap (λ b. cond b (transmission.answered_time (wait_of a) t.timeout) (transmission.grown_time (bound_of a) t.timeout)) quiet ∙ ap (transmission.grown_time (bound_of a)) w.timeout_is ∙ p.grows j more;
               goes = inr (refl, attempts_are, ((let x = over in let v = early in omega arith), (let y = steps in let z = late in omega arith)));
             })
           where
             over : last + wait ≤ now
             over = let x = le-of t.timeout (elapsed_time n t.last) e in let y = since_last in let z = w.timeout_is in omega arith
+
+            quiet : transmission.is_heard_since tick t ≡ false
+            quiet = p.silent j now last t w.few since_last (let v = early in omega arith) (let x = over in omega arith) (let y = steps in let z = late in omega arith)
 
             attempts_are : t.attempts ≡ suc j
             attempts_are = omega arith
@@ -210,27 +222,42 @@ doubled-most (suc (suc (suc (suc zero)))) h = omega arith
 doubled-most (suc (suc (suc (suc (suc zero))))) h = omega arith
 doubled-most (suc (suc (suc (suc (suc (suc j)))))) h = absurd (omega arith)
 
-asking-plan : (start offset : ℕ) (offer : Offer) (limits : Limits) (now extra : ℕ) → 31500 + 7 * (extra + 1) < 2 ^ 32 → Plan (attempt_of Asks (connecting start offset offer limits) (asking start offset offer limits) now) extra 5 31500
-asking-plan start offset offer limits now extra close = record {
+asking-plan : (start offset : ℕ) (offer : Offer) (limits : Limits) (now extra : ℕ) → 31500 + 9 * (extra + 1) < 2 ^ 32 → start ≤ now → now ≤ start + (extra + 1)
+    → Plan (attempt_of Asks (connecting (start % 2 ^ 32) offset offer limits) (asking (start % 2 ^ 32) offset offer limits) now) extra 5 31500
+asking-plan start offset offer limits now extra close up down = record {
   wait = doubled;
   few = omega arith;
   begins = refl;
   some = doubled-some;
-  grows = λ j low. twice (doubled j) (let x = doubled-most j (omega arith) in omega arith);
+  grows = λ j low. ap (λ b. transmission.grown_time b (doubled j)) unbounded ∙ twice (doubled j) (let x = doubled-most j (omega arith) in omega arith);
+  silent = λ j later last t low since_last first gone by. (
+      let x = at-doubled (suc j) in let y = doubled-most j low in let z = times (suc j) 6 extra (omega arith) in let s = since_last in
+      let heard : elapsed_time (later % 2 ^ 32) (start % 2 ^ 32) ≡ later - start = elapsed-is start later (omega arith) (omega arith) in
+      not-less (elapsed_time (later % 2 ^ 32) (start % 2 ^ 32)) (elapsed_time (later % 2 ^ 32) t.last) (omega arith));
   near = λ j low. (let x = at-doubled (suc j) in let y = doubled-most j low in let z = times (suc j) 6 extra (omega arith) in omega arith);
   within = λ j low. (let x = at-doubled (suc j) in let y = doubled-most j low in let z = times j 5 extra low in omega arith);
   ends = λ later last t attempts wait since_first since_last by early over. (
       let x = since_first in let y = early in let z = over in
       let long : 30000 ≤ elapsed_time (later % 2 ^ 32) t.first = omega arith in
-      λ i. le-true 30000 (elapsed_time (later % 2 ^ 32) t.first) long i || (leb 32 (2 ^ (t.attempts - 1)) && leb (elapsed_time (later % 2 ^ 32) t.last + t.timeout + 5000) (since_later (later % 2 ^ 32) t.first start)));
+      λ i. le-true 30000 (elapsed_time (later % 2 ^ 32) t.first) long i || (leb 32 (2 ^ (t.attempts - 1)) && leb (elapsed_time (later % 2 ^ 32) t.last + t.timeout + 5000) (since_later (later % 2 ^ 32) t.first (start % 2 ^ 32))));
 }
   where
     twice : (m : ℕ) → 2 * m ≤ 4294967295 → max m (min (2 * m) 4294967295) ≡ 2 * m
     twice m h = grind arith
 
+    not-less : (m n : ℕ) → n ≤ m → ltb m n ≡ false
+    not-less m n h = grind (arith, nat_tests)
+
+    and-false : (b : Bool) → (b && false) ≡ false
+    and-false true = refl
+    and-false false = refl
+
+    unbounded : bound_of (attempt_of Asks (connecting (start % 2 ^ 32) offset offer limits) (asking (start % 2 ^ 32) offset offer limits) now) ≡ 4294967295
+    unbounded = ap (λ b. cond b 1000 4294967295) (and-false (ltb 0 offer.channels))
+
 pub asking-lasts : (offset : ℕ) (offer : Offer) (limits : Limits) → LastsFor state.Connecting (λ start. connecting start offset offer limits) 31500 5
 asking-lasts offset offer limits extra start now moments q close up down turns =
-    let p = asking-plan (start % 2 ^ 32) offset offer limits now extra (omega arith) in
+    let p = asking-plan start offset offer limits now extra close up down in
     let b = asking (start % 2 ^ 32) offset offer limits in
     let a : Attempt = attempt_of Asks (connecting (start % 2 ^ 32) offset offer limits) b now in
     let last = begun-goes (Tried a extra 5 31500 p) Asks (connecting (start % 2 ^ 32) offset offer limits) b (extra + 1) now moments q (tried-course a extra 5 31500 p) turns in
@@ -244,11 +271,11 @@ brief-course : (gap first : ℕ) (p : Peering) (b : Begins Answers p) → 7500 +
 brief-course gap first p b near = record {
   begins = (refl, omega arith, omega arith);
   again = λ now t w due. w;
-  marks = λ before now t w waits up down lives waited. (let k = late before now t w up down waited in (marked-first (bound_of (attempt_of Answers p b first)) (now % 2 ^ 32) t ∙ w.0, k.0, k.1));
+  marks = λ before now t w waits up down lives waited. (let k = late before now t w up down waited in (marked-first (tick_at (attempt_of Answers p b first) now) t ∙ w.0, k.0, k.1));
 }
   where
-    marked-first : (bound n : ℕ) (t : Transmission) → (transmission.marked bound n t).first ≡ t.first
-    marked-first bound n t = elim (transmission.is_late n t) as (λ b. (cond b (record t { timeout = transmission.grown_time bound t.timeout; due = true }) t).first ≡ t.first) [ true ↦ refl | false ↦ refl ]
+    marked-first : (tick : Tick) (t : Transmission) → (transmission.marked tick t).first ≡ t.first
+    marked-first tick t = elim (transmission.is_late tick.now t) as (λ b. (cond b (record t { timeout = transmission.next_time tick t; due = true }) t).first ≡ t.first) [ true ↦ refl | false ↦ refl ]
 
     late : (before now : ℕ) (t : Transmission) → Brief first before t → before ≤ now → now ≤ before + gap → leb 7500 (elapsed_time (now % 2 ^ 32) t.first) ≡ false → (first ≤ now) × (now < first + 7500)
     late before now t w up down waited =

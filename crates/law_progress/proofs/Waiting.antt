@@ -14,6 +14,7 @@ use Rattle.enet_rtt.specs.Timing.{Estimate, IsWithin, after_sample, timeout, tow
 use Rattle.enet_rtt.specs.Transmission as transmission
 use Rattle.enet_rtt.specs.Expiry.{gives_up}
 use Rattle.enet_rtt.specs.declared.transmission.Transmission.{Transmission}
+use Rattle.enet_rtt.specs.declared.transmission.Tick.{Tick}
 use Rattle.enet_rtt.specs.declared.expiry.Patience.{Patience}
 use Rattle.enet_rtt.specs.declared.expiry.Expiry.{Expiry}
 use Rattle.enet_connect.specs.declared.terms.Terms.{Terms}
@@ -48,12 +49,12 @@ use Rattle.enet_peer.specs.declared.parts.Offsets.{Offsets}
 use Rattle.enet_peer.specs.Peering.{Peering, joined, connecting, answering}
 use Rattle.enet_peer.specs.Endings.{ended, freed, parting, settled, disconnecting, is_later, cut_off_in}
 use Rattle.enet_peer.proofs.Obeying.{unless-holds, unwelcomed-holds}
-use Rattle.enet_peer.specs.CommandEffect.{obeyed, unless_refused, stopped, is_allowed, is_connect, by_body, by_answer, by_arrival, on_data, answered, answered_at, is_answered_in, is_connecting, on_acknowledge, on_match, sampled, with_answer, on_verify_in, welcomed, on_disconnect_in, on_last_disconnect, on_bandwidth, on_throttle}
-use Rattle.enet_peer.specs.Calls.{Leave, AtOnce, TellsOnce, Asks, AsksLater, Refused, left, submitted, pace_of, gone_on_in, held_back, moved, ticked, pinged, is_pinged, after_timeouts_by, growth_bound, next_event, event_after, packet_event, last_event}
+use Rattle.enet_peer.specs.CommandEffect.{obeyed, unless_refused, stopped, is_allowed, is_connect, by_body, by_answer, by_arrival, on_data, answered, answered_at, is_answered_in, is_connecting, on_acknowledge, on_match, acknowledged, with_answer, on_verify_in, welcomed, on_disconnect_in, on_last_disconnect, on_bandwidth, on_throttle}
+use Rattle.enet_peer.specs.Calls.{Leave, AtOnce, TellsOnce, Asks, AsksLater, Refused, left, submitted, pace_of, gone_on_in, held_back, moved, ticked, pinged, is_pinged, after_timeouts_by, tick_of, next_event, event_after, packet_event, last_event}
 use Rattle.law_progress.specs.Attempts.{Hears, PutsOut, Takes, after_take, last_of}
 use Rattle.law_progress.specs.Waits.{Deed, Lives, Submits, Leaves, after_leave, after_deed, after_deeds, has_due, Moment, Moments, WaitAtMost, NoneWaitsLonger}
 use Rattle.law_progress.proofs.Moving.{Lasting, by-expiry, by-moved}
-use Rattle.law_progress.proofs.PutsOut.{found-passes}
+use Rattle.law_progress.proofs.PutsOut.{found-passes, if-some}
 use Rattle.law_progress.proofs.Timed.{Timed, timed-begun, timed-again, timed-marked, timed-stays, timed-elapsed}
 
 pub or-both : (a b : Bool) → (a || b) ≡ false → (a ≡ false) × (b ≡ false)
@@ -118,7 +119,7 @@ pub record Sends (R : Transmission → Type 0) (now wait : ℕ) : Type 0 where
   pub first : R (transmission.begun now wait)
   pub again : (t : Transmission) → R t → t.due ≡ true → R (transmission.again now t)
 
-each-next : (R : Transmission → Type 0) (now wait : ℕ) (c : Commands) (n : controlling.Next) → Sends R now wait → controlling.next now wait c ≡ Some n → ((t : SentControl) → Has c.sent t → R t.transmission)
+pub each-next : (R : Transmission → Type 0) (now wait : ℕ) (c : Commands) (n : controlling.Next) → Sends R now wait → controlling.next now wait c ≡ Some n → ((t : SentControl) → Has c.sent t → R t.transmission)
     → (t : SentControl) → Has n.commands.sent t → R t.transmission
 each-next R now wait c n g e all = go (position (λ (p : SentControl). p.transmission.due) c.sent) refl e
   where
@@ -155,7 +156,7 @@ each-next R now wait c n g e all = go (position (λ (p : SentControl). p.transmi
     go None w k = from_queue c.queued k
     go (Some i) w k = from_sent i w (slice_get c.sent i) refl k
 
-each-due : (R : Transmission → Type 0) (o : Occasion) (s : Sender) (n : Next) → Sends R o.now o.timeout → next wire o s ≡ Some n → ((t : Sent) → Has s.sent t → R t.transmission) → (t : Sent) → Has n.sender.sent t → R t.transmission
+pub each-due : (R : Transmission → Type 0) (o : Occasion) (s : Sender) (n : Next) → Sends R o.now o.timeout → next wire o s ≡ Some n → ((t : Sent) → Has s.sent t → R t.transmission) → (t : Sent) → Has n.sender.sent t → R t.transmission
 each-due R o s n g e all = go (position (λ (p : Sent). p.transmission.due) s.sent) refl e
   where
     some-is : {X : Type 0} {u v : X} → Some u ≡ Some v → u ≡ v
@@ -166,7 +167,7 @@ each-due R o s n g e all = go (position (λ (p : Sent). p.transmission.due) s.se
 
     from_queue : (q : List DataCommand) → sender.next_queued wire o s q ≡ Some n → (t : Sent) → Has n.sender.sent t → R t.transmission
     from_queue [] k = absurd (cc)
-    from_queue (x ∷ rest) k = by (sender.may_go wire s.sent o.transit o.most x) k
+    from_queue (x ∷ rest) k = by (sender.may_go wire s.sent o x) k
       where
         pushed : (b : Bool) (t : Sent) → Has (cond b (s.sent ++ sender.begun o.now o.timeout x ∷ []) s.sent) t → R t.transmission
         pushed false t h = all t h
@@ -176,10 +177,10 @@ each-due R o s n g e all = go (position (λ (p : Sent). p.transmission.due) s.se
         by true k = after (sender.first_sent o.now o.timeout s x rest) k (pushed x.reliable)
         by false k = absurd (cc)
 
-    from_sent : (i : ℕ) → position (λ (p : Sent). p.transmission.due) s.sent ≡ Some i → (p : Option Sent) → slice_get s.sent i ≡ p → sender.next_resent o.now s i p ≡ Some n → (t : Sent) → Has n.sender.sent t → R t.transmission
+    from_sent : (i : ℕ) → position (λ (p : Sent). p.transmission.due) s.sent ≡ Some i → (p : Option Sent) → slice_get s.sent i ≡ p → sender.next_resent o s i p ≡ Some n → (t : Sent) → Has n.sender.sent t → R t.transmission
     from_sent i w None there k = absurd (cc)
     from_sent i w (Some p) there k =
-        after (sender.resent o.now s i p) k (λ t h. elim (Has-set s.sent i (sender.again o.now p) t h) [
+        after (sender.resent o.now s i p) (ap Some (if-some (sender.has_room o p.command) (sender.resent o.now s i p) n k)) (λ t h. elim (Has-set s.sent i (sender.again o.now p) t h) [
           | inl is ↦ subst (λ (y : Sent). R y.transmission) is (g.again p.transmission (all p (Has-at s.sent i p there)) (found-passes (λ (q : Sent). q.transmission.due) s.sent i p w there))
           | inr old ↦ all t old
         ])
@@ -285,7 +286,7 @@ fair-acknowledge R most p now channel number told h = by-state (is_connecting p.
     time = meant_time told (p.offset % 2 ^ 16)
 
     q : Peering
-    q = sampled (record p { outbox = after_acknowledgement p.outbox channel number }) now time
+    q = acknowledged p now channel number time
 
     a : Fair R most q
     a = let k = fair-gone R most p channel number h in (k.0, within-sample p.estimate (sample_of now time) (sample-low now time) k.1, k.2)
@@ -455,7 +456,7 @@ rest-of o e = let both = or-both (list_any (λ (t : SentControl). t.transmission
 )
 
 -- no end by any of them
-patient : (most n heard : ℕ) (pt : Patience) (t : Transmission) → pt.maximum ≡ most → transmission.ends n pt heard t ≡ false → transmission.is_late n t ≡ true → leb most (elapsed_time n t.first) ≡ false
+pub patient : (most n heard : ℕ) (pt : Patience) (t : Transmission) → pt.maximum ≡ most → transmission.ends n pt heard t ≡ false → transmission.is_late n t ≡ true → leb most (elapsed_time n t.first) ≡ false
 patient most n heard pt t same e late =
     ap (λ m. leb m (elapsed_time n t.first)) (sym same) ∙ (or-both (leb pt.maximum (elapsed_time n t.first)) _ (ap (λ b. b && gives_up pt n heard t) (sym late) ∙ e)).0
 
@@ -466,8 +467,11 @@ tick-fair Q most before now gap short p h rests up down near = by-moved (λ (x :
     n : ℕ
     n = now % 2 ^ 32
 
-    goes : (bound : ℕ) (t : Transmission) → GoesFrom Q most before t → t.due ≡ false → transmission.ends n p.patience p.heard t ≡ false → GoesFrom Q most now (transmission.marked bound n t)
-    goes bound t g waits e = (g.0, timed-marked g.0 5000 most before now bound t g.1 waits up (let x = g.1 in let y = x.in_time in omega arith) (λ late. patient most n p.heard p.patience t h.2 e late), g.2)
+    tick_is : Tick
+    tick_is = tick_of p n
+
+    goes : (t : Transmission) → GoesFrom Q most before t → t.due ≡ false → transmission.ends n p.patience p.heard t ≡ false → GoesFrom Q most now (transmission.marked tick_is t)
+    goes t g waits e = (g.0, timed-marked g.0 5000 most before now tick_is t refl (timeout-low p.estimate) g.1 waits up (let x = g.1 in let y = x.in_time in omega arith) (λ late. patient most n p.heard p.patience t h.2 e late), g.2)
 
     -- it stays as it is, late or not
     keeps : (t : Transmission) → GoesFrom Q most before t → t.due ≡ false → transmission.ends n p.patience p.heard t ≡ false → GoesFrom Q most now t
@@ -481,14 +485,14 @@ tick-fair Q most before now gap short p h rests up down near = by-moved (λ (x :
         none-of (sender.ends n p.patience p.heard) s.sender.sent t
         (none-of (λ (x : SendingEnd). list_any (sender.ends n p.patience p.heard) x.sender.sent) p.outbox.senders s (or-both (list_any (controlling.ends n p.patience p.heard) p.outbox.control.sent) _ e.0).1 k) j
 
-    marks : (bound : ℕ) → Lasting p n → Fair (GoesFrom Q most now) most (record p { outbox = outbox.marked p.outbox bound n })
-    marks bound e = (
+    marks : Lasting p n → Fair (GoesFrom Q most now) most (record p { outbox = outbox.marked p.outbox tick_is })
+    marks e = (
       (
-        (λ t k. (let c = Has-mapped (controlling.marked bound n) p.outbox.control.sent t k in
-            subst (λ (x : SentControl). GoesFrom Q most now x.transmission) c.2 (goes bound c.0.transmission (h.0.0 c.0 c.1) (rests.0 c.0 c.1) (ends-controls e c.0 c.1)))),
-        (λ s k t j. (let d = Has-mapped (marked_sender bound n) p.outbox.senders s k in
-            let c = Has-mapped (sender.marked bound n) d.0.sender.sent t (subst (λ (x : SendingEnd). Has x.sender.sent t) (sym d.2) j) in
-            subst (λ (x : Sent). GoesFrom Q most now x.transmission) c.2 (goes bound c.0.transmission (h.0.1 d.0 d.1 c.0 c.1) (rests.1 d.0 d.1 c.0 c.1) (ends-channels e d.0 d.1 c.0 c.1)))),
+        (λ t k. (let c = Has-mapped (controlling.marked tick_is) p.outbox.control.sent t k in
+            subst (λ (x : SentControl). GoesFrom Q most now x.transmission) c.2 (goes c.0.transmission (h.0.0 c.0 c.1) (rests.0 c.0 c.1) (ends-controls e c.0 c.1)))),
+        (λ s k t j. (let d = Has-mapped (marked_sender tick_is) p.outbox.senders s k in
+            let c = Has-mapped (sender.marked tick_is) d.0.sender.sent t (subst (λ (x : SendingEnd). Has x.sender.sent t) (sym d.2) j) in
+            subst (λ (x : Sent). GoesFrom Q most now x.transmission) c.2 (goes c.0.transmission (h.0.1 d.0 d.1 c.0 c.1) (rests.1 d.0 d.1 c.0 c.1) (ends-channels e d.0 d.1 c.0 c.1)))),
       ),
       h.1,
       h.2,
@@ -499,18 +503,18 @@ tick-fair Q most before now gap short p h rests up down near = by-moved (λ (x :
     still e = (((λ t k. keeps t.transmission (h.0.0 t k) (rests.0 t k) (ends-controls e t k)), (λ s k t j. keeps t.transmission (h.0.1 s k t j) (rests.1 s k t j) (ends-channels e s k t j))), h.1, h.2)
 
     -- an answer that is late counts as tried
-    one-held : (bound : ℕ) (t : SentControl) (b : Bool) → transmission.is_late n t.transmission ≡ b → GoesFrom Q most before t.transmission → t.transmission.due ≡ false → transmission.ends n p.patience p.heard t.transmission ≡ false
-        → GoesFrom Q most now (cond b (record t { transmission = transmission.again n (transmission.marked bound n t.transmission) }) t).transmission
-    one-held bound t false late g waits e = keeps t.transmission g waits e
-    one-held bound t true late g waits e =
-        let k = goes bound t.transmission g waits e in
-        (k.0, timed-again k.0 5000 most now (transmission.marked bound n t.transmission) k.1 (ap (λ b. (cond b (record t.transmission { timeout = transmission.grown_time bound t.transmission.timeout; due = true }) t.transmission).due) late), k.2)
+    one-held : (t : SentControl) (b : Bool) → transmission.is_late n t.transmission ≡ b → GoesFrom Q most before t.transmission → t.transmission.due ≡ false → transmission.ends n p.patience p.heard t.transmission ≡ false
+        → GoesFrom Q most now (cond b (record t { transmission = transmission.again n (transmission.marked tick_is t.transmission) }) t).transmission
+    one-held t false late g waits e = keeps t.transmission g waits e
+    one-held t true late g waits e =
+        let k = goes t.transmission g waits e in
+        (k.0, timed-again k.0 5000 most now (transmission.marked tick_is t.transmission) k.1 (ap (λ b. (cond b (record t.transmission { timeout = transmission.next_time tick_is t.transmission; due = true }) t.transmission).due) late), k.2)
 
     held : p.state ≡ state.Answering → Lasting p n → Fair (GoesFrom Q most now) most (held_back p n)
     held answers e = (
       (
-        (λ t k. (let c = Has-mapped (controlling.held_back (growth_bound p) n) p.outbox.control.sent t k in
-            subst (λ (x : SentControl). GoesFrom Q most now x.transmission) c.2 (one-held (growth_bound p) c.0 (transmission.is_late n c.0.transmission) refl (h.0.0 c.0 c.1) (rests.0 c.0 c.1) (ends-controls e c.0 c.1)))),
+        (λ t k. (let c = Has-mapped (controlling.held_back tick_is) p.outbox.control.sent t k in
+            subst (λ (x : SentControl). GoesFrom Q most now x.transmission) c.2 (one-held c.0 (transmission.is_late n c.0.transmission) refl (h.0.0 c.0 c.1) (rests.0 c.0 c.1) (ends-controls e c.0 c.1)))),
         (still e).0.1,
       ),
       h.1,
@@ -530,7 +534,7 @@ tick-fair Q most before now gap short p h rests up down near = by-moved (λ (x :
 
     tick : Fair (GoesFrom Q most now) most (ticked p n)
     tick = by-expiry (λ (e : Expiry). Fair (GoesFrom Q most now) most (pinged (after_timeouts_by e p n) n)) p n
-        (pings (cut_off_in p.state p) (cut p.state)) (λ e f. pings (record p { outbox = outbox.marked p.outbox (growth_bound p) n }) (marks (growth_bound p) e)) (λ e f. pings p (still e))
+        (pings (cut_off_in p.state p) (cut p.state)) (λ e f. pings (record p { outbox = outbox.marked p.outbox tick_is }) (marks e)) (λ e f. pings p (still e))
 
 -- moment after moment
 abbrev pub Ready : ℕ → ℕ → Peering → Type 0

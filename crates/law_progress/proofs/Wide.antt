@@ -15,15 +15,15 @@ use Rattle.enet_senders.specs.declared.control.Control.TheVariants as control
 use Rattle.enet_inbox.specs.DataEffect.{DataEffect, arrival, passed_over}
 use Rattle.enet_outbox.specs.declared.parts.Matched.{Matched}
 use Rattle.enet_outbox.specs.declared.parts.Matched.TheVariants as matched
-use Rattle.enet_outbox.specs.Outbox.{matched_by, after_acknowledgement}
+use Rattle.enet_outbox.specs.Outbox.{matched_by}
 use Rattle.enet_outbox.specs.Outbox as outbox
 use Rattle.enet_peer.specs.declared.parts.PeerState.{PeerState}
 use Rattle.enet_peer.specs.declared.parts.PeerState.TheVariants as state
 use Rattle.enet_peer.specs.Peering.{Peering}
 use Rattle.enet_peer.specs.Endings.{settled, disconnecting, is_later, freed, cut_off_in}
 use Rattle.enet_peer.proofs.Obeying.{unless-holds, unwelcomed-holds}
-use Rattle.enet_peer.specs.CommandEffect.{obeyed, unless_refused, stopped, is_allowed, is_connect, by_body, by_answer, by_arrival, on_data, answered, answered_at, is_answered_in, is_connecting, on_acknowledge, on_match, sampled, with_answer, on_verify_in, welcomed, on_disconnect_in, on_last_disconnect, on_bandwidth, on_throttle}
-use Rattle.enet_peer.specs.Calls.{Leave, AtOnce, TellsOnce, Asks, AsksLater, Refused, left, gone_on_in, expiry_of, moved, ticked, pinged, is_pinged, after_timeouts_by, growth_bound, next_event, event_after, packet_event, last_event}
+use Rattle.enet_peer.specs.CommandEffect.{obeyed, unless_refused, stopped, is_allowed, is_connect, by_body, by_answer, by_arrival, on_data, answered, answered_at, is_answered_in, is_connecting, on_acknowledge, on_match, acknowledged, with_answer, on_verify_in, welcomed, on_disconnect_in, on_last_disconnect, on_bandwidth, on_throttle}
+use Rattle.enet_peer.specs.Calls.{Leave, AtOnce, TellsOnce, Asks, AsksLater, Refused, left, gone_on_in, expiry_of, moved, ticked, pinged, is_pinged, after_timeouts_by, tick_of, next_event, event_after, packet_event, last_event}
 use Rattle.law_progress.specs.Attempts.{after_take}
 use Rattle.law_progress.specs.Waits.{after_leave}
 use Rattle.law_progress.proofs.Moving.{by-moved}
@@ -50,7 +50,7 @@ wide-acknowledge p now channel number told h = by-state (is_connecting p.state)
     time = meant_time told (p.offset % 2 ^ 16)
 
     q : Peering
-    q = sampled (record p { outbox = after_acknowledgement p.outbox channel number }) now time
+    q = acknowledged p now channel number time
 
     by : (x : Matched) → IsWide (on_match x p q)
     by matched.Nothing = h
@@ -178,7 +178,7 @@ wide-ticked p n h = by (expiry_of p n)
 
     by : (e : Expiry) → IsWide (pinged (after_timeouts_by e p n) n)
     by End = pings (cut_off_in p.state p) (cut p.state)
-    by Resend = pings (record p { outbox = outbox.marked p.outbox (growth_bound p) n }) h
+    by Resend = pings (record p { outbox = outbox.marked p.outbox (tick_of p n) }) h
     by No = pings p h
 
 pub wide-moved : (short : Bool) (p : Peering) (n : ℕ) → IsWide p → IsWide (moved short p n)

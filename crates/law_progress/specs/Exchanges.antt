@@ -1,19 +1,19 @@
 -- Rounds of two connected ends, over all their channels and both ways, in which nothing is lost. Times are in milliseconds.
-use Rattle.std.specs.Prelude.{◌≡◌, ℕ, zero, suc, true, false, ◌+◌, ◌<◌, ◌≤◌, List, [], ◌∷◌, ◌++◌, length, Some, None, slice_get, ◌⊎◌}
+use Rattle.std.specs.Prelude.{◌≡◌, ℕ, zero, suc, true, false, ◌+◌, ◌<◌, ◌≤◌, List, [], ◌∷◌, ◌++◌, length, map, Some, None, slice_get, ◌⊎◌}
 use Rattle.enet_codec.specs.declared.packet.Packet.{Packet}
 use Rattle.enet_rtt.specs.Clock.{told_time}
 use Rattle.enet_fragment.specs.declared.data.DataCommand.{DataCommand}
 use Rattle.enet_fragment.specs.DataCommand.{data_of}
 use Rattle.enet_receiver.specs.Foresight.{ReceivingEnd}
 use Rattle.enet_sender.specs.declared.sent.Sent.{Sent}
-use Rattle.enet_sender.specs.Sender.{is_late as has_waited_out}
+use Rattle.enet_sender.specs.Sender.{marked, is_late as has_waited_out}
 use Rattle.enet_sender.specs.Due.{SendingEnd}
 use Rattle.enet_inbox.specs.Inbox.{is_full_for, given_way_receiver, given_way}
-use Rattle.enet_outbox.specs.Outbox.{is_crowded}
+use Rattle.enet_outbox.specs.Outbox.{is_crowded, marked_sender}
 use Rattle.enet_peer.specs.declared.parts.PeerState.TheVariants as state
 use Rattle.enet_peer.specs.Peering.{Peering}
 use Rattle.enet_peer.specs.CommandEffect.{obeyed}
-use Rattle.enet_peer.specs.Calls.{pace_of}
+use Rattle.enet_peer.specs.Calls.{pace_of, tick_of}
 use Rattle.law_connection.specs.LinkSteps.{Has, bodies_of}
 use Rattle.enet_sender.specs.CommandChoice.{carried}
 use Rattle.law_connection.specs.Connection.{Put, End, Connection, of_channel}
@@ -101,12 +101,11 @@ abbrev pub outstanding_over : List SendingEnd → ℕ
 outstanding_over [] = 0
 outstanding_over (s ∷ rest) = outstanding_at s.sender + outstanding_over rest
 
--- nothing went on any channel: all that is outstanding is as it was, nothing that was sent is due to go again or has waited out its
--- timeout, and if anything is outstanding, a command that was sent waits for its acknowledgement. So time alone passes
+-- nothing went on any channel: all that is outstanding is as it was, but that what had waited out its timeout is due to go again; and if
+-- anything is outstanding, a command in transit, which is sent and neither due nor late, waits for its acknowledgement. So time alone passes
 pub record OnlyWaits (now : ℕ) (p q : Peering) : Type 0 where
-  pub same : q.outbox.senders ≡ p.outbox.senders
-  pub fresh : (s : SendingEnd) → Has q.outbox.senders s → (t : Sent) → Has s.sender.sent t → (t.transmission.due ≡ false) × (has_waited_out now t ≡ false)
-  pub waits : (outstanding_over q.outbox.senders ≡ 0) ⊎ ((s : SendingEnd) × Has q.outbox.senders s × (t : Sent) × Has s.sender.sent t)
+  pub same : q.outbox.senders ≡ map (marked_sender (tick_of p now)) p.outbox.senders
+  pub waits : (outstanding_over q.outbox.senders ≡ 0) ⊎ ((s : SendingEnd) × Has q.outbox.senders s × (t : Sent) × Has s.sender.sent t × (t.transmission.due ≡ false) × (has_waited_out now t ≡ false))
 
 -- what a round brings to two peers that are open: fewer commands are outstanding at the two together; or nothing went at either, and time
 -- alone passed, at the one end by the time that the other had put out all that it may, and at the other by the round's end
@@ -122,9 +121,10 @@ pub record ProgressesBoth (now there : ℕ) (p q : Peering) {c d : Connection} (
 abbrev pub HasSent : List SendingEnd → ℕ → Sent → Type 0
 HasSent senders channel t = (s : SendingEnd) × (slice_get senders channel ≡ Some s) × Has s.sender.sent t
 
--- all that waits at the peer u waited at p, as it is, and isn't due to go again, nor has it waited out its timeout
+-- all that waits at the peer u waited at p: it is as it was, and neither due to go again nor late; or it is due, since there was no room
 abbrev pub HasWaited : ℕ → Peering → Peering → Type 0
-HasWaited now p u = (channel : ℕ) (t : Sent) → HasSent u.outbox.senders channel t → HasSent p.outbox.senders channel t × (t.transmission.due ≡ false) × (has_waited_out now t ≡ false)
+HasWaited now p u = (channel : ℕ) (t : Sent) → HasSent u.outbox.senders channel t → (HasSent p.outbox.senders channel t × (t.transmission.due ≡ false) × (has_waited_out now t ≡ false))
+    ⊎ ((t.transmission.due ≡ true) × (x : Sent) × HasSent p.outbox.senders channel x × (marked (tick_of p now) x ≡ t))
 
 -- whatever went in a round is acknowledged in it, but for what the one end put out in its second turn
 pub record AllAcknowledged (now there : ℕ) (p q : Peering) {c d : Connection} (r : RoundOfBoth now there c d) : Type 0 where

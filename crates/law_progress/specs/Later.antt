@@ -16,16 +16,29 @@ queued_over (s ∷ rest) = length s.sender.queued + queued_over rest
 abbrev pub still_to_go : Outbox → ℕ
 still_to_go o = length o.control.queued + queued_over o.senders
 
--- how long a command waits for its acknowledgement at most
+-- how many wait for their acknowledgement
+abbrev pub sent_over : List SendingEnd → ℕ
+sent_over [] = 0
+sent_over (s ∷ rest) = length s.sender.sent + sent_over rest
+
+abbrev pub still_to_come : Outbox → ℕ
+still_to_come o = length o.control.sent + sent_over o.senders
+
+-- how often a command is still to go for the first time, and how often one is to be acknowledged: what is to go twice, what was sent once
+abbrev pub still_to_do : Outbox → ℕ
+still_to_do o = 2 * still_to_go o + still_to_come o
+
+-- how long a command in transit waits for its acknowledgement at most
 abbrev pub longest_wait : Peering → ℕ
 longest_wait p = 5000 + 2 * p.patience.maximum
 
 -- where this peer has come, after any moments, to be one that is to disconnect later, it stays so for at most the longest wait and the gap,
--- for each command that is still to go, and once more
+-- for each command that is still to go, for each that is still to be acknowledged, and once more; if all that is less than some 49 days,
+-- with once more: what stays due for longer, since others take its room, looks as if it first went later
 abbrev pub DisconnectsLater : Peering → Type 0
-DisconnectsLater p = (gap now : ℕ) (moments : List ℕ) (q : Peering) (next : ℕ) (later : List ℕ) (r : Peering) → longest_wait p + gap < 2 ^ 32 → Moments gap now p moments q
+DisconnectsLater p = (gap now : ℕ) (moments : List ℕ) (q : Peering) (next : ℕ) (later : List ℕ) (r : Peering) → (still_to_do q.outbox + 2) * (longest_wait p + gap) < 2 ^ 32 → Moments gap now p moments q
     → last_of now moments ≤ next → next ≤ last_of now moments + gap → Turns state.DisconnectLater gap next q later r
-    → last_of next later ≤ next + (still_to_go q.outbox + 1) * (longest_wait p + gap)
+    → last_of next later ≤ next + (still_to_do q.outbox + 1) * (longest_wait p + gap)
 
 -- it has asked for the end, or has the other end's request for it to acknowledge
 abbrev pub IsLeaving : Peering → Type 0

@@ -46,7 +46,7 @@ abbrev pub IsCalm : ℕ → Event → Type 0
 IsCalm most (Submit packet) = ⊥
 IsCalm most (Send occasion) = Unit {0}
 IsCalm most (Drop occasion) = ⊥
-IsCalm most (Mark bound now) = Unit {0}
+IsCalm most (Mark tick) = Unit {0}
 IsCalm most PutsOut = Unit {0}
 IsCalm most (Arrive command max_packet full) = (max_packet ≡ most) × (full ≡ false)
 IsCalm most (ArriveAnswered command max_packet full) = (max_packet ≡ most) × (full ≡ false)

@@ -1,5 +1,5 @@
 -- When a peer has something to put out.
-use Rattle.std.specs.Prelude.{◌≡◌, ℕ, zero, suc, true, ◌+◌, ◌≤◌, if◌then◌else◌, List, [], ◌∷◌, ◌++◌, length, Some, None, slice_get, ◌⊎◌}
+use Rattle.std.specs.Prelude.{◌≡◌, ℕ, zero, suc, true, false, ◌+◌, ◌≤◌, if◌then◌else◌, List, [], ◌∷◌, ◌++◌, length, Some, None, slice_get, ◌⊎◌}
 use Rattle.enet_codec.specs.Message.{Message}
 use Rattle.enet_fragment.specs.declared.data.DataCommand.{DataCommand}
 use Rattle.enet_senders.specs.Controlling.{Commands}
@@ -50,16 +50,21 @@ pub record IsSpent (pace : Pace) (o : Outbox) : Type 0 where
   pub acknowledgements : o.acknowledgements ≡ []
   pub controls : controlling.next pace.now pace.timeout o.control ≡ None
 
--- nothing may go: no acknowledgement and no unsequenced packet waits, no sent command is due to go again, and no head of a queue may go
+-- nothing may go: no acknowledgement and no unsequenced packet waits, and of no channel a sent command that is due to go again, or the head
+-- of the queue, may go
 pub record NothingMayGo (pace : Pace) (o : Outbox) : Type 0 where
   pub acknowledgements : o.acknowledgements ≡ []
   pub controls : controlling.next pace.now pace.timeout o.control ≡ None
   pub unsequenced : o.unsequenced ≡ []
   pub channels : (i : ℕ) (s : SendingEnd) → slice_get o.senders i ≡ Some s → next wire (occasion pace o) s.sender ≡ None
 
--- a command that was sent waits for its acknowledgement
+-- a data command is in transit: it was sent, and waits for its acknowledgement, and isn't due to go again
+abbrev pub IsInTransit : List SendingEnd → Type 0
+IsInTransit senders = (s : SendingEnd) × Has senders s × (t : Sent) × Has s.sender.sent t × (t.transmission.due ≡ false)
+
+-- a command that was sent waits for its acknowledgement, and isn't due to go again
 abbrev pub WaitsForSome : Outbox → Type 0
-WaitsForSome o = ((t : SentControl) × Has o.control.sent t) ⊎ ((s : SendingEnd) × Has o.senders s × (t : Sent) × Has s.sender.sent t)
+WaitsForSome o = ((t : SentControl) × Has o.control.sent t × (t.transmission.due ≡ false)) ⊎ IsInTransit o.senders
 
 -- of an outbox and a datagram that is filled from it, with the same channels: each reliable command that was queued still is, or was put
 -- in; so each acknowledgement; and each that was sent, so also where it was due to go again, is sent as before, or was put in
@@ -82,12 +87,17 @@ abbrev pub put_out : Pace → ℕ → Outbox → List Message
 put_out pace zero o = []
 put_out pace (suc n) o = (filled pace o).messages ++ put_out pace n (filled pace o).outbox
 
--- after so many datagrams nothing may go, and the acknowledgements that waited before were in them, and all that was due to go again
+-- a sent command of a channel is there still, as it was
+abbrev pub StaysSent : ℕ → Sent → Outbox → Type 0
+StaysSent i p o = (s : SendingEnd) × (slice_get o.senders i ≡ Some s) × Has s.sender.sent p
+
+-- after so many datagrams nothing may go, and the acknowledgements that waited before were in them, and all that was due to go again; but a
+-- data command may be due still, where something is in transit
 pub record IsPutOut (pace : Pace) (o : Outbox) (n : ℕ) : Type 0 where
   pub rests : NothingMayGo pace (after_datagrams pace n o)
   pub acknowledgements : (a : Acknowledgement) → Has o.acknowledgements a → Has (put_out pace n o) (acknowledgement_of a)
   pub due : (i : ℕ) (s : SendingEnd) → slice_get o.senders i ≡ Some s → (p : Sent) → Has s.sender.sent p → p.transmission.due ≡ true → p.command.reliable ≡ true
-      → Has (put_out pace n o) (message_of s.channel p.command)
+      → Has (put_out pace n o) (message_of s.channel p.command) ⊎ (StaysSent i p (after_datagrams pace n o) × IsInTransit (after_datagrams pace n o).senders)
   pub controls : (p : SentControl) → Has o.control.sent p → p.transmission.due ≡ true → Has (put_out pace n o) (controlling.message_of p.command)
 
 -- what is ready to go: all that waits to go first, and what is due to go again

@@ -5,7 +5,7 @@
 //! connections, and of the definitions that the contracts of `enet_outbox::Outbox` and `enet_peer::Peer` name. Proved: a command that waits
 //! for its acknowledgement is acknowledged wherever it comes while there is room, and from each reached link an exchange without losses
 //! leads to where all reliable packets were dispatched (`everything_can_arrive`), as do any rounds without losses, by so many as commands
-//! were queued, once the timeouts of what waited are over (`rounds_get_through`); rounds of two connected peers make fewer the commands
+//! were queued or waited, once the timeouts of what waited are over (`rounds_get_through`); rounds of two connected peers make fewer the commands
 //! that are outstanding on all channels of both, or time alone passes, and so come to where nothing is (`both_get_through`), also where
 //! neither has a second turn in a round (`rounds_in_turn_get_through`); nothing holds back for good what an outbox has to send, and once
 //! nothing goes any more, all has gone, or something waits for its acknowledgement (`nothing_is_held_back`); a peer answers what its sender
@@ -23,6 +23,7 @@ ghost use Rattle.enet_codec.specs.Message.{Message, acknowledge};
 ghost use Rattle.enet_seq.specs.Numbering.{wire};
 ghost use Rattle.enet_rtt.specs.Clock.{meant_time};
 ghost use Rattle.enet_rtt.specs.Timing.{timeout};
+ghost use Rattle.enet_rtt.specs.declared.transmission.Tick.{Tick};
 ghost use Rattle.enet_fragment.specs.declared.data.DataCommand.{DataCommand};
 ghost use Rattle.enet_connect.specs.declared.server.Server.{Server};
 ghost use Rattle.enet_receiver.specs.DataOutcome.{outcome, is_handled, acknowledged};
@@ -51,7 +52,7 @@ ghost use Rattle.law_connection.specs.LinkSteps.{Event, Runs, fresh_link, bodies
 ghost use Rattle.law_connection.specs.WireLink.{WireLink};
 ghost use Rattle.law_connection.specs.Connection.{Put, End, Connection};
 ghost use Rattle.law_connection.specs.Invariant.{Invariant};
-ghost use Rattle.law_progress.specs.Links.{Waits, AreShort, AllDispatched, IsUp, AreTimed, GetsThrough};
+ghost use Rattle.law_progress.specs.Links.{Waits, AreShort, AllDispatched, IsUp, AreTimed, GetsThrough, outstanding};
 ghost use Rattle.law_progress.specs.Outboxes.{AreFit, AllFit, NothingMayGo, WaitsForSome, GoOrStay, IsPutOut, AreQuiet, HasNew, AreSome, IsSpent, ready};
 ghost use Rattle.law_progress.specs.Peers.{Awaits, Comes, IsAnswered, IsRemoved, IsHeard, IsTakenAway, TakesIn, WentThen, ControlWentThen};
 ghost use Rattle.law_progress.specs.Counts.{LastCounts, CountsAsBefore};
@@ -88,18 +89,19 @@ pub fn everything_can_arrive()
 /// throttle drops of it, each datagram comes at once to a receiver that has room and takes in packets of the lengths that were submitted,
 /// and all acknowledgements that wait go back.
 ///
-/// `progresses`: whatever goes in a round is acknowledged in it. So each command that still waits has waited before, unchanged, and its
-/// timeout isn't over: no timeout is ever reached but by what was sent before the rounds began. The queue gets no longer, and gets shorter
-/// where nothing waited. `through`: so where there is a round by which each timeout of what waited is over, and after it as many rounds as
-/// commands were queued, nothing is outstanding, and each reliable packet that was submitted was dispatched. `happens`: there is a round
-/// from each such link.
+/// `progresses`: whatever goes in a round is acknowledged in it. So each command that still waits has waited before: it is unchanged, and its
+/// timeout isn't over; or it is due to go again, but what may be in transit left no room for it. The queue gets no longer, and gets shorter
+/// where nothing waited; fewer commands are outstanding, queued or waiting, where all that waited was due or late. `through`: so where there
+/// is a round by which each timeout of what waited is over, and with it as many rounds as commands were outstanding, nothing is outstanding
+/// any more, and each reliable packet that was submitted was dispatched. (What is late no longer goes again at once, however much it is: a
+/// round for each that waited is one more for each past the first than where it does.) `happens`: there is a round from each such link.
 pub fn rounds_get_through()
-    ensures progresses { (mtu most bound now : ℕ) (events : List Event) (v w : WireLink) → 28 < mtu → Runs mtu events fresh_link v → IsUp v → AreShort most v.submitted
-        → Round mtu most bound now v w → Progresses mtu now v w }
-    ensures through { (mtu most bound : ℕ) (events : List Event) (v w : WireLink) (before after : List ℕ) (now : ℕ) → 28 < mtu → Runs mtu events fresh_link v → IsUp v
-        → AreShort most v.submitted → AreOver now v.outgoing.sent → length v.outgoing.queued ≤ length after
-        → Rounds mtu most bound (before ++ now ∷ after) v w → HasAllThrough mtu v w }
-    ensures happens { (mtu most bound now : ℕ) (v : WireLink) → IsUp v → HasARound mtu most bound now v }
+    ensures progresses { (mtu most : ℕ) (tick : Tick) (events : List Event) (v w : WireLink) → 28 < mtu → Runs mtu events fresh_link v → IsUp v → AreShort most v.submitted
+        → Round mtu most tick v w → Progresses mtu tick v w }
+    ensures through { (mtu most : ℕ) (events : List Event) (v w : WireLink) (before after : List Tick) (tick : Tick) → 28 < mtu → Runs mtu events fresh_link v → IsUp v
+        → AreShort most v.submitted → AreOver tick.now v.outgoing.sent → outstanding v ≤ length (tick ∷ after)
+        → Rounds mtu most (before ++ tick ∷ after) v w → HasAllThrough mtu v w }
+    ensures happens { (mtu most : ℕ) (tick : Tick) (v : WireLink) → IsUp v → HasARound mtu most tick v }
 {}
 
 /// All that a peer sends, whatever its throttle, windows and transit limit are.
@@ -109,10 +111,11 @@ pub fn rounds_get_through()
 /// new one comes to wait. `ends`: a datagram with a command leaves less that is ready to go, so putting out all at one moment comes to an
 /// end. `spent`: then no acknowledgement waits, and no command of channel 0xFF is due or may go. `rests`: nor on any channel, once the
 /// datagram was asked for that had no command, which may drop unreliable packets, and no unsequenced packet waits, if all fits datagrams.
-/// `left`: so then nothing is left to send, or a command that was sent waits for its acknowledgement. `kept`: no reliable command is lost
-/// on its way into a datagram: each that was queued still is, or is put in, and each that was sent is as before, or is put in again. `all`:
-/// so putting out all comes to where nothing may go, by at most one datagram more than there was ready, and all acknowledgements that
-/// waited and reliable commands that were due to go again were put out.
+/// `left`: so then nothing is left to send, or a command that was sent waits for its acknowledgement, and isn't due to go again. `kept`: no
+/// reliable command is lost on its way into a datagram: each that was queued still is, or is put in, and each that was sent is as before, or
+/// is put in again. `all`: so putting out all comes to where nothing may go, by at most one datagram more than there was ready, and all
+/// acknowledgements that waited and reliable commands that were due to go again were put out; but a data command may be due still, as it
+/// was, while others are in transit.
 pub fn nothing_is_held_back()
     ensures data { (pace : Pace) (o : Outbox) (channel : ℕ) → AreFit pace o → AreQuiet o.senders → HasNew o.senders channel → AreSome (filled pace o).messages }
     ensures acknowledgements { (pace : Pace) (o : Outbox) (a : Acknowledgement) (rest : List Acknowledgement) → 576 ≤ pace.mtu → o.acknowledgements ≡ a ∷ rest
@@ -165,7 +168,7 @@ pub fn what_waits_is_answered()
 pub fn the_last_send_counts()
     ensures first { (now offset timeout : ℕ) (n : Numbered) → LastCounts now offset (begun now timeout n) }
     ensures again { (now offset : ℕ) (t : SentControl) → length t.times.times ≡ 8 → LastCounts now offset (again now t) }
-    ensures held { (bound now : ℕ) (t : SentControl) → CountsAsBefore t (held_back bound now t) }
+    ensures held { (tick : Tick) (t : SentControl) → CountsAsBefore t (held_back tick t) }
 {}
 
 /// Two connected peers, in every reached connection, on a channel below 255, where all that the receiving one has to send fits datagrams.
@@ -213,7 +216,7 @@ pub fn every_attempt_ends()
 {}
 
 /// One peer, whatever comes to it, whatever its user submits and takes, and however it disconnects. Its clock goes on by any steps of less
-/// than some 49 days, at each moment all goes again that is due, and the patience stays as it is at first.
+/// than some 49 days, at each moment all goes again that is due, having room, and the patience stays as it is at first.
 ///
 /// No command waits for its acknowledgement longer than its timeout and the greatest patience together, whichever state the peer is in: by
 /// then it is acknowledged, or the peer has ended. So of a peer that is connected from the start (`joined`), of a client that asks
@@ -236,10 +239,12 @@ pub fn all_that_waits_fits()
 
 /// One peer that is to disconnect later, whatever comes to it: as in `every_attempt_ends`, at each moment all is put out that may go.
 ///
-/// It stays so for no longer than its timeouts, the greatest patience and the gap between two moments of its clock allow: some 328 seconds
-/// at most, twice that patience and the gap, for each command that was still to go for the first time, and once more. Then it was done and
-/// asked for the end, which `every_attempt_ends` bounds, or the other end did, or its patience was over. So of a peer that was connected
-/// from the start (`joined`), of a client that asked (`connecting`), each with an mtu of at most 4,096, and of a server that answered
+/// It stays so for no longer than its timeouts, the greatest patience and the gap between two moments of its clock allow: 5 seconds, twice
+/// that patience and the gap, for each command that was still to go for the first time, for each that was still to be acknowledged, of
+/// these and of those that were sent, and once more; if all that and once more is less than some 49 days. (What is due to go again waits
+/// for room, in which others may be acknowledged: each time that one goes or is acknowledged it may wait as long.) Then it was done and asked
+/// for the end, which `every_attempt_ends` bounds, or the other end did, or its patience was over. So of a peer that was connected from the
+/// start (`joined`), of a client that asked (`connecting`), each with an mtu of at most 4,096, and of a server that answered
 /// (`answering`), whatever came and whatever its user did before, settings apart. `told`: it ceases to be so only where it has asked for
 /// the end, or has to acknowledge that the other end did, or its user has an event to take, or it is free.
 pub fn no_leave_is_put_off()
@@ -256,9 +261,10 @@ pub fn no_leave_is_put_off()
 /// ceases to be connected; and after each datagram the user there takes what it likes.
 ///
 /// `progresses`: a round makes fewer the commands that are outstanding at the two together, on all channels; or nothing went on any channel
-/// before the one end's second turn, and time alone passed: what is outstanding is as it was, no timeout was over, and if anything is
-/// outstanding at an end, something waits there for its acknowledgement. `acknowledged`: whatever goes before that turn is acknowledged in
-/// the round: what still waits has waited before, as it is, and its timeout isn't over. `through`: so a round by which all timeouts of what
+/// before the one end's second turn, and time alone passed: what is outstanding is as it was, but that what had waited out its timeout is
+/// due to go again, and if anything is outstanding at an end, something is in transit there, and its timeout isn't over. `acknowledged`:
+/// whatever goes before that turn is acknowledged in the round: what still waits has waited before, as it is, and its timeout isn't over; or
+/// it is due to go again, and there was no room for it. `through`: so a round by which all timeouts of what
 /// waited are over, and after it as many rounds as commands were outstanding, whatever their moments, bring all through: nothing is
 /// outstanding, and each reliable packet that either user submitted was dispatched at the other end, in order, taken or not. `happens`: there
 /// is a round in which a reliable packet goes and is acknowledged, so this speaks of something.

@@ -35,7 +35,7 @@ use Rattle.enet_sender.specs.Due.{SendingEnd}
 use Rattle.enet_outbox.specs.declared.parts.Matched.{Matched}
 use Rattle.enet_outbox.specs.declared.parts.Matched.TheVariants as matched
 use Rattle.enet_outbox.specs.declared.parts.Unsequenced.{Unsequenced}
-use Rattle.enet_outbox.specs.Outbox.{Outbox, after_acknowledgement, acknowledged_on, is_done, matched_by, has_ended, has_late}
+use Rattle.enet_outbox.specs.Outbox.{Outbox, after_acknowledgement, acknowledged_on, is_done, matched_by, has_ended, has_late, told_by, with_growth}
 use Rattle.enet_outbox.specs.Outbox as outbox
 use Rattle.enet_peer.specs.Peering.{Peering}
 use Rattle.enet_peer.specs.declared.parts.PeerState.{PeerState}
@@ -224,11 +224,8 @@ on_acknowledge-stays p now channel number told = if-peer (StaysAt p) (is_connect
     time : ℕ
     time = meant_time told (p.offset % 2 ^ 16)
 
-    gone : Peering
-    gone = record p { outbox = after_acknowledgement p.outbox channel number }
-
     q : Peering
-    q = sampled gone now time
+    q = sampled (record p { outbox = with_growth (after_acknowledgement p.outbox channel number) (told_by p.outbox channel number time) }) now time
 
     h : StaysAt p q
     h = stays-same (core p) (core p) (core q) (acknowledged-same p channel number) (stays (core p))

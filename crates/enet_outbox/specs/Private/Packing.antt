@@ -1,9 +1,9 @@
 -- A datagram while it is filled, as its buffer and its progress show it, and what each stage makes of it.
-use Rattle.std.specs.Prelude.{◌≡◌, ℕ, ◌+◌, ◌%◌, ◌==◌, not, Bool, if◌then◌else◌, ◌-◌, ◌≤◌, ◌||◌, nat_le, true, false, List, length, map, flat_map, Option, Some, None, slice_range, slice_get, slice_set, slice_index}
+use Rattle.std.specs.Prelude.{◌≡◌, ℕ, ◌+◌, ◌%◌, ◌==◌, not, Bool, if◌then◌else◌, ◌-◌, ◌≤◌, ◌||◌, max, nat_le, true, false, List, length, map, flat_map, Option, Some, None, slice_range, slice_get, slice_set, slice_index}
 use Rattle.std.specs.List.{AllByRecursion, list_any, range_with_len}
 use Rattle.enet_codec.specs.Message.{IsMessage, Message, canonical}
 use Rattle.enet_rtt.specs.Clock.{told_time}
-use Rattle.enet_throttle.specs.Throttle.{Throttling, is_admitted, next_counter}
+use Rattle.enet_throttle.specs.Throttle.{Throttling, is_admitted, next_counter, transit}
 use Rattle.enet_senders.specs.Controlling.{Commands}
 use Rattle.enet_sender.specs.Due.{SendingEnd}
 use Rattle.enet_outbox.specs.declared.parts.Acknowledgement.{Acknowledgement}
@@ -15,7 +15,9 @@ use Rattle.enet_outbox.specs.declared.packing.Progress.{Progress}
 use Rattle.enet_outbox.specs.declared.packing.Flow.{Flow}
 use Rattle.enet_sender.specs.declared.outgoing.Kind.{Kind}
 use Rattle.enet_sender.specs.declared.outgoing.Kind.TheVariants.{Begins}
-use Rattle.enet_outbox.specs.Outbox.{Outbox, transit_of}
+use Rattle.enet_sender.specs.declared.outgoing.Occasion.{Occasion}
+use Rattle.enet_outbox.specs.Allowance.{limit}
+use Rattle.enet_outbox.specs.Outbox.{Outbox, transit_of, prices_of}
 use Rattle.enet_outbox.specs.Emission.{Filling, asks, fits, with_command, with_acknowledgements, with_controls, with_unsequenced, with_channel, with_channels}
 
 -- for no more than so many unsequenced packets room is kept where none waits
@@ -90,12 +92,28 @@ abbrev pub refuses : Kind → Throttling → Bool
 refuses Begins t = not (is_admitted t)
 refuses _ t = false
 
--- what the channels share: the throttle, the bytes in transit, and the channel of the last data command
+-- what the channels share: the throttle, what is in transit, what the prices may be together, and the channel of the last data command
 abbrev pub with_flow : Outbox → List SendingEnd → Flow → Outbox
 with_flow o senders w = record o { senders = senders; throttle = w.throttle; last = w.last }
 
+pub record Counts (o : Outbox) (w : Flow) : Type 0 where
+  pub transit : transit_of o ≡ w.transit
+  pub prices : prices_of o ≡ w.prices
+  pub dearest : limit o.allowance ≡ w.dearest
+
 abbrev pub Shares : Outbox → Flow → Type 0
-Shares o w = (o.throttle ≡ w.throttle) × (o.last ≡ w.last) × (transit_of o ≡ w.transit)
+Shares o w = (o.throttle ≡ w.throttle) × (o.last ≡ w.last) × Counts o w
+
+-- what the sender of a channel is told when it is asked what is due
+abbrev pub told : Pace → Flow → Occasion
+told pace w = record {
+  now = pace.now;
+  timeout = pace.timeout;
+  transit = w.transit;
+  most = transit w.throttle pace.window pace.mtu;
+  prices = w.prices;
+  dearest = max w.dearest pace.mtu;
+}
 
 -- one channel: its place among the senders, its sender, and what it shares
 pub record ChannelSource : Type 0 where
@@ -111,7 +129,7 @@ abbrev pub PacksChannel : Pace → ChannelSource → ChannelSource → Page → 
 PacksChannel pace old new from to =
     (f : Filling) → Holds f from.progress from.buf → f.closed ≡ false → slice_get f.outbox.senders old.channel ≡ Some old.sender → Shares f.outbox old.flow
     → Leads (with_channel pace f old.channel) (with_channel_left f.outbox new) to.progress to.buf
-    × (transit_of (with_channel_left f.outbox new) ≡ new.flow.transit)
+    × Counts (with_channel_left f.outbox new) new.flow
 
 -- all n channels from turn k on, cyclically, beginning with the first
 abbrev pub turns : ℕ → ℕ → ℕ → List ℕ
@@ -127,7 +145,7 @@ abbrev pub PacksChannels : Pace → ChannelsSource → ChannelsSource → Page �
 PacksChannels pace old new from to =
     (f : Filling) → Holds f from.progress from.buf → f.outbox.senders ≡ old.senders → Shares f.outbox old.flow
     → Leads (with_channels pace (turns old.first (length old.senders) 0) f) (with_flow f.outbox new.senders new.flow) to.progress to.buf
-    × (transit_of (with_flow f.outbox new.senders new.flow) ≡ new.flow.transit)
+    × Counts (with_flow f.outbox new.senders new.flow) new.flow
 
 -- the header, where a command asks for an acknowledgement and where none does
 abbrev pub header_asking : ℕ → Destination → Bool → Header

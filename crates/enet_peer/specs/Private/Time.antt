@@ -4,12 +4,12 @@ use Rattle.enet_rtt.specs.declared.expiry.Expiry.{Expiry}
 use Rattle.enet_rtt.specs.declared.expiry.Expiry.TheVariants.{No, Resend, End}
 use Rattle.enet_outbox.specs.Outbox.{marked}
 use Rattle.enet_peer.specs.Peering.{Peering}
-use Rattle.enet_peer.specs.Calls.{after_timeouts, expiry_of, growth_bound, held_back, is_held_back}
+use Rattle.enet_peer.specs.Calls.{after_timeouts, expiry_of, held_back, is_held_back, tick_of}
 
 -- what waited out its timeout is due to go again
 abbrev pub marked_by : Expiry → Peering → ℕ → Peering
 marked_by No p now = p
-marked_by Resend p now = record p { outbox = marked p.outbox (growth_bound p) now }
+marked_by Resend p now = record p { outbox = marked p.outbox (tick_of p now) }
 marked_by End p now = p
 
 -- or is held back

@@ -1,6 +1,7 @@
 -- What all commands that a ring names become, and what a test says of them.
 use Rattle.std.specs.Prelude.{ℕ, zero, suc, Bool, false, [], Option, Some, None}
 use Rattle.std.specs.Option.{option_map}
+use Rattle.enet_rtt.specs.declared.transmission.Tick.{Tick}
 use Rattle.enet_sender.specs.declared.sent.Sent.{Sent}
 use Rattle.enet_sender.specs.Sender.{marked}
 use Rattle.enet_sender.specs.Rings.{Rings}
@@ -11,8 +12,8 @@ changed_at change zero o = o
 changed_at change (suc n) o = change o
 
 -- marked, where it is late
-abbrev pub marked_at : ℕ → ℕ → ℕ → Option Sent → Option Sent
-marked_at bound now n o = changed_at (option_map (marked bound now)) n o
+abbrev pub marked_at : Tick → ℕ → Option Sent → Option Sent
+marked_at tick n o = changed_at (option_map (marked tick)) n o
 
 -- taken out
 abbrev pub taken_at : ℕ → Option Sent → Option Sent

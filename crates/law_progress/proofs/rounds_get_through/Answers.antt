@@ -5,7 +5,7 @@ use Rattle.law_progress.proofs.Rounds.{progress, all-through}
 use Rattle.law_progress.proofs.rounds_get_through.Goals as goal
 
 pub returns-clause-progresses : goal.returns-clause-progresses
-returns-clause-progresses c = λ mtu most bound now es v w big r up short round. progress mtu most bound now v w big (Sound-runs mtu es fresh_link v big (Sound-fresh mtu) r) up short round
+returns-clause-progresses c = λ mtu most tick es v w big r up short round. progress mtu most tick v w big (Sound-runs mtu es fresh_link v big (Sound-fresh mtu) r) up short round
 
 pub returns-clause-through : goal.returns-clause-through
 returns-clause-through c = all-through

@@ -81,9 +81,9 @@ returns-in-Some-clause-credits c = credit.refused c.in-Some.why c.args.credits.n
 pub returns-in-Known-clause-credits : goal.returns-in-Known-clause-credits
 returns-in-Known-clause-credits c =
     credits-known (record { basis = basis_of c.args.start.now; slots = all_shown c.args.slots.now.items }) c.args.from c.args.offer c.args.len c.in-Known.place c.args.start.now.config.generations
-    c.args.credits.now.items c.count_came.new.credits.items _ (sym c.offer_refused.ensures ∙ c.in_default.is)
+    c.args.credits.now.items c.count_offer.new.credits.items _ (sym c.offer_refused.ensures ∙ c.in_default.is)
     (seat-in c.args.slots.now.items c.deref.result.now c.args.from c.args.offer.connect_id c.args.start.now.config.generations c.seat_for.result (Known c.in-Known.place) c.seat_for.ensures.seat c.deref.ensures.value c.in-Known.is)
-    c.count_came.ensures
+    c.count_offer.ensures
 
 pub returns-in-Full-clause-credits : goal.returns-in-Full-clause-credits
 returns-in-Full-clause-credits c =
@@ -106,5 +106,5 @@ returns-in-Ok-clause-credits c =
     let seat = seat-in c.args.slots.now.items c.deref.result.now c.args.from c.args.offer.connect_id c.args.start.now.config.generations c.seat_for.result (At c.in-At.place)
     c.seat_for.ensures.seat c.deref.ensures.value c.in-At.is in
     let h : Listener = record { basis = basis_of c.args.start.now; slots = all_shown c.args.slots.now.items } in
-    subst (λ (credits : List Credit). OfferCredits h c.args.from c.args.offer c.args.len handled_one c.args.credits.now.items credits) (sym c.count_first.ensures)
+    subst (λ (credits : List Credit). OfferCredits h c.args.from c.args.offer c.args.len handled_one c.args.credits.now.items credits) (sym c.count_offer-in-Ok.ensures)
     (credit.answered c.in-At.place c.args.credits.now.items seat.0 seat.1)

@@ -1,44 +1,64 @@
-use Rattle.std.proofs.Common.{◌≡◌, ◌-◌, ◌+◌, ◌<◌, length, ap, sym, ◌∙◌, arith, rules, Some, None, unwrap_or}
-use Rattle.enet_outbox.specs.Outbox.{as_data}
+use Rattle.std.proofs.Common.{◌≡◌, ◌-◌, ◌<◌, cond, length, ap, arith, rules, true, false, Some, None}
+use Rattle.enet_sender.specs.Sender.{bytes_leaving, price_leaving}
 use Rattle.enet_outbox.proofs.Senders.{accepts}
 use Rattle.enet_outbox.proofs.lists.acknowledge_on.Goals as goal
 
-pub returns-in_default-clause-found : goal.returns-in_default-clause-found
-returns-in_default-clause-found c =
+pub returns-in_err-told-clause-kept : goal.returns-in_err-told-clause-kept
+returns-in_err-told-clause-kept c =
     let inside : c.args.channel < length c.args.senders.now = omega (arith, c.from-place.ensures, c.len.ensures, c.if-place-len.false) in
-    let none : c.acknowledge.result ≡ None = search rules in
-    ap as_data (sym none) ∙ (accepts c.args.transit.now c.args.channel c.args.number c.args.time c.args.senders.now c.acknowledge.new.self c.acknowledge.result inside c.requires c.acknowledge.ensures.bytes c.acknowledge.ensures.ends).found
-
-pub returns-in_default-clause-accepted : goal.returns-in_default-clause-accepted
-returns-in_default-clause-accepted c =
-    let inside : c.args.channel < length c.args.senders.now = omega (arith, c.from-place.ensures, c.len.ensures, c.if-place-len.false) in
-    (accepts c.args.transit.now c.args.channel c.args.number c.args.time c.args.senders.now c.acknowledge.new.self c.acknowledge.result inside c.requires c.acknowledge.ensures.bytes c.acknowledge.ensures.ends).accepted
-
-pub returns-in_default-clause-kept : goal.returns-in_default-clause-kept
-returns-in_default-clause-kept c =
-    let inside : c.args.channel < length c.args.senders.now = omega (arith, c.from-place.ensures, c.len.ensures, c.if-place-len.false) in
-    let none : c.acknowledge.result ≡ None = search rules in
-    let same : c.args.transit.now + unwrap_or c.acknowledge.result 0 ≡ c.args.transit.now = ap (λ o. c.args.transit.now + unwrap_or o 0) none ∙ (omega arith) in
-    (accepts c.args.transit.now c.args.channel c.args.number c.args.time c.args.senders.now c.acknowledge.new.self c.acknowledge.result inside c.requires c.acknowledge.ensures.bytes c.acknowledge.ensures.ends).kept c.args.transit.now same
+    (accepts c.args.transit.now c.args.prices.now c.args.channel c.args.number c.args.time c.args.senders.now c.acknowledge.new.self None inside c.requires c.in_err-told.ensures.told c.in_err-told.ensures.ends).kept c.args.transit.now c.args.prices.now (omega arith) (omega arith)
 
 pub overflow_sub-transit : goal.overflow_sub-transit
 overflow_sub-transit c =
     let inside : c.args.channel < length c.args.senders.now = omega (arith, c.from-place.ensures, c.len.ensures, c.if-place-len.false) in
-    (accepts c.args.transit.now c.args.channel c.args.number c.args.time c.args.senders.now c.acknowledge.new.self (Some c.in-Some.bytes) inside c.requires c.in-Some.ensures.bytes c.in-Some.ensures.ends).enough
+    let waits : c.in_ok-told.told.due ≡ false = search rules in
+    let gone : bytes_leaving (Some c.in_ok-told.told) ≡ c.in_ok-told.told.bytes = ap (λ b. cond b 0 c.in_ok-told.told.bytes) waits in
+    let most = (accepts c.args.transit.now c.args.prices.now c.args.channel c.args.number c.args.time c.args.senders.now c.acknowledge.new.self (Some c.in_ok-told.told) inside c.requires c.in_ok-told.ensures.told c.in_ok-told.ensures.ends).bytes in
+    omega arith
 
-pub returns-clause-found : goal.returns-clause-found
-returns-clause-found c =
+pub overflow_sub-prices : goal.overflow_sub-prices
+overflow_sub-prices c =
     let inside : c.args.channel < length c.args.senders.now = omega (arith, c.from-place.ensures, c.len.ensures, c.if-place-len.false) in
-    (accepts c.args.transit.now c.args.channel c.args.number c.args.time c.args.senders.now c.acknowledge.new.self (Some c.in-Some.bytes) inside c.requires c.in-Some.ensures.bytes c.in-Some.ensures.ends).found
+    let waits : c.in_ok-told.told.due ≡ false = search rules in
+    let gone : price_leaving (Some c.in_ok-told.told) ≡ c.in_ok-told.told.price = ap (λ b. cond b 0 c.in_ok-told.told.price) waits in
+    let most = (accepts c.args.transit.now c.args.prices.now c.args.channel c.args.number c.args.time c.args.senders.now c.acknowledge.new.self (Some c.in_ok-told.told) inside c.requires c.in_ok-told.ensures.told c.in_ok-told.ensures.ends).prices in
+    omega arith
 
-pub returns-clause-accepted : goal.returns-clause-accepted
-returns-clause-accepted c =
+pub returns-then-not-told-clause-told : goal.returns-then-not-told-clause-told
+returns-then-not-told-clause-told c =
     let inside : c.args.channel < length c.args.senders.now = omega (arith, c.from-place.ensures, c.len.ensures, c.if-place-len.false) in
-    (accepts c.args.transit.now c.args.channel c.args.number c.args.time c.args.senders.now c.acknowledge.new.self (Some c.in-Some.bytes) inside c.requires c.in-Some.ensures.bytes c.in-Some.ensures.ends).accepted
+    (accepts c.args.transit.now c.args.prices.now c.args.channel c.args.number c.args.time c.args.senders.now c.acknowledge.new.self (Some c.in_ok-told.told) inside c.requires c.in_ok-told.ensures.told c.in_ok-told.ensures.ends).found
 
-pub returns-clause-kept : goal.returns-clause-kept
-returns-clause-kept c =
+pub returns-then-not-told-clause-accepted : goal.returns-then-not-told-clause-accepted
+returns-then-not-told-clause-accepted c =
     let inside : c.args.channel < length c.args.senders.now = omega (arith, c.from-place.ensures, c.len.ensures, c.if-place-len.false) in
-    let h = accepts c.args.transit.now c.args.channel c.args.number c.args.time c.args.senders.now c.acknowledge.new.self (Some c.in-Some.bytes) inside c.requires c.in-Some.ensures.bytes c.in-Some.ensures.ends in
-    let few = h.enough in
-    h.kept (c.args.transit.now - c.in-Some.bytes) (omega arith)
+    (accepts c.args.transit.now c.args.prices.now c.args.channel c.args.number c.args.time c.args.senders.now c.acknowledge.new.self (Some c.in_ok-told.told) inside c.requires c.in_ok-told.ensures.told c.in_ok-told.ensures.ends).accepted
+
+pub returns-then-not-told-clause-kept : goal.returns-then-not-told-clause-kept
+returns-then-not-told-clause-kept c =
+    let inside : c.args.channel < length c.args.senders.now = omega (arith, c.from-place.ensures, c.len.ensures, c.if-place-len.false) in
+    let waits : c.in_ok-told.told.due ≡ false = search rules in
+    let bytes : bytes_leaving (Some c.in_ok-told.told) ≡ c.in_ok-told.told.bytes = ap (λ b. cond b 0 c.in_ok-told.told.bytes) waits in
+    let price : price_leaving (Some c.in_ok-told.told) ≡ c.in_ok-told.told.price = ap (λ b. cond b 0 c.in_ok-told.told.price) waits in
+    let h = accepts c.args.transit.now c.args.prices.now c.args.channel c.args.number c.args.time c.args.senders.now c.acknowledge.new.self (Some c.in_ok-told.told) inside c.requires c.in_ok-told.ensures.told c.in_ok-told.ensures.ends in
+    let most = h.bytes in
+    let dear = h.prices in
+    h.kept (c.args.transit.now - c.in_ok-told.told.bytes) (c.args.prices.now - c.in_ok-told.told.price) (omega arith) (omega arith)
+
+pub returns-else-not-told-clause-told : goal.returns-else-not-told-clause-told
+returns-else-not-told-clause-told c =
+    let inside : c.args.channel < length c.args.senders.now = omega (arith, c.from-place.ensures, c.len.ensures, c.if-place-len.false) in
+    (accepts c.args.transit.now c.args.prices.now c.args.channel c.args.number c.args.time c.args.senders.now c.acknowledge.new.self (Some c.in_ok-told.told) inside c.requires c.in_ok-told.ensures.told c.in_ok-told.ensures.ends).found
+
+pub returns-else-not-told-clause-accepted : goal.returns-else-not-told-clause-accepted
+returns-else-not-told-clause-accepted c =
+    let inside : c.args.channel < length c.args.senders.now = omega (arith, c.from-place.ensures, c.len.ensures, c.if-place-len.false) in
+    (accepts c.args.transit.now c.args.prices.now c.args.channel c.args.number c.args.time c.args.senders.now c.acknowledge.new.self (Some c.in_ok-told.told) inside c.requires c.in_ok-told.ensures.told c.in_ok-told.ensures.ends).accepted
+
+pub returns-else-not-told-clause-kept : goal.returns-else-not-told-clause-kept
+returns-else-not-told-clause-kept c =
+    let inside : c.args.channel < length c.args.senders.now = omega (arith, c.from-place.ensures, c.len.ensures, c.if-place-len.false) in
+    let due : c.in_ok-told.told.due ≡ true = search rules in
+    let bytes : bytes_leaving (Some c.in_ok-told.told) ≡ 0 = ap (λ b. cond b 0 c.in_ok-told.told.bytes) due in
+    let price : price_leaving (Some c.in_ok-told.told) ≡ 0 = ap (λ b. cond b 0 c.in_ok-told.told.price) due in
+    (accepts c.args.transit.now c.args.prices.now c.args.channel c.args.number c.args.time c.args.senders.now c.acknowledge.new.self (Some c.in_ok-told.told) inside c.requires c.in_ok-told.ensures.told c.in_ok-told.ensures.ends).kept c.args.transit.now c.args.prices.now (omega arith) (omega arith)

@@ -14,7 +14,7 @@ returns-then-has_to_wait c = λ s there.
     let buf = c.args.buf.now in
     let at = place_in c.args.progress.now buf in
     turn-none (turn-begin s there)
-    (called c.args.pace c.args.channel flow c.args.progress.now senders senders buf buf due.Nothing c.transit_limit-most.result at c.transit_limit-most.ensures refl
+    (called c.args.pace c.args.channel flow c.args.progress.now senders senders buf buf due.Nothing c.occasion_of-occasion.result at c.occasion_of-occasion.ensures refl
     (λ e here.
     let P : Option Next → Type 0 = λ n. Did n due.Nothing e e (record { old = buf; at = at; new = buf }) in
-    (e, (sym (set-there senders c.args.channel e here), subst P (sym (c.has_to_wait.ensures e here c.if-has_to_wait.true c.args.pace.now c.args.pace.timeout)) (refl, refl)))))
+    (e, (sym (set-there senders c.args.channel e here), subst P (sym (c.has_to_wait.ensures e here c.if-has_to_wait.true)) (refl, refl)))))

@@ -15,7 +15,7 @@ loop-place-preserved c =
     let inside : c.loop-place.place < length ring = omega (arith, c.loop-place-test.true, c.loop-place.invariant.end, c.args.ring.now.ok.0) in
     let key_is = sym (get_or_read ring c.loop-place.place key inside c.index-key.ensures 4294967295) in
     record {
-      changed = changed-more (option_map (marked c.args.bound c.args.now)) (marked-twice c.args.bound c.args.now) (get c.args.pending.now.slab) (get c.loop-place.pending.slab) (get c.mark.new.self.slab)
+      changed = changed-more (option_map (marked c.args.tick)) (marked-twice c.args.tick) (get c.args.pending.now.slab) (get c.loop-place.pending.slab) (get c.mark.new.self.slab)
           ring c.loop-place.place key inside key_is c.loop-place.invariant.changed c.mark.ensures.changed c.mark.ensures.others;
       end = c.loop-place.invariant.end;
     }
@@ -23,5 +23,5 @@ loop-place-preserved c =
 pub returns : goal.returns
 returns c = λ key.
     c.loop-place.invariant.changed key
-    ∙ ap (λ keys. marked_at c.args.bound c.args.now (times key keys) (get c.args.pending.now.slab key))
+    ∙ ap (λ keys. marked_at c.args.tick (times key keys) (get c.args.pending.now.slab key))
     (take_all c.loop-place.place c.args.ring.now.items (omega (arith, c.loop-place-test.false, c.loop-place.invariant.end, c.args.ring.now.ok.0)))

@@ -7,6 +7,6 @@ use Rattle.enet_sender.proofs.ring.mark_all.Given as goal
 
 abbrev pub invariant-loop-place : goal.invariant-loop-place
 invariant-loop-place l = record {
-  changed : (key : ℕ) → get l.pending.slab key ≡ marked_at l.bound l.now (times key (take l.place l.ring.items)) (get l.initial.pending.slab key);
+  changed : (key : ℕ) → get l.pending.slab key ≡ marked_at l.tick (times key (take l.place l.ring.items)) (get l.initial.pending.slab key);
   end : l.place-end ≡ deque_len l.ring;
 }

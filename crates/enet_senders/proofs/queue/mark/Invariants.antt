@@ -5,7 +5,7 @@ use Rattle.enet_senders.proofs.queue.mark.Given as goal
 
 abbrev pub invariant-loop-place : goal.invariant-loop-place
 invariant-loop-place l = record {
-  items : l.sent.items ≡ map (marked l.bound l.now) (take l.place l.initial.sent.items) ++ drop l.place l.initial.sent.items;
+  items : l.sent.items ≡ map (marked l.tick) (take l.place l.initial.sent.items) ++ drop l.place l.initial.sent.items;
   len : deque_len l.sent ≡ deque_len l.initial.sent;
   capacity : deque_capacity l.sent ≡ deque_capacity l.initial.sent;
   end : l.place-end ≡ deque_len l.initial.sent;

@@ -22,4 +22,4 @@ returns c = λ e there waits.
     let o = c.index-channels-from.result in
     let inside : c.from.result < length c.args.channels.now = omega (arith, c.from.ensures, c.requires.inside) in
     let is = end-is s c.args.channels.now c.args.channel c.from.result o e c.from.ensures inside (sym c.index-channels-from.is) there in
-    subst (λ (x : SendingEnd). Waits c.args.transit c.args.most x.sender) is (c.has_to_wait.ensures waits)
+    subst (λ (x : SendingEnd). Waits c.args.occasion x.sender) is (c.has_to_wait.ensures waits)

@@ -1,4 +1,4 @@
-use Rattle.law_connection.proofs.WireSender.{Shows-nothing, Shows-submitted, Shows-next, Shows-skipped, Shows-acknowledged, Shows-acknowledged_bytes, Shows-in_transit, Shows-marked, Shows-lateness, Shows-after_lateness, Shows-cleared, Shows-left, reads-queued, reads-next}
+use Rattle.law_connection.proofs.WireSender.{Shows-nothing, Shows-submitted, Shows-next, Shows-skipped, Shows-acknowledged, Shows-told, Shows-in_transit, Shows-prices, Shows-marked, Shows-lateness, Shows-after_lateness, Shows-cleared, Shows-left, reads-queued, reads-next}
 use Rattle.law_connection.proofs.link.wire_sender.Goals as goal
 
 pub returns-clause-nothing : goal.returns-clause-nothing
@@ -16,11 +16,14 @@ returns-clause-skipped k = Shows-skipped
 pub returns-clause-acknowledged : goal.returns-clause-acknowledged
 returns-clause-acknowledged k = Shows-acknowledged
 
-pub returns-clause-acknowledged_bytes : goal.returns-clause-acknowledged_bytes
-returns-clause-acknowledged_bytes k = Shows-acknowledged_bytes
+pub returns-clause-told : goal.returns-clause-told
+returns-clause-told k = Shows-told
 
 pub returns-clause-in_transit : goal.returns-clause-in_transit
 returns-clause-in_transit k = Shows-in_transit
+
+pub returns-clause-prices : goal.returns-clause-prices
+returns-clause-prices k = Shows-prices
 
 pub returns-clause-marked : goal.returns-clause-marked
 returns-clause-marked k = Shows-marked

@@ -1,7 +1,6 @@
-use Rattle.std.proofs.Common.{◌≡◌, sym, refl, ap, subst, ◌∙◌}
+use Rattle.std.proofs.Common.{◌≡◌, refl, ap, subst, ◌∙◌}
 use Rattle.enet_outbox.specs.declared.parts.Matched.{Matched}
-use Rattle.enet_outbox.specs.declared.parts.Matched.TheVariants as matched
-use Rattle.enet_outbox.specs.Outbox.{Outbox, after_match}
+use Rattle.enet_outbox.specs.Outbox.{Outbox}
 use Rattle.enet_peer.specs.contracts.peer.Peer.{the_view}
 use Rattle.enet_peer.specs.Peering.{Peering}
 use Rattle.enet_peer.specs.Peered.{Peered}

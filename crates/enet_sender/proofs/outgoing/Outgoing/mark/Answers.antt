@@ -5,7 +5,7 @@ use Rattle.enet_sender.proofs.Rounds.{Marks, marks-sent, marks-queued, marks-kee
 use Rattle.enet_sender.proofs.outgoing.Outgoing.mark.Goals.{After-mark_all}
 use Rattle.enet_sender.proofs.outgoing.Outgoing.mark.Goals as goal
 
-marks : (c : After-mark_all) → Marks c.args.bound c.args.now (get c.args.pending.now.slab) (get c.mark_all.new.pending.slab) (rings_of c.args.self.now)
+marks : (c : After-mark_all) → Marks c.args.tick (get c.args.pending.now.slab) (get c.mark_all.new.pending.slab) (rings_of c.args.self.now)
 marks c = record { keeps = c.requires; changed = c.mark_all.ensures }
 
 pub returns-clause-marked : goal.returns-clause-marked

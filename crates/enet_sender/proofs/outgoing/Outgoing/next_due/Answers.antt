@@ -17,7 +17,7 @@ returns-in-Some-clause-did c =
     let place = c.in-Some.place in
     let new = end_of c.resend.new.pending.slab c.resend.new.self in
     let found = first_due-found at c.args.self.now.sent.items place c.in-Some.ensures.some in
-    let P : Outgoing → Type 0 = λ o. Did (next_resent c.args.occasion.now (sender_of at (rings_of o)) (length (named at (take place o.sent.items))) (slice_get (named at o.sent.items) (length (named at (take place o.sent.items))))) c.resend.result (end_of s o) new (record { old = c.args.buf.now; at = c.args.at; new = c.resend.new.buf }) in
+    let P : Outgoing → Type 0 = λ o. Did (next_resent c.args.occasion (sender_of at (rings_of o)) (length (named at (take place o.sent.items))) (slice_get (named at o.sent.items) (length (named at (take place o.sent.items))))) c.resend.result (end_of s o) new (record { old = c.args.buf.now; at = c.args.at; new = c.resend.new.buf }) in
     let did = subst P c.in-Some.ensures.rings c.resend.ensures.did in
     let Q : Option ℕ → Type 0 = λ i. Did (next_of wire c.args.occasion (sender_of at (rings_of c.args.self.now)) i) c.resend.result (end_of s c.args.self.now) new (record { old = c.args.buf.now; at = c.args.at; new = c.resend.new.buf }) in
     subst Q (sym found.2) did

@@ -37,10 +37,11 @@ returns-then-reliable-clause-did c =
     let p = c.in-Some-get.head.now in
     let is = head-queued at r.queued c.in-Some.key p (sym c.in-Some.ensures) (sym c.in-Some-get.ensures) in
     let next = goes (goal.at.returns-then-reliable-clause-did c).After-put c.if-not-may_go.false in
-    let P : Option Next → Type 0 = λ n. Did n (due.Sent c.in-Some-put.past c.bytes_of-added.result c.due_kind-kind.result) (end_of c.args.pending.now.slab c.args.self.now) (end_of c.begin.new.pending.slab c.begin.new.self) (record { old = c.args.buf.now; at = c.args.at; new = c.put.new.buf }) in
+    let P : Option Next → Type 0 = λ n. Did n (due.Sent c.in-Some-put.past c.counted-added.result.0 c.counted-added.result.1 c.due_kind-kind.result) (end_of c.args.pending.now.slab c.args.self.now) (end_of c.begin.new.pending.slab c.begin.new.self) (record { old = c.args.buf.now; at = c.args.at; new = c.put.new.buf }) in
     subst P (sym next) (
       c.in-Some-put.ensures.some,
-      c.bytes_of-added.ensures,
+      c.counted-added.ensures.bytes,
+      c.counted-added.ensures.price,
       c.due_kind-kind.ensures,
       c.begin.ensures.sends p (drop 1 (commands_at at r.queued)) (sym c.in-Some-get.ensures) is,
       c.in-Some-put.ensures.message,
@@ -53,10 +54,11 @@ returns-else-reliable-clause-did c =
     let p = c.in-Some-get.head.now in
     let is = head-queued at r.queued c.in-Some.key p (sym c.in-Some.ensures) (sym c.in-Some-get.ensures) in
     let next = goes (goal.at.returns-else-reliable-clause-did c).After-put c.if-not-may_go.false in
-    let P : Option Next → Type 0 = λ n. Did n (due.Sent c.in-Some-put.past c.bytes_of-added.result c.due_kind-kind.result) (end_of c.args.pending.now.slab c.args.self.now) (end_of c.leave.new.pending.slab c.leave.new.self) (record { old = c.args.buf.now; at = c.args.at; new = c.put.new.buf }) in
+    let P : Option Next → Type 0 = λ n. Did n (due.Sent c.in-Some-put.past c.counted-added.result.0 c.counted-added.result.1 c.due_kind-kind.result) (end_of c.args.pending.now.slab c.args.self.now) (end_of c.leave.new.pending.slab c.leave.new.self) (record { old = c.args.buf.now; at = c.args.at; new = c.put.new.buf }) in
     subst P (sym next) (
       c.in-Some-put.ensures.some,
-      c.bytes_of-added.ensures,
+      c.counted-added.ensures.bytes,
+      c.counted-added.ensures.price,
       c.due_kind-kind.ensures,
       c.leave.ensures.sends c.args.occasion.now c.args.occasion.timeout p (drop 1 (commands_at at r.queued)) (sym c.in-Some-get.ensures) is,
       c.in-Some-put.ensures.message,

@@ -9,6 +9,6 @@ invariant_of-self c =
     let s = c.self.inside.slab in
     let o = get s c.args.key in
     let late = sym c.mark_under.ensures.late ∙ c.if-mark_under.true in
-    let found = some-tested (is_late c.args.now) o late in
+    let found = some-tested (is_late c.args.tick.now) o late in
     keeps-cleared s c.mark_under.new.slab c.self.inside.deadlines c.clear.new.self c.self.inside.clock c.args.key c.self.invariant (c.self.invariant.inside c.args.key found.0 found.1) c.mark_under.ensures.updates.others
-    (λ p there. marked-due c.args.bound c.args.now o p late (sym c.mark_under.ensures.updates.changed ∙ there)) c.clear.ensures
+    (λ p there. marked-due c.args.tick o p late (sym c.mark_under.ensures.updates.changed ∙ there)) c.clear.ensures

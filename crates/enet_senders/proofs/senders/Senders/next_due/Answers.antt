@@ -5,7 +5,7 @@ use Rattle.enet_sender.specs.Due.{SendingEnd}
 use Rattle.enet_sender.specs.declared.outgoing.Due.TheVariants as due
 use Rattle.enet_senders.specs.Senders.{ends_in}
 use Rattle.enet_senders.specs.Sets.{KeepsSets}
-use Rattle.enet_senders.proofs.Sets.{keeps-sent, keeps-still, same-unsent, none-due-on, inside-due}
+use Rattle.enet_senders.proofs.Sets.{keeps-sent, keeps-still, same-unsent, inside-due}
 use Rattle.enet_senders.proofs.senders.Senders.next_due.Goals as goal
 
 pub invariant_of-self : goal.invariant_of-self
@@ -31,19 +31,13 @@ note_still-requires-clause-inside c =
     (inside-due c.args.occasion (ends_in c.self.inside.pending c.self.inside.channels.items) c.next_due_on-due.new.pending.slab c.next_due_on-due.new.channels.items
     c.args.channel c.next_due_on-due.result c.args.buf.now c.args.at c.next_due_on-due.new.buf inside c.next_due_on-due.ensures.did)
 
-pub note_still-requires-clause-none : goal.note_still-requires-clause-none
-note_still-requires-clause-none c = λ e there.
-    let inside = subst (λ (es : List SendingEnd). c.args.channel < length es) (sym c.self.view_is) c.requires in
-    none-due-on c.args.occasion (ends_in c.self.inside.pending c.self.inside.channels.items) (ends_in c.next_due_on-due.new.pending c.next_due_on-due.new.channels.items)
-    c.args.channel c.args.buf.now c.args.at c.next_due_on-due.new.buf inside c.in-Nothing.ensures.did e (ap (λ (os : List Outgoing). slice_get (ends_in c.next_due_on-due.new.pending os) c.args.channel) (sym c.deref-in-Nothing.ensures.value) ∙ there)
-
 pub invariant_of-self-in-Nothing : goal.invariant_of-self-in-Nothing
 invariant_of-self-in-Nothing c =
     let inside = subst (λ (es : List SendingEnd). c.args.channel < length es) (sym c.self.view_is) c.requires in
     let es = ends_in c.self.inside.pending c.self.inside.channels.items in
     let new = ends_in c.next_due_on-due.new.pending c.next_due_on-due.new.channels.items in
     let same : new ≡ es = same-unsent c.args.occasion es new c.args.channel due.Nothing c.args.buf.now c.args.at c.next_due_on-due.new.buf inside
-    (λ past added kind is. absurd (cc)) c.in-Nothing.ensures.did in
+    (λ past added price kind is. absurd (cc)) c.in-Nothing.ensures.did in
     record {
       kept = c.next_due_on-due.ensures.kept;
       sets = keeps-still c.self.inside.ready c.self.inside.flying _ new c.args.channel c.note_still.ensures.others
@@ -57,7 +51,7 @@ invariant_of-self-in-NoRoom c =
     let es = ends_in c.self.inside.pending c.self.inside.channels.items in
     let new = ends_in c.next_due_on-due.new.pending c.next_due_on-due.new.channels.items in
     let same : new ≡ es = same-unsent c.args.occasion es new c.args.channel due.NoRoom c.args.buf.now c.args.at c.next_due_on-due.new.buf inside
-    (λ past added kind is. absurd (cc)) c.in-NoRoom.ensures.did in
+    (λ past added price kind is. absurd (cc)) c.in-NoRoom.ensures.did in
     record {
       kept = c.next_due_on-due.ensures.kept;
       sets = subst (λ (xs : List SendingEnd). KeepsSets c.self.inside.ready c.self.inside.flying xs) (sym same) c.self.invariant.sets;
