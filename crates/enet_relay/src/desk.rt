@@ -135,8 +135,9 @@ impl Desk {
         let trip = host.host().round_trip(peer).map_or(0, |trip| trip.mean);
         let throttle = host.host().throttle(peer).unwrap_or(0);
         let transit = host.host().in_transit(peer).unwrap_or(0);
+        let allowance = host.host().allowance(peer).unwrap_or(0);
         format!(in alloc;
-            "peer {slot}.{generation} at {ip}:{port} for {seconds} s round trip {trip} ms throttle {throttle} in transit {transit} bytes\n"
+            "peer {slot}.{generation} at {ip}:{port} for {seconds} s round trip {trip} ms throttle {throttle} in transit {transit} of {allowance} bytes\n"
         )
     }
 
