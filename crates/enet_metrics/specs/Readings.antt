@@ -16,7 +16,7 @@ is_alive r = is_young r.age
 unfoldable pub peers_text : Standing → List ℕ
 peers_text s =
     figure_text (codes "enet_peers") (codes "gauge") (codes "How many peers are connected.") s.peers
-    ++ figure_text (codes "enet_in_transit_bytes") (codes "gauge") (codes "Bytes of reliable packets that were sent and are not acknowledged.") s.in_transit
+    ++ figure_text (codes "enet_in_transit_bytes") (codes "gauge") (codes "Bytes of reliable packets that were sent, are not acknowledged and are not due to be sent again.") s.in_transit
     ++ figure_text (codes "enet_sent_again") (codes "gauge") (codes "Commands that are not acknowledged and were sent more than once.") s.sent_again
     ++ figure_text (codes "enet_connects_passed_over_total") (codes "counter") (codes "CONNECTs that the guard kept from the host.") s.passed_over
 

@@ -37,7 +37,7 @@ pub struct Standing {
     /// Orders and events that wait.
     pub orders: u64,
     pub events: u64,
-    /// Bytes of reliable packets that were sent and aren't acknowledged.
+    /// Bytes of reliable packets that were sent, aren't acknowledged and aren't due to be sent again.
     pub in_transit: u64,
     /// Commands that aren't acknowledged and were sent more than once.
     pub sent_again: u64,
@@ -114,7 +114,7 @@ fn push_peers(text: &mut String, standing: &Standing) -> Result<(), AllocError>
         text,
         "enet_in_transit_bytes",
         "gauge",
-        "Bytes of reliable packets that were sent and are not acknowledged.",
+        "Bytes of reliable packets that were sent, are not acknowledged and are not due to be sent again.",
         standing.in_transit,
     )?;
     push_figure(
