@@ -5,7 +5,7 @@ use Rattle.std.specs.Int.{from_be_bytes, from_le_bytes, w32}
 use Rattle.enet_text.specs.declared.pcap.Order.{Order}
 use Rattle.enet_text.specs.declared.pcap.Order.TheVariants.{Big, Little}
 use Rattle.enet_text.specs.declared.pcap.Link.{Link}
-use Rattle.enet_text.specs.declared.pcap.Link.TheVariants.{Ethernet, RawIp, LinuxCooked, Loopback}
+use Rattle.enet_text.specs.declared.pcap.Link.TheVariants.{Ethernet, RawIp, LinuxCooked, LinuxCookedTwo, Loopback}
 use Rattle.enet_text.specs.declared.pcap.Format.{Format}
 use Rattle.enet_text.specs.declared.pcap.Captured.{Captured}
 use Rattle.enet_text.specs.declared.pcap.Datagram.{Datagram}
@@ -28,7 +28,8 @@ magic_of input = if nat_lt (length input) 4 then None else sign_of (number_of Bi
 -- What the packets of a link type begin with.
 abbrev pub link_of : ℕ → Option Link
 link_of number = if number == 0 then Some Loopback else (if number == 1 then Some Ethernet
-    else (if number == 12 || (number == 101 || number == 228) then Some RawIp else (if number == 113 then Some LinuxCooked else None)))
+    else (if number == 12 || (number == 101 || number == 228) then Some RawIp
+    else (if number == 113 then Some LinuxCooked else (if number == 276 then Some LinuxCookedTwo else None))))
 
 -- An input is a capture of this format: behind 24 bytes stand its packets.
 pub record IsCapture (input : List ℕ) (format : Format) (packets : List ℕ) : Type 0 where

@@ -13,7 +13,8 @@ pub enum InspectFault {
     /// This line, counted from 1, can't be read.
     #[error("E15 BadScript line {0}")]
     BadLine(u64),
-    /// The capture has packets of a link type other than Ethernet 1, raw IP 12, 101 or 228, Linux cooked 113 or BSD loopback 0.
+    /// The capture has packets of a link type other than Ethernet 1, raw IP 12, 101 or 228, Linux cooked 113 or 276, or BSD
+    /// loopback 0.
     #[error("link type {0} can't be read")]
     LinkType(u32),
     /// The capture is cut short behind so many packets.

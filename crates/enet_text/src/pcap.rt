@@ -28,6 +28,7 @@ enum Link {
     Ethernet,
     RawIp,
     LinuxCooked,
+    LinuxCookedTwo,
     Loopback,
 }
 
@@ -100,6 +101,7 @@ fn link_of(number: u32) -> Option<Link>
         1 => Some(Link::Ethernet),
         12 | 101 | 228 => Some(Link::RawIp),
         113 => Some(Link::LinuxCooked),
+        276 => Some(Link::LinuxCookedTwo),
         _ => None,
     }
 }
@@ -135,6 +137,7 @@ fn ipv4_in(link: Link, packet: &[u8]) -> Option<&[u8]>
         Link::RawIp => Some(packet),
         Link::Ethernet => typed(packet, 12),
         Link::LinuxCooked => typed(packet, 14),
+        Link::LinuxCookedTwo => cooked_in(packet),
         Link::Loopback => {
             let (family, rest) = packet.split_at_checked(4)?;
             let big = u32_of(family, Order::Big)?;
@@ -145,6 +148,18 @@ fn ipv4_in(link: Link, packet: &[u8]) -> Option<&[u8]>
                 None
             }
         }
+    }
+}
+
+// What stands behind a header of 20 bytes that begins with the type of the payload, where that is IPv4's.
+fn cooked_in(packet: &[u8]) -> Option<&[u8]>
+    ensures { IfSome result (λ inside. IsWithin inside.now packet.now) }
+{
+    let (header, rest) = packet.split_at_checked(20)?;
+    if u16_at(header, 0)? == 0x0800 {
+        Some(rest)
+    } else {
+        None
     }
 }
 
