@@ -132,7 +132,8 @@ lossy() {
     same sent-again-no-more "$(sent_again)" 0
 }
 
-# Two clients talk, and two others stop: what these are sent, 17 bytes each time, stays in transit until they go on.
+# Two clients talk, and two others stop: what these are sent, 17 bytes each time, isn't acknowledged until they go on. It leaves the
+# transit each time that it is due to be resent, and is in it again as soon as it goes, which is in the same turn while there is room.
 in_transit() {
     local told stopped talking
     "$room/tally" "$port" 2 12 > "$room/stopped.out" 2>&1 &
