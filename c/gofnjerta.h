@@ -130,7 +130,7 @@ typedef struct gofnjerta_reading {
     uint32_t window;                  /* bytes of reliable packets in transit at most: 4,096 to 65,536 */
     uint32_t connect_id;              /* the word of the end that connected */
     uint32_t round_trip, variance;    /* milliseconds: the mean, 500 at first, and its mean deviation */
-    uint32_t in_transit;              /* bytes of reliable packets that are sent and not acknowledged */
+    uint32_t in_transit;              /* bytes of reliable packets: sent, not acknowledged and not due to be resent */
     uint32_t throttle;                /* 0 to 32: how many of 32 unreliable packets are sent */
     uint32_t throttle_interval;       /* milliseconds */
     uint32_t acceleration, deceleration; /* of the throttle, in parts of 32 an interval, as the end that connected asked */

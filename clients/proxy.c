@@ -1,18 +1,26 @@
-// proxy PORT SERVER SEED [trip MS] [down MS] [loss PERCENT] [rate KBIT]: stands between clients and a server, all on 127.0.0.1, until it is stopped. What
-// comes to PORT goes to port SERVER, from a socket of its own for each client, and what comes back there goes to that client. Of all
-// datagrams, both ways, 8 % are dropped, 5 % go twice, and 10 % are held back for 1 to 8 ms while others pass, as drawn from SEED. No command
-// is dropped more than twice and no acknowledgement of it either, since a connection ends where one command goes six times in vain.
+// proxy PORT SERVER SEED [trip MS] [jitter MS] [down MS] [loss PERCENT] [rate KBIT] [inward KBIT] [thin KBIT] [queue MS] [tell 1]: stands
+// between clients and a server, all on 127.0.0.1, until it is stopped. What comes to PORT goes to port SERVER, from a socket of its own for
+// each client, and what comes back there goes to that client. Of all datagrams, both ways, 8 % are dropped, 5 % go twice, and 10 % are held
+// back for 1 to 8 ms while others pass, as drawn from SEED. No command is dropped more than twice and no acknowledgement of it either,
+// since a connection ends where one command goes six times in vain.
 //
-// Where one of the last words is given, it is a line in place of that, on which a datagram takes 20 to 37.5 ms, as its client has it, so that
-// what is sent again goes at different times, or so many milliseconds for all (`trip`). From 4 seconds after the first one on all are dropped
-// for so many milliseconds (`down`); of all so many percent are dropped, as drawn (`loss`); and all together have so many kilobits a second,
-// each way, with 28 bytes of headers a datagram, where what would wait for more than 100 ms is dropped (`rate`).
+// Where one of the last words is given, it is a line in place of that, on which a datagram takes 20 to 37.5 ms, as its client has it, so
+// that what is sent again goes at different times, or so many milliseconds for all (`trip`), and up to so many more, as drawn, so that some
+// overtake others (`jitter`). From 4 seconds after the first one on all are dropped for so many milliseconds (`down`); of all so many
+// percent are dropped, as drawn (`loss`); and all together have so many kilobits a second each way (`rate`), or to the clients alone
+// (`inward`), with 28 bytes of headers a datagram, where what would wait for more than 100 ms, or for so many (`queue`), is dropped. With
+// `thin` the first client that comes has a line of so many kilobits to itself, each way. With `tell` it prints at its end how many reliable
+// commands with data the server sent, how many of these it had sent before, and how many datagrams found the queue full.
+#define _GNU_SOURCE
 #include <arpa/inet.h>
 #include <poll.h>
+#include <signal.h>
+#include <stdbool.h>
 #include <sys/socket.h>
 #include <unistd.h>
 
 #include "common.h"
+#include "sends.h"
 
 enum { CLIENTS = 64, WAITING = 4096, LONGEST = 4096, MARKS = 1 << 20 };
 
@@ -33,9 +41,21 @@ static int waiting;
 static uint64_t seed;
 static int is_line;              // whether it is a line that drops them
 static double trip;             // seconds that a datagram takes on that line; 0 where each client has its own
-static double down, loss, rate; // of that line: seconds, the share from 0 to 1, and bytes a second; 0 where there is no such fault
+static double down, loss;       // of that line: seconds, and the share from 0 to 1; 0 where there is no such fault
+static double jitter;           // how many seconds more a datagram takes at most
+static double queue = 100e-3;   // for how many seconds a datagram may wait
 static double begun;            // when the first datagram came
-static double free_at[2];       // when the line has sent all that it took, to the server and to the clients
+static bool has_thin, tells;
+static Sends sends[1 + CLIENTS]; // of each client
+static unsigned long overfull;   // how many datagrams found the queue full
+static volatile sig_atomic_t stopped;
+
+// Bytes a second, 0 for no limit, and when all that it took has been sent.
+typedef struct Pipe {
+    double rate, free_at;
+} Pipe;
+
+static Pipe shared[2], thin[2]; // to the server and to the clients: for all, and for the first client where it has its own
 static uint8_t dropped[MARKS]; // how often a command was dropped; some share a mark
 
 static struct sockaddr_in local(long port)
@@ -76,18 +96,6 @@ static void put(const Held *datagram)
     sendto(datagram->socket, datagram->bytes, (size_t)datagram->length, 0, to, to == NULL ? 0 : sizeof datagram->to);
 }
 
-// The length of the command at the front of `left` bytes; 0 where there is none.
-static size_t command_length(const uint8_t *at, size_t left)
-{
-    static const uint8_t sizes[16] = { 0, 8, 48, 44, 8, 4, 6, 8, 24, 8, 12, 16, 24 };
-    static const uint8_t payload_lengths[16] = { [6] = 4, [7] = 6, [8] = 6, [9] = 6, [12] = 6 };
-    size_t size = left == 0 ? 0 : sizes[at[0] & 15];
-    if (size == 0 || size > left)
-        return 0;
-    const uint8_t *payload = at + payload_lengths[at[0] & 15];
-    return payload == at ? size : size + (size_t)(payload[0] << 8 | payload[1]);
-}
-
 // Counts the reliable commands and acknowledgements of a datagram that were dropped at least `most` times, and adds `more` to how often
 // each was dropped.
 static int count_dropped(const Held *datagram, uint8_t most, uint8_t more)
@@ -119,22 +127,36 @@ static void hold_until(const Held *datagram, double due)
     held[waiting++] = copy;
 }
 
+// When the pipe has sent the datagram that comes now; 0 where it has to wait for too long.
+static double through(Pipe *pipe, const Held *datagram, double time)
+{
+    if (pipe->rate == 0)
+        return time;
+    pipe->free_at = pipe->free_at > time ? pipe->free_at : time;
+    if (pipe->free_at > time + queue)
+        return 0;
+    return pipe->free_at += (double)(datagram->length + 28) / pipe->rate;
+}
+
 // What the line does with a datagram of this client, from 1 on.
 static void pass_over_line(const Held *datagram, int client)
 {
-    double time = now(), sent = time, *next = &free_at[datagram->to.sin_port != 0];
+    int inward = datagram->to.sin_port != 0;
+    double time = now(), sent;
     if (begun == 0)
         begun = time;
+    if (inward && tells)
+        count_sends(&sends[client], datagram->bytes, (size_t)datagram->length);
     if ((time >= begun + 4 && time < begun + 4 + down) || waiting == WAITING)
         return;
-    if (loss > 0 && (double)(draw(&seed) % 100) < 100 * loss)
+    if (loss > 0 && (double)(draw(&seed) % 100000) < 100000 * loss)
         return;
-    if (rate > 0) {
-        *next = *next > time ? *next : time;
-        if (*next > time + 100e-3)
-            return;
-        sent = *next += (double)(datagram->length + 28) / rate;
+    if ((sent = through(has_thin && client == 1 ? &thin[inward] : &shared[inward], datagram, time)) == 0) {
+        overfull++;
+        return;
     }
+    if (jitter > 0)
+        sent += jitter * (double)(draw(&seed) % 1000) / 1000;
     hold_until(datagram, sent + (trip > 0 ? trip : 20e-3 + 2.5e-3 * ((client - 1) % 8)));
 }
 
@@ -174,13 +196,14 @@ static void take(int index, const struct sockaddr_in *server)
     }
 }
 
-// Sends what was held back until now.
-static void send_due(void)
+// Sends what was held back until now. When the next is due; 0 where none waits.
+static double send_due(void)
 {
-    double time = now();
+    double time = now(), next = 0;
     int kept = 0;
     for (int i = 0; i < waiting; i++) {
         if (held[i]->due > time) {
+            next = next == 0 || held[i]->due < next ? held[i]->due : next;
             held[kept++] = held[i];
             continue;
         }
@@ -188,6 +211,60 @@ static void send_due(void)
         free(held[i]);
     }
     waiting = kept;
+    return next;
+}
+
+// Waits until something comes or is due, for as long as it takes.
+static void wait_until(double next)
+{
+    double left = next > 0 ? next - now() : 0;
+    struct timespec most = { .tv_sec = (time_t)left, .tv_nsec = (long)(1e9 * (left - (double)(time_t)left)) };
+    if (next == 0 || left > 0)
+        ppoll(sockets, (nfds_t)known, next > 0 ? &most : NULL, NULL);
+    else
+        poll(sockets, (nfds_t)known, 0);
+}
+
+static void stop(int signal)
+{
+    (void)signal;
+    stopped = 1;
+}
+
+static void tell(void)
+{
+    unsigned long sent = 0, again = 0;
+    for (int i = 1; i < known; i++) {
+        sent += sends[i].sent;
+        again += sends[i].again;
+    }
+    printf("sent %lu again %lu overfull %lu\n", sent, again, overfull);
+}
+
+// What a word of the line and its number mean.
+static void understand(const char *word, double number)
+{
+    if (strcmp(word, "trip") == 0)
+        trip = 1e-3 * number;
+    else if (strcmp(word, "down") == 0)
+        down = 1e-3 * number;
+    else if (strcmp(word, "loss") == 0)
+        loss = 1e-2 * number;
+    else if (strcmp(word, "rate") == 0)
+        shared[0].rate = shared[1].rate = 1e3 / 8 * number;
+    else if (strcmp(word, "inward") == 0)
+        shared[1].rate = 1e3 / 8 * number;
+    else if (strcmp(word, "thin") == 0)
+        thin[0].rate = thin[1].rate = 1e3 / 8 * number;
+    else if (strcmp(word, "queue") == 0)
+        queue = 1e-3 * number;
+    else if (strcmp(word, "jitter") == 0)
+        jitter = 1e-3 * number;
+    else if (strcmp(word, "tell") == 0)
+        tells = true;
+    else
+        give_up("proxy: %s is no word", word);
+    has_thin = thin[0].rate > 0;
 }
 
 int main(int count, char **words)
@@ -196,27 +273,20 @@ int main(int count, char **words)
     struct sockaddr_in server = local(number_of(count, words, 2, 1, 65535));
     seed = (uint64_t)number_of(count, words, 3, 0, INT32_MAX);
     is_line = count > 4;
-    for (int i = 4; i < count; i += 2) {
-        double number = (double)number_of(count, words, i + 1, 1, 1000000);
-        if (strcmp(words[i], "trip") == 0)
-            trip = 1e-3 * number;
-        else if (strcmp(words[i], "down") == 0)
-            down = 1e-3 * number;
-        else if (strcmp(words[i], "loss") == 0)
-            loss = 1e-2 * number;
-        else if (strcmp(words[i], "rate") == 0)
-            rate = 1e3 / 8 * number;
-        else
-            give_up("proxy: %s is no word", words[i]);
-    }
+    for (int i = 4; i < count; i += 2)
+        understand(words[i], (double)number_of(count, words, i + 1, 1, 1000000));
     sockets[0] = (struct pollfd){ .fd = open_socket(), .events = POLLIN };
     if (bind(sockets[0].fd, (const struct sockaddr *)&here, sizeof here) != 0)
         give_up("proxy: port %s can't be had", words[1]);
-    for (;;) {
-        poll(sockets, (nfds_t)known, waiting > 0 ? 1 : -1);
+    double next = 0;
+    if (tells)
+        sigaction(SIGTERM, &(struct sigaction){ .sa_handler = stop }, NULL);
+    while (!stopped) {
+        wait_until(next);
         for (int i = 0; i < known; i++)
             if (sockets[i].revents != 0)
                 take(i, &server);
-        send_due();
+        next = send_due();
     }
+    tell();
 }

@@ -11,7 +11,8 @@ build_clients() {
         install_packages "${missing[@]}" > "$1/install" 2>&1 || { cat "$1/install" >&2; return 1; }
     fi
     local source
-    for source in client crowd echo guess guests server steady proxy load tell hostile hoard swarm flood knock forge tally hold told passers gossip join; do
+    for source in client crowd echo guess guests server steady soak proxy load tell hostile hoard swarm flood knock forge tally hold told passers \
+        gossip join; do
         cc -std=gnu11 -O2 -Wall -Wextra -pthread -o "$1/$source" "clients/$source.c" -lenet || return 1
     done
     cc -std=gnu11 -O2 -Wall -Wextra -shared -fPIC -o "$1/faults.so" clients/faults.c || return 1
