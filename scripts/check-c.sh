@@ -35,7 +35,7 @@ cd "$(dirname "$0")/.." || exit 1
 archive=${1:-crates/enet_c/out/libenet_c.a}
 
 fail() {
-    echo "FAILED $1: $(tail -n 20 "$2" 2> /dev/null)"
+    echo "FAILED $1: $(first_error "$2" 2> /dev/null)"
     failed=$((failed + 1))
 }
 

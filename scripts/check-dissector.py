@@ -14,7 +14,7 @@ tools/enet.lua where it is named:
 
 Of each datagram all that `inspect` tells is compared. What it doesn't tell is reckoned here, from its words: which send an acknowledgement
 belongs to, what was sent again, and to which connection a datagram belongs. It also tries what makes a datagram ENet's, what of a datagram
-isn't counted, and the commands that docs/OPERATING.md shows. tshark is installed from Debian's packages if it is missing and this runs as
+isn't counted, and the commands that docs/CAPTURES.md shows. tshark is installed from Debian's packages if it is missing and this runs as
 root; else all is passed over. The last line is 'N passed, M failed', where each datagram counts as one; the status is 1 where one fails.
 """
 import collections
@@ -595,7 +595,7 @@ def has_reliable(datagram):
     return any(command.kind == KINDS['SEND_RELIABLE'] for command in datagram.commands)
 
 
-# The filters that docs/OPERATING.md shows, and which datagrams each lets through.
+# The filters that docs/CAPTURES.md shows, and which datagrams each lets through.
 FILTERS = {
     'enet.command == 6 && enet.resent': lambda each: has_reliable(each) and has_resent(each),
     'enet.resent_in && !enet.acked_by': lambda each: each.links['enet.resent_in'] and not each.links['enet.acked_by'],
@@ -606,22 +606,22 @@ FILTERS = {
 
 
 def documents(tools):
-    """The command that docs/OPERATING.md shows, and its filters."""
+    """The command that docs/CAPTURES.md shows, and its filters."""
     program, dissector, room = tools
-    with open('docs/OPERATING.md', encoding='utf-8') as file:
+    with open('docs/CAPTURES.md', encoding='utf-8') as file:
         text = file.read()
     path = f'{room}/game.pcap'
     timeline.write(path, lossy(program, [9], 1000))
     datagrams = told(program, path)
     reckon(range(1, len(datagrams) + 1), datagrams)
     lines = re.findall(r'^    (tshark .*)$', text, re.M)
-    yield len(lines) == 1, f'docs/OPERATING.md has {len(lines)} commands of tshark where 1 is wanted'
+    yield len(lines) == 1, f'docs/CAPTURES.md has {len(lines)} commands of tshark where 1 is wanted'
     for line in lines:
         done = subprocess.run(['bash', '-c', line.replace(DISSECTOR, dissector)], cwd=room, capture_output=True, text=True, check=False)
         rows, right = len(done.stdout.splitlines()), len(list(filter(FILTERS['enet.command == 6 && enet.resent'], datagrams)))
         yield done.returncode == 0 and rows == right, f'{line} shows {rows} rows where {right} are wanted: {done.stderr}'
     filters = re.findall(r'^\| `(enet\.[^`]*)` \|', text, re.M)
-    yield filters == list(FILTERS), f'docs/OPERATING.md shows the filters {filters} where {list(FILTERS)} are wanted'
+    yield filters == list(FILTERS), f'docs/CAPTURES.md shows the filters {filters} where {list(FILTERS)} are wanted'
     for words, lets_through in FILTERS.items():
         right = [str(frame) for frame, datagram in enumerate(datagrams, 1) if lets_through(datagram)]
         yield right, f'{words} lets nothing through'

@@ -8,7 +8,7 @@
 - README's commands name files that are there, and its command for all tests is the one that .ci/run runs;
 - the code that docs/USING.md shows stands in an example or in a trial, which the tests compile and run;
 - the counts of definitions that docs/HEADLINE.md and docs/PROOFS.md tell are those of scripts/trusted.py;
-- docs/USING.md has a row for each refusal of the code, docs/FAQ.md one for each stop;
+- docs/ERRORS.md has a row for each refusal and for each stop of the code;
 - docs/OPERATING.md has a row for each option of `serve`, with the range and the default that the code has;
 - the version that `enet_relay --version` tells, in the code and in its definition, is the one of the file VERSION, and so are those that
   README's files have and that CHANGELOG.md begins with;
@@ -29,7 +29,7 @@ DOCUMENTS = ["README.md", "CONTRIBUTING.md", "SECURITY.md", *sorted(glob.glob("d
 # Names that stand nowhere in the repository by their nature: the kit's, the system's and the reference library's own.
 ELSEWHERE = re.compile(
     r"rt( .*)?|rattle.*|logic [0-9a-f]+|SHORTER_PROOFS\.md|FIRST_PROOFS\.md|docs/NOT_COVERED\.md|itoa|"
-    r"sudo apt .*|tar xf .*|ss( .*)?|perf.*|valgrind.*|nft.*|ulimit.*|net\..*|[A-Z]\w+=.*|-l\w+|"
+    r"sudo apt .*|tar xf .*|editcap .*|tcpdump .*|ss( .*)?|perf.*|valgrind.*|nft.*|ulimit.*|net\..*|[A-Z]\w+=.*|-l\w+|"
     r"ENetChannel|enet_channel|initialize_with_callbacks|peer_throttle|reset_queues|setup_outgoing_command|protocol_command_size|recvmmsg"
 )
 # Parts of a name that stand for any: `crate/specs/File`, `on_*`, `Sound-EVENT`, `example_..`.
@@ -222,9 +222,10 @@ def options_of(source):
 
 def labels(counts):
     """A row for each refusal and each stop, by its label. (E15 is the lab's own.)"""
-    for source, document in (("refusal", "docs/USING.md"), ("stop", "docs/FAQ.md")):
-        made = re.findall(r'#\[error\("([ES]\d+ \w+)"\)\]', read(f"crates/enet_codec/src/{source}.rt"))
-        told = re.findall(r"^\| ([ES]\d+ \w+) \|", read(document), re.M)
+    document = "docs/ERRORS.md"
+    for source, letter in (("refusal", "E"), ("stop", "S")):
+        made = re.findall(rf'#\[error\("({letter}\d+ \w+)"\)\]', read(f"crates/enet_codec/src/{source}.rt"))
+        told = re.findall(rf"^\| ({letter}\d+ \w+) \|", read(document), re.M)
         counts.check(made and made == [row for row in told if row != "E15 BadScript"], f"{document}: its rows are of {told}, the code has {made}")
 
 

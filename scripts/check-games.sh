@@ -173,6 +173,6 @@ fi
 room=$(mktemp -d) || exit 1
 trap 'rm -rf "$room"' EXIT
 archive=${1:-crates/enet_c/out/libenet_c.a}
-build_clients "$room" > "$room/said" 2>&1 && prepare "$archive" >> "$room/said" 2>&1 || { tail -n 20 "$room/said"; echo '0 passed, 1 failed'; exit 1; }
+build_clients "$room" > "$room/said" 2>&1 && prepare "$archive" >> "$room/said" 2>&1 || { first_error "$room/said"; echo '0 passed, 1 failed'; exit 1; }
 fetch_love > "$room/said" 2>&1 || { rm -rf "$room/visit.love"; echo "SKIPPED love: $(tail -n 1 "$room/said")"; }
 unshare -n bash scripts/check-games.sh --inside "$room"

@@ -4,7 +4,7 @@
 # check-clients.sh. Then, for each kind of list that a peer can fill, a peer sends a fresh relay what fills it, for ten seconds, 1,000
 # datagrams a second (clients/swarm.c), while eight clients talk through it (clients/steady.c). Prints how it went; the status is 0 where the
 # clients lost nothing, the relay's memory stayed where it was under the first, and grew by no more under each of the others than its limit
-# allows (docs/OPERATING.md, Memory).
+# allows (docs/MEMORY.md).
 cd "$(dirname "$0")/.." || exit 1
 . scripts/clients.sh
 program=${1:-crates/enet_relay/out/enet_relay}

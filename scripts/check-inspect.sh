@@ -20,8 +20,8 @@ input() {
             timeout 60 "$program" inspect "$file" > "$room/out" 2> "$room/err" < /dev/null
         fi
         status=$?
-        cmp -s "$out" "$room/out" || { fail "$name by $way" "standard output: $(diff "$out" "$room/out" | head -c 400)"; return; }
-        cmp -s "$err" "$room/err" || { fail "$name by $way" "standard error is: $(head -c 200 "$room/err")"; return; }
+        cmp -s "$out" "$room/out" || { differ "$name by $way" 'standard output' "$out" "$room/out"; return; }
+        cmp -s "$err" "$room/err" || { differ "$name by $way" 'standard error' "$err" "$room/err"; return; }
         [ "$status" -eq "$wanted" ] || { fail "$name by $way" "status $status where $wanted is wanted"; return; }
     done
     passed=$((passed + 1))

@@ -26,12 +26,12 @@ refuses() {
 }
 
 if ! bash scripts/new-game.sh walk "$room/game" > "$room/said" 2>&1; then
-    tail -n 5 "$room/said"
+    first_error "$room/said"
     echo '0 passed, 1 failed'
     exit 1
 fi
 for test in proves plays refuses; do
-    if "$test"; then passed=$((passed + 1)); else fail "$test" "$(tail -n 5 "$room/said" | cut -c 1-300)"; fi
+    if "$test"; then passed=$((passed + 1)); else fail "$test" "$(first_error "$room/said" | cut -c 1-300)"; fi
 done
 echo "$passed passed, $failed failed"
 [ "$failed" -eq 0 ]

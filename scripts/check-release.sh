@@ -50,7 +50,7 @@ try() {
         passed=$((passed + 1))
         echo "passed $name after $((SECONDS - begun)) seconds"
     else
-        fail "$name" "$(tail -n 15 "$room/said" | cut -c 1-300)"
+        fail "$name" "$(first_error "$room/said" | cut -c 1-300)"
     fi
 }
 

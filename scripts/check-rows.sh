@@ -21,8 +21,8 @@ script() {
     [ -r "$lab" ] && [ -r "$out" ] || { fail "$name" "$lab or $out is missing"; return; }
     timeout 120 "$program" lab < "$lab" > "$room/out" 2> "$room/err"
     local status=$?
-    cmp -s "$out" "$room/out" || { fail "$name" "standard output differs from $out"; return; }
-    cmp -s "$err" "$room/err" || { fail "$name" "standard error is: $(head -c 200 "$room/err")"; return; }
+    cmp -s "$out" "$room/out" || { differ "$name" 'standard output' "$out" "$room/out"; return; }
+    cmp -s "$err" "$room/err" || { differ "$name" 'standard error' "$err" "$room/err"; return; }
     [ "$status" -eq "$wanted" ] || { fail "$name" "status $status where $wanted is wanted"; return; }
     passed=$((passed + 1))
 }

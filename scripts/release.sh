@@ -117,7 +117,7 @@ pack_archive() {
     write_manuals "$there/bin/enet_relay" "$there/share/man/man1"
     install -m 644 deploy/bash/enet_relay "$there/share/bash-completion/completions/"
     write_examples "$there/examples"
-    git archive HEAD deploy docs tools README.md CHANGELOG.md | tar -xf - -C "$there"
+    git archive HEAD deploy docs tools README.md CHANGELOG.md SECURITY.md | tar -xf - -C "$there"
     write_copyright > "$there/COPYRIGHT.txt"
     cp "$room/PROVED.txt" "$room/THIRD-PARTY.txt" "$there/"
     chmod -R u=rwX,go=rX "$there"
