@@ -3,7 +3,7 @@
 # and SIGINT make it tell its clients before it ends. The program itself catches no signal: SIGTERM would end it at once, and where it is process 1 of a container the kernel drops
 # SIGTERM. This shell catches both and says `stop` on the program's standard input. The program ends within a second or two, and this shell with
 # its status. Standard input is a FIFO. Where CONTROL names one, the FIFO is made there and stays, and who may write to it can say other lines to
-# the program (docs/OPERATING.md, "What it can be told"); else nobody can. Used by deploy/systemd and deploy/container.
+# the program (docs/OPERATING.md, "Control while it runs"); else nobody can. Used by deploy/systemd and deploy/container.
 fifo=${CONTROL:-$(mktemp -u)}
 umask 077
 rm -f "$fifo"
