@@ -50,7 +50,7 @@ use Rattle.enet_peer.specs.Calls.{Leave, AtOnce, TellsOnce, Asks, AsksLater, Ref
 use Rattle.law_progress.specs.Attempts.{Hears, PutsOut, Takes, after_take}
 use Rattle.law_progress.specs.Fits.{StaysFit}
 use Rattle.law_progress.specs.Outboxes.{AllFit}
-use Rattle.law_progress.specs.Waits.{Deed, Lives, Submits, Leaves, after_leave, after_deed, after_deeds, Moment, Moments}
+use Rattle.law_progress.specs.Waits.{Deed, Lives, Submits, Leaves, after_leave, after_deed, after_deeds, Moment, Moments, RoomyMoments}
 use Rattle.law_progress.proofs.Moving.{by-moved}
 use Rattle.law_progress.proofs.SomethingGoes.{Has-skipped}
 use Rattle.law_progress.proofs.Spent.{goes-of, queued-left, sent-left}
@@ -414,6 +414,11 @@ fits-moment now p q f m = subst (λ (x : Peering). Fits x) (sym m.after) (fits-d
 pub fits-moments : (gap now : ℕ) (moments : List ℕ) (p q : Peering) → Fits p → Moments gap now p moments q → Fits q
 fits-moments gap now [] p q f m = fits-moment now p q f m
 fits-moments gap now (next ∷ later) p q f (u, m, low, high, rest) = fits-moments gap next later u q (fits-moment now p u f m) rest
+
+-- moments at whose end nothing is due are moments
+pub as-moments : (gap now : ℕ) (moments : List ℕ) (p q : Peering) → RoomyMoments gap now p moments q → Moments gap now p moments q
+as-moments gap now [] p q m = m.moment
+as-moments gap now (next ∷ later) p q (u, m, low, high, rest) = (u, m.moment, low, high, as-moments gap next later u q rest)
 
 -- so all fits
 pub all-fits : (p : Peering) (now : ℕ) → Fits p → AllFit (pace_of p now) p.outbox

@@ -57,7 +57,7 @@ use Rattle.law_progress.proofs.Controls.{some-is, GoesControl, Heads, Repeats, g
 use Rattle.law_progress.proofs.SomethingGoes.{get-set, set-same, skipped-length}
 use Rattle.law_progress.proofs.Spent.{Goes, First, Again, goes-of, filled-fits}
 use Rattle.law_progress.proofs.Blocked.{done-or-waits}
-use Rattle.law_progress.proofs.Fitting.{Fits, fits-moments, all-fits, joined-fits, asking-fits, answering-fits}
+use Rattle.law_progress.proofs.Fitting.{Fits, fits-moments, as-moments, all-fits, joined-fits, asking-fits, answering-fits}
 use Rattle.law_progress.proofs.Waiting.{Each, Fair, Ready, Rests, Goes as Goes_any, Has-at, Has-set, Has-pushed, Has-mapped, Has-removed, each-set, none-new, fair-obeyed, fair-takes, timeout-low, moments-ready, none-of, or-both, patient as patient-by}
 
 -- how many are queued, where one channel changed
@@ -981,7 +981,7 @@ fresh-later p none within fits gap now moments q next later r close run low high
       };
       within = ready.0.1;
       patient = ready.0.2;
-      fit = all-fits q 0 (fits-moments gap now moments p q fits run);
+      fit = all-fits q 0 (fits-moments gap now moments p q fits (as-moments gap now moments p q run));
     }
 
     begins : (short : Bool) → (moved short q (next % 2 ^ 32)).state ≡ state.DisconnectLater → Ahead most gap total next next (moved short q (next % 2 ^ 32))

@@ -52,7 +52,7 @@ use Rattle.enet_peer.proofs.Obeying.{unless-holds, unwelcomed-holds}
 use Rattle.enet_peer.specs.CommandEffect.{obeyed, unless_refused, stopped, is_allowed, is_connect, by_body, by_answer, by_arrival, on_data, answered, answered_at, is_answered_in, is_connecting, on_acknowledge, on_match, acknowledged, with_answer, on_verify_in, welcomed, on_disconnect_in, on_last_disconnect, on_bandwidth, on_throttle}
 use Rattle.enet_peer.specs.Calls.{Leave, AtOnce, TellsOnce, Asks, AsksLater, Refused, left, submitted, pace_of, gone_on_in, held_back, moved, ticked, pinged, is_pinged, after_timeouts_by, tick_of, next_event, event_after, packet_event, last_event}
 use Rattle.law_progress.specs.Attempts.{Hears, PutsOut, Takes, after_take, last_of}
-use Rattle.law_progress.specs.Waits.{Deed, Lives, Submits, Leaves, after_leave, after_deed, after_deeds, has_due, Moment, Moments, WaitAtMost, NoneWaitsLonger}
+use Rattle.law_progress.specs.Waits.{Deed, Lives, Submits, Leaves, after_leave, after_deed, after_deeds, has_due, RoomyMoment, RoomyMoments, WaitAtMost, NoneWaitsLonger}
 use Rattle.law_progress.proofs.Moving.{Lasting, by-expiry, by-moved}
 use Rattle.law_progress.proofs.PutsOut.{found-passes, if-some}
 use Rattle.law_progress.proofs.Timed.{Timed, timed-begun, timed-again, timed-marked, timed-stays, timed-elapsed}
@@ -540,13 +540,13 @@ tick-fair Q most before now gap short p h rests up down near = by-moved (λ (x :
 abbrev pub Ready : ℕ → ℕ → Peering → Type 0
 Ready most now q = Fair (Goes most now) most q × Each Rests q.outbox.control.sent q.outbox.senders
 
-moment-ready : (most before now gap : ℕ) (p q : Peering) → Ready most before p → before ≤ now → now ≤ before + gap → 5000 + 2 * most + gap < 2 ^ 32 → Moment now p q → Ready most now q
+moment-ready : (most before now gap : ℕ) (p q : Peering) → Ready most before p → before ≤ now → now ≤ before + gap → 5000 + 2 * most + gap < 2 ^ 32 → RoomyMoment now p q → Ready most now q
 moment-ready most before now gap p q r up down near m = (
-  subst (λ (x : Peering). Fair (Goes most now) most x) (sym m.after) (fair-deeds most now (moved m.short p (now % 2 ^ 32)) m.deeds (tick-fair (λ first. Unit {0}) most before now gap m.short p r.0 r.1 up down near)),
+  (let one = m.moment in subst (λ (x : Peering). Fair (Goes most now) most x) (sym one.after) (fair-deeds most now (moved one.short p (now % 2 ^ 32)) one.deeds (tick-fair (λ first. Unit {0}) most before now gap one.short p r.0 r.1 up down near))),
   rest-of q.outbox m.resent,
 )
 
-pub moments-ready : (most gap : ℕ) (moments : List ℕ) (before now : ℕ) (p q : Peering) → Ready most before p → before ≤ now → now ≤ before + gap → 5000 + 2 * most + gap < 2 ^ 32 → Moments gap now p moments q → Ready most (last_of now moments) q
+pub moments-ready : (most gap : ℕ) (moments : List ℕ) (before now : ℕ) (p q : Peering) → Ready most before p → before ≤ now → now ≤ before + gap → 5000 + 2 * most + gap < 2 ^ 32 → RoomyMoments gap now p moments q → Ready most (last_of now moments) q
 moments-ready most gap [] before now p q r up down near m = moment-ready most before now gap p q r up down near m
 moments-ready most gap (next ∷ later) before now p q r up down near (u, m, low, high, rest) =
     moments-ready most gap later now next u q (moment-ready most before now gap p u r up down near m) low high near rest

@@ -216,7 +216,9 @@ pub fn every_attempt_ends()
 {}
 
 /// One peer, whatever comes to it, whatever its user submits and takes, and however it disconnects. Its clock goes on by any steps of less
-/// than some 49 days, at each moment all goes again that is due, having room, and the patience stays as it is at first.
+/// than some 49 days, the patience stays as it is at first, and at the end of each moment nothing is due to go again: all that was due had
+/// room, and went. (On a line that has too little, what is due waits for room until other commands are acknowledged or late, and there this
+/// says nothing.)
 ///
 /// No command waits for its acknowledgement longer than its timeout and the greatest patience together, whichever state the peer is in: by
 /// then it is acknowledged, or the peer has ended. So of a peer that is connected from the start (`joined`), of a client that asks
@@ -245,8 +247,9 @@ pub fn all_that_waits_fits()
 /// for room, in which others may be acknowledged: each time that one goes or is acknowledged it may wait as long.) Then it was done and asked
 /// for the end, which `every_attempt_ends` bounds, or the other end did, or its patience was over. So of a peer that was connected from the
 /// start (`joined`), of a client that asked (`connecting`), each with an mtu of at most 4,096, and of a server that answered
-/// (`answering`), whatever came and whatever its user did before, settings apart. `told`: it ceases to be so only where it has asked for
-/// the end, or has to acknowledge that the other end did, or its user has an event to take, or it is free.
+/// (`answering`), whatever came and whatever its user did before, settings apart, if nothing was due at the end of a moment by then.
+/// `told`: it ceases to be so only where it has asked for the end, or has to acknowledge that the other end did, or its user has an event to
+/// take, or it is free.
 pub fn no_leave_is_put_off()
     ensures joined { (start : ℕ) (terms : Terms) (limits : Limits) → terms.mtu ≤ 4096 → DisconnectsLater (joined start terms limits) }
     ensures connecting { (start offset : ℕ) (offer : Offer) (limits : Limits) → offer.mtu ≤ 4096 → DisconnectsLater (connecting start offset offer limits) }
