@@ -137,7 +137,7 @@ impl Desk {
         let transit = host.host().in_transit(peer).unwrap_or(0);
         let allowance = host.host().allowance(peer).unwrap_or(0);
         format!(in alloc;
-            "peer {slot}.{generation} at {ip}:{port} for {seconds} s round trip {trip} ms throttle {throttle} in transit {transit} of {allowance} bytes\n"
+            "peer {slot}.{generation} at {ip}:{port} for {seconds} s round trip {trip} ms throttle {throttle} in transit {transit} bytes allowance {allowance}\n"
         )
     }
 
