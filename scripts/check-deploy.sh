@@ -175,19 +175,19 @@ healthy() {
     grep -c '^health$' "$room/sidecar"
 }
 
-# The wrapper of a program that tells figures, each of whose threads is stopped for six seconds: in the last four nobody is told of health, and
-# afterwards it is told again.
+# The wrapper of a program that tells figures, each of whose threads is stopped for eight seconds: from the third to the sixth nobody is told
+# of health, and afterwards it is told again.
 hung() {
     local sdk wrapper first thread before
     begin_wrapper || return 1
     first=$(pgrep -P "$wrapper" -x "$(basename "$program" | cut -c 1-15)")
     for thread in "/proc/$first/task"/*; do
-        "$room/hold" "${thread##*/}" 6 2> "$room/why" &
+        "$room/hold" "${thread##*/}" 8 2> "$room/why" &
         sleep 2
         before=$(healthy)
         sleep 4
         [ "$(healthy)" -eq "$before" ] || { echo "it was called healthy while ${thread##*/} of $first hung" > "$room/why"; return 1; }
-        sleep 3
+        sleep 5
         [ "$(healthy)" -gt "$before" ] || { echo 'it was never called healthy again' > "$room/why"; return 1; }
     done
     kill -TERM "$wrapper"
