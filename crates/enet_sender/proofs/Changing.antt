@@ -1,6 +1,6 @@
 -- The command under a key of a ring changes how it was sent, and nothing else.
-use Rattle.std.proofs.Common.{inl, inr, ◌≡◌, ◌≢◌, ℕ, suc, ◌+◌, ◌<◌, ◌≤◌, true, false, List, ◌∷◌, ◌++◌, length, map, get_or, take, drop, Option, Some, None, refl, sym, ap, subst, ◌∙◌, arith, All}
-use Rattle.std.specs.List.{position, slice_get, slice_set}
+use Rattle.std.proofs.Common.{inl, inr, ◌≡◌, ◌≢◌, ℕ, suc, ◌+◌, ◌<◌, ◌≤◌, true, false, List, ◌∷◌, ◌++◌, length, map, get_or, take, drop, Option, Some, None, IfSome, IfNone, is_some, refl, sym, ap, subst, ◌∙◌, arith, All}
+use Rattle.std.specs.List.{list_any, position, slice_get, slice_set}
 use Rattle.std.proofs.lemmas.Bool.{cases_eq}
 use Rattle.std.proofs.lemmas.List.{length-take, get_or-take}
 use Rattle.std.proofs.lemmas.List.Elements.{All-get_or}
@@ -10,6 +10,7 @@ use Rattle.enet_sender.specs.Invariant.{reliable_in}
 use Rattle.enet_sender.specs.Pending.{vacant, named, times, held, Passes}
 use Rattle.enet_sender.specs.Rings.{Rings, Keeps, GoesOn, at_place, is_due, NoneDue, keys_of, commands_at, command_of}
 use Rattle.enet_sender.specs.Private.Rings.{IsFirstDue, with_due}
+use Rattle.enet_sender.proofs.Rounds.{any-position}
 use Rattle.enet_sender.proofs.Lists.{position_at, position_none, get_at, set_at, split}
 use Rattle.enet_sender.proofs.Named.{times-append, times-here, times-some, held-some, named-other, named-append, named-cons, named-all}
 
@@ -140,6 +141,12 @@ pub none_due-found : (at : ℕ → Option Sent) (sent : List ℕ) → NoneDue at
 none_due-found at sent none =
     position_none (λ (p : Sent). p.transmission.due) (named at sent)
     (named-all (λ (p : Sent). p.transmission.due ≡ false) at sent vacant (λ i p inside there. ap is_due (sym there) ∙ none i (omega arith) inside))
+
+-- so it tells whether anything is due
+pub any_due-found : (at : ℕ → Option Sent) (sent : List ℕ) (found : Option ℕ) → IfSome found (λ place. IsFirstDue at sent place) → IfNone found (NoneDue at sent 0 (length sent))
+    → list_any (λ (p : Sent). p.transmission.due) (named at sent) ≡ is_some found
+any_due-found at sent (Some place) some none = any-position (λ (p : Sent). p.transmission.due) (named at sent) ∙ ap is_some (first_due-found at sent place some).2
+any_due-found at sent None some none = any-position (λ (p : Sent). p.transmission.due) (named at sent) ∙ ap is_some (none_due-found at sent none)
 
 -- the command of a place, in the list
 pub place-read : (at : ℕ → Option Sent) (sent : List ℕ) (place : ℕ) (p : Sent) → place < length sent → at_place at sent place ≡ Some p → slice_get (named at sent) (length (named at (take place sent))) ≡ Some p

@@ -1,7 +1,7 @@
 -- The head of the queue goes.
-use Rattle.std.proofs.Common.{not, ◌&&◌, ◌||◌, inl, inr, ◌≡◌, ◌≢◌, ℕ, suc, ◌+◌, ◌-◌, ◌<◌, ◌≤◌, true, false, cond, ltb, List, [], ◌∷◌, ◌++◌, length, map, get_or, drop, Option, Some, None, refl, sym, ap, subst, ◌∙◌, arith, All}
-use Rattle.std.specs.List.{slice_get}
-use Rattle.std.proofs.lemmas.Bool.{cases_eq, cases_lt}
+use Rattle.std.proofs.Common.{not, Bool, ◌==◌, ◌&&◌, ◌||◌, inl, inr, ◌≡◌, ◌≢◌, ℕ, suc, ◌+◌, ◌-◌, ◌<◌, ◌≤◌, true, false, cond, ltb, List, [], ◌∷◌, ◌++◌, length, map, get_or, drop, Option, Some, None, refl, sym, ap, subst, ◌∙◌, arith, All}
+use Rattle.std.specs.List.{list_any, slice_get}
+use Rattle.std.proofs.lemmas.Bool.{cases_eq, cases_lt, ne_eqb}
 use Rattle.std.proofs.lemmas.List.{get_or_append_left, get_or_past, get_or_at, length_push}
 use Rattle.std.proofs.lemmas.List.Elements.{All-push, All-tail, All-head}
 use Rattle.enet_seq.specs.Windows.{ahead, after}
@@ -9,7 +9,7 @@ use Rattle.enet_seq.specs.Numbering.{wire}
 use Rattle.enet_fragment.specs.declared.data.DataCommand.{DataCommand}
 use Rattle.enet_sender.specs.declared.sent.Sent.{Sent}
 use Rattle.enet_sender.specs.declared.outgoing.Occasion.{Occasion}
-use Rattle.enet_sender.specs.Sender.{has_room, is_in_span, may_go}
+use Rattle.enet_sender.specs.Sender.{awaits_room_with, has_room, head_lacks, is_in_span, may_begin, may_go}
 use Rattle.enet_sender.specs.Invariant.{reliable_in}
 use Rattle.enet_sender.proofs.Counting.{counted-less, counted-same}
 use Rattle.enet_sender.specs.Pending.{vacant, named, times, held, Passes}
@@ -280,6 +280,52 @@ span-by_length at r keeps number is = by r.sent refl
         let one_more : length sent + 1 ≡ suc (length sent) = omega arith in
         ap (λ ps. is_in_span wire ps number) (named-cons at key sent there.0 there.1) ∙ ap (λ n. ltb n 8192) (far ∙ one_more)
 
+-- what is sent is named from its first key on
+pub sent-first : (at : ℕ → Option Sent) (r : Rings) (key : ℕ) (sent : List ℕ) → Keeps at r → r.sent ≡ key ∷ sent → (p : Sent) × (named at r.sent ≡ p ∷ named at sent)
+sent-first at r key sent keeps e =
+    let low : key < vacant = keeps.first key (ap (λ ks. slice_get ks 0) e) in
+    let most = keeps.names key low in
+    let all = times-append key r.queued r.sent in
+    let some = ap (times key) e ∙ times-here key sent in
+    let there = some-held (at key) (omega arith) in
+    (there.0, ap (named at) e ∙ named-cons at key sent there.0 there.1)
+
+-- where something is sent, room may be kept for what is due to go again
+pub awaits-busy : (at : ℕ → Option Sent) (r : Rings) (queued : List DataCommand) → Keeps at r → 0 < length r.sent → awaits_room_with (named at r.sent) queued ≡ list_any (λ (p : Sent). p.transmission.due) (named at r.sent)
+awaits-busy at r queued keeps some = by r.sent refl
+  where
+    by : (sent : List ℕ) → r.sent ≡ sent → awaits_room_with (named at r.sent) queued ≡ list_any (λ (p : Sent). p.transmission.due) (named at r.sent)
+    by [] e = absurd (let none = ap (λ (ks : List ℕ). length ks) e in omega arith)
+    by (key ∷ sent) e =
+        let f = sent-first at r key sent keeps e in
+        ap (λ (ps : List Sent). awaits_room_with ps queued) f.1 ∙ sym (ap (list_any (λ (p : Sent). p.transmission.due)) f.1)
+
+-- a reliable command that may not go though nothing is sent finds no room, unless the room is kept for another channel
+alone-lacks : (reliable barred room : Bool) → (not reliable || (not barred && room)) ≡ false → (reliable && (not room && not barred)) ≡ not barred
+alone-lacks true true room e = none (not room)
+  where
+    none : (b : Bool) → (b && false) ≡ false
+    none true = refl
+    none false = refl
+alone-lacks true false true e = sym e
+alone-lacks true false false e = refl
+alone-lacks false barred room e = absurd (let f : true ≡ false = e in cc)
+
+-- where the head of the queue may not go, the room is to be kept for it just if nothing is sent, and it is kept for no other channel
+pub head_lacks-is : (at : ℕ → Option Sent) (r : Rings) (o : Occasion) (c : DataCommand) (rest : List DataCommand) → Keeps at r → commands_at at r.queued ≡ c ∷ rest
+    → may_go wire (named at r.sent) o c ≡ false → head_lacks o (named at r.sent) (commands_at at r.queued) ≡ ((length r.sent == 0) && not o.barred)
+head_lacks-is at r o c rest keeps is blocked = by r.sent refl
+  where
+    by : (sent : List ℕ) → r.sent ≡ sent → head_lacks o (named at r.sent) (commands_at at r.queued) ≡ ((length r.sent == 0) && not o.barred)
+    by [] e =
+        ap (λ ks. head_lacks o (named at ks) (commands_at at r.queued)) e ∙ ap (head_lacks o []) is
+        ∙ alone-lacks c.reliable o.barred (has_room o c) (sym (ap (λ ks. may_go wire (named at ks) o c) e) ∙ blocked)
+        ∙ sym (ap (λ (ks : List ℕ). (length ks == 0) && not o.barred) e)
+    by (key ∷ sent) e =
+        let some : (length (key ∷ sent) == 0) ≡ false = ne_eqb (length (key ∷ sent)) 0 (λ none. omega arith) in
+        ap (λ ps. head_lacks o ps (commands_at at r.queued)) (sent-first at r key sent keeps e).1
+        ∙ sym (ap (λ (ks : List ℕ). (length ks == 0) && not o.barred) e ∙ ap (λ b. b && not o.barred) some)
+
 -- a command stands under the key at the head of the queue
 pub head-there : (at : ℕ → Option Sent) (r : Rings) (key : ℕ) (rest : List ℕ) → Keeps at r → r.queued ≡ key ∷ rest → (p : Sent) × (at key ≡ Some p)
 head-there at r key rest keeps is =
@@ -291,10 +337,10 @@ head-there at r key rest keeps is =
 
 -- whether a reliable command may go, by the length of the second ring
 pub may_go-is : (at : ℕ → Option Sent) (r : Rings) (o : Occasion) (c : DataCommand) → Keeps at r → c.number ≡ after r.passed 1 → c.reliable ≡ true
-    → may_go wire (named at r.sent) o c ≡ (ltb (length r.sent) 8192 && has_room o c)
+    → may_go wire (named at r.sent) o c ≡ (ltb (length r.sent) 8192 && may_begin o c)
 may_go-is at r o c keeps is reliable =
-    ap (λ b. not b || (is_in_span wire (named at r.sent) c.number && has_room o c)) reliable
-    ∙ ap (λ b. b && has_room o c) (span-by_length at r keeps c.number is)
+    ap (λ b. not b || (is_in_span wire (named at r.sent) c.number && may_begin o c)) reliable
+    ∙ ap (λ b. b && may_begin o c) (span-by_length at r keeps c.number is)
 
 -- a ring by its first key
 pub by_first : (keys : List ℕ) (key : ℕ) → slice_get keys 0 ≡ Some key → keys ≡ key ∷ drop 1 keys

@@ -1,5 +1,5 @@
 -- What a call of `next_due` does: it writes what is due where that fits, and else changes nothing.
-use Rattle.std.specs.Prelude.{◌≡◌, ℕ, ◌+◌, ◌<◌, if◌then◌else◌, Option, Some, None, List, length}
+use Rattle.std.specs.Prelude.{◌≡◌, ℕ, ◌+◌, ◌<◌, Bool, true, false, if◌then◌else◌, Option, Some, None, List, length}
 use Rattle.enet_codec.specs.Message.{IsMessage, canonical}
 use Rattle.enet_codec.specs.Writing.{Puts}
 use Rattle.enet_fragment.specs.DataCommand.{message_of}
@@ -34,13 +34,15 @@ pub record Buffer : Type 0 where
   pub at : ℕ
   pub new : List ℕ
 
--- what a call did, by what was due and what it answers: what is written has its numbers in their ranges, so its bytes spell it
-abbrev pub Did : Option Next → Due → SendingEnd → SendingEnd → Buffer → Type 0
-Did (Some n) (due.Sent past added price kind) old new buf =
+-- what a call did, by what was due, whether the room is to be kept for the channel, and what it answers: what is written has its numbers in
+-- their ranges, so its bytes spell it
+abbrev pub Did : Option Next → Bool → Due → SendingEnd → SendingEnd → Buffer → Type 0
+Did (Some n) wants (due.Sent past added price kind) old new buf =
     Puts buf.old buf.at (canonical (message_of old.channel n.command)) buf.new past
     × (added ≡ n.added) × (price ≡ n.price) × (kind ≡ due_kind n.command) × (new ≡ record old { sender = n.sender })
     × IsMessage (message_of old.channel n.command)
-Did (Some n) due.NoRoom old new buf =
+Did (Some n) wants due.NoRoom old new buf =
     (length buf.old < buf.at + length (canonical (message_of old.channel n.command))) × (new ≡ old) × (buf.new ≡ buf.old)
-Did None due.Nothing old new buf = (new ≡ old) × (buf.new ≡ buf.old)
-Did _ _ old new buf = ⊥
+Did None wants due.Full old new buf = (wants ≡ true) × (new ≡ old) × (buf.new ≡ buf.old)
+Did None wants due.Nothing old new buf = (wants ≡ false) × (new ≡ old) × (buf.new ≡ buf.old)
+Did _ _ _ old new buf = ⊥

@@ -1,6 +1,6 @@
 -- One channel's sender: what is queued, and what is sent and not yet acknowledged. Times are in milliseconds.
 use Rattle.std.specs.Prelude.{ℕ, Bool, true, false, ◌+◌, ◌*◌, ◌%◌, ◌^◌, ◌&&◌, ◌||◌, not, ◌==◌, nat_lt, nat_le, if◌then◌else◌, List, [], ◌∷◌, ◌++◌, length, map, take, drop, Option, Some, None, slice_get, slice_set, sum_by, is_some}
-use Rattle.std.specs.List.{range_with_len, position, remove}
+use Rattle.std.specs.List.{range_with_len, list_any, position, remove}
 use Rattle.enet_codec.specs.declared.command.Fragment.{Fragment}
 use Rattle.enet_seq.specs.Numbering.{Numbering}
 use Rattle.enet_rtt.specs.Transmission as transmission
@@ -92,9 +92,13 @@ price_of c = if c.reliable then length c.body + cover else 0
 abbrev pub has_room : Occasion → DataCommand → Bool
 has_room o c = nat_le (o.transit + bytes_of c) o.most && nat_le (o.prices + price_of c) o.dearest
 
+-- whether a reliable command may go for the first time, the span apart: the room is kept for no other channel, and there is room for it
+abbrev pub may_begin : Occasion → DataCommand → Bool
+may_begin o c = not o.barred && has_room o c
+
 -- whether the head of the queue may go
 abbrev pub may_go : Numbering → List Sent → Occasion → DataCommand → Bool
-may_go g sent o c = not c.reliable || (is_in_span g sent c.number && has_room o c)
+may_go g sent o c = not c.reliable || (is_in_span g sent c.number && may_begin o c)
 
 -- what is due next: a command with the sender after it
 pub record Next : Type 0 where
@@ -135,6 +139,42 @@ next_of g o s (Some i) = next_resent o s i (slice_get s.sent i)
 -- the first sent command that is due to go again, where there is room for it; where none is due, the head of the queue, where it may go
 abbrev pub next : Numbering → Occasion → Sender → Option Next
 next g o s = next_of g o s (position (λ (p : Sent). p.transmission.due) s.sent)
+
+-- a command is stopped for want of room alone
+abbrev pub lacks_room : Occasion → DataCommand → Bool
+lacks_room o c = not (has_room o c) && not o.barred
+
+-- the same of what is due to go again, and of the head of the queue where nothing of the channel is sent and unacknowledged
+abbrev pub due_lacks : Occasion → Option Sent → Bool
+due_lacks o None = false
+due_lacks o (Some p) = lacks_room o p.command
+
+abbrev pub head_lacks : Occasion → List Sent → List DataCommand → Bool
+head_lacks o [] (c ∷ rest) = c.reliable && lacks_room o c
+head_lacks o [] [] = false
+head_lacks o (p ∷ sent) queued = false
+
+abbrev pub wants_room_at : Occasion → Sender → Option ℕ → Bool
+wants_room_at o s None = head_lacks o s.sent s.queued
+wants_room_at o s (Some i) = due_lacks o (slice_get s.sent i)
+
+-- whether the room in transit is to be kept for the channel: what is next there is stopped for want of room alone, and it is due to go again,
+-- or nothing of the channel is sent and unacknowledged
+abbrev pub wants_room : Occasion → Sender → Bool
+wants_room o s = wants_room_at o s (position (λ (p : Sent). p.transmission.due) s.sent)
+
+-- whether the queue begins with a reliable command
+abbrev pub begins_reliable : List DataCommand → Bool
+begins_reliable [] = false
+begins_reliable (c ∷ rest) = c.reliable
+
+abbrev pub awaits_room_with : List Sent → List DataCommand → Bool
+awaits_room_with [] queued = begins_reliable queued
+awaits_room_with (p ∷ sent) queued = list_any (λ (p : Sent). p.transmission.due) (p ∷ sent)
+
+-- whether room may be kept for the channel: something is due to go again; or nothing is sent, and the queue begins with a reliable command
+abbrev pub awaits_room : Sender → Bool
+awaits_room s = awaits_room_with s.sent s.queued
 
 -- a piece that isn't the first of its packet
 abbrev pub is_after_first : Option Fragment → Bool

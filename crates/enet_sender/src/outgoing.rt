@@ -1,6 +1,6 @@
 //! One channel's sender over the commands of its peer.
 
-ghost use Rattle.std.specs.Prelude.{◌≡◌, ℕ, ◌+◌, ◌<◌, ◌≤◌, ◌∷◌, ◌++◌, [], if◌then◌else◌, IsTrue, IsOk, IfOk, OnOk, OnErr, IfErr, IsErrAnd, ◌⊎◌, ◌↔◌, List, Option, Some, None, IfSome, IfNone, length, map, take, drop, slice_get, true, false, All};
+ghost use Rattle.std.specs.Prelude.{◌≡◌, ℕ, ◌+◌, ◌<◌, ◌≤◌, ◌∷◌, ◌++◌, [], if◌then◌else◌, IsTrue, IsOk, IfOk, OnOk, OnErr, IfErr, IsErrAnd, ◌⊎◌, ◌↔◌, ◌&&◌, not, List, Option, Some, None, IfSome, IfNone, length, map, take, drop, slice_get, true, false, All};
 ghost use Rattle.std.specs.VecDeque.{deque_len, deque_capacity};
 ghost use Rattle.slab.specs.Slab.{get, slab_len, SameValues, HasRoomFor};
 ghost use Rattle.enet_rtt.specs.Clock.{HappensIn};
@@ -9,7 +9,7 @@ ghost use Rattle.enet_seq.specs.Windows.{after as number_after};
 ghost use Rattle.enet_fragment.specs.declared.data.DataCommand.{DataCommand};
 ghost use Rattle.enet_sender.specs.declared.pending.Pending.{Pending};
 ghost use Rattle.enet_sender.specs.declared.sent.Sent.{Sent};
-ghost use Rattle.enet_sender.specs.Sender.{acknowledged, has_room, with_marked, lateness, after_lateness, ends, is_late, cleared, after_match, next, next_queued, next_resent, first_sent, may_go, piece_of_body, is_more, skipped, told_of, with_skipped, left};
+ghost use Rattle.enet_sender.specs.Sender.{acknowledged, awaits_room, begins_reliable, due_lacks, has_room, head_lacks, may_begin, wants_room, with_marked, lateness, after_lateness, ends, is_late, cleared, after_match, next, next_queued, next_resent, first_sent, may_go, piece_of_body, is_more, skipped, told_of, with_skipped, left};
 ghost use Rattle.enet_sender.specs.Due.{Did, new_end, with_submitted};
 ghost use Rattle.enet_sender.specs.Waiting.{Waits};
 ghost use Rattle.enet_fragment.specs.Cutting.{piece_length, piece_count};
@@ -69,6 +69,8 @@ pub struct Occasion {
     pub prices: u32,
     /// How much they may be together.
     pub dearest: u32,
+    /// Whether the room is kept for another channel.
+    pub barred: bool,
 }
 
 /// What `next_due` did.
@@ -84,6 +86,9 @@ pub enum Due {
     },
     /// A command may go, and does not fit.
     NoRoom,
+    /// No command may go, and the room is to be kept for this channel: what is next finds no room, and it is due to go again, or nothing of
+    /// the channel is sent and unacknowledged.
+    Full,
     /// No command may go.
     Nothing,
 }
@@ -196,9 +201,9 @@ impl Outgoing {
     ///
     /// A reliable command goes, for the first time or again, where the bytes in transit of the peer and its own are together at most
     /// `most`, and the prices of what is in transit and its own at most `dearest`; for the first time only where its number is less than
-    /// 8,192 past the oldest unacknowledged one, too (our profile). Where it may not, nothing else of the channel goes. A resend keeps its
-    /// number. Where no command may go, the answer is `Nothing`; where one may and does not fit, `NoRoom`. Neither changes anything, and
-    /// the buffer stays. It takes no memory.
+    /// 8,192 past the oldest unacknowledged one, too, and the room is kept for no other channel (our profile). Where it may not, nothing
+    /// else of the channel goes. A resend keeps its number. Where no command may go, the answer is `Full` or `Nothing`; where one may and
+    /// does not fit, `NoRoom`. None of these changes anything, and the buffer stays. It takes no memory.
     pub fn next_due(
         &mut self,
         pending: &mut Pending,
@@ -209,7 +214,7 @@ impl Outgoing {
         requires kept { KeepsIn pending.old self.old }
         requires room { HasRoom self.old }
         ensures did { Did (next wire occasion
-            (sender_in pending.old self.old)) result (end_in pending.old self.old) (end_in pending.new self.new) (record { old = buf.old; at = at; new = buf.new }) }
+            (sender_in pending.old self.old)) (wants_room occasion (sender_in pending.old self.old)) result (end_in pending.old self.old) (end_in pending.new self.new) (record { old = buf.old; at = at; new = buf.new }) }
         ensures kept { KeepsIn pending.new self.new }
         ensures passes { PassesIn pending.old self.old pending.new self.new }
         ensures room { HasRoom self.new }
@@ -220,13 +225,45 @@ impl Outgoing {
         }
     }
 
-    /// Whether the channel surely has to wait: nothing that is sent is due to go again, and the head of the queue may not go yet. Where it
-    /// answers true, `next_due` answers `Nothing`; it may also answer false where nothing may go.
+    /// Whether the channel surely has to wait: what is next there may not go yet, and no room is to be kept for it. Where it answers true,
+    /// `next_due` answers `Nothing`; it may also answer false where nothing may go.
     pub fn has_to_wait(&self, pending: &Pending, occasion: Occasion) -> bool
         requires { KeepsIn pending.now self.now }
         ensures { IsTrue result → Waits occasion (sender_in pending.now self.now) }
     {
         if self.due_from < self.sent.len() {
+            self.resend_has_to_wait(pending, occasion)
+        } else {
+            self.head_has_to_wait(pending, occasion)
+        }
+    }
+
+    /// The same where something that is sent may be due to go again. It looks at the first such place alone.
+    fn resend_has_to_wait(&self, pending: &Pending, occasion: Occasion) -> bool
+        requires kept { KeepsIn pending.now self.now }
+        requires inside { self.now.due_from < length self.now.sent.items }
+        ensures { IsTrue result → Waits occasion (sender_in pending.now self.now) }
+    {
+        if !occasion.barred {
+            return false;
+        }
+        let key = self.sent[self.due_from];
+        let Some(sent) = pending.get(key) else {
+            return false;
+        };
+        if !sent.transmission.due {
+            return false;
+        }
+        !has_room(&sent.command, occasion)
+    }
+
+    /// The same where nothing that is sent is due to go again.
+    fn head_has_to_wait(&self, pending: &Pending, occasion: Occasion) -> bool
+        requires kept { KeepsIn pending.now self.now }
+        requires none { NoneDue (get pending.now.slab) self.now.sent.items 0 (length self.now.sent.items) }
+        ensures { IsTrue result → Waits occasion (sender_in pending.now self.now) }
+    {
+        if self.sent.is_empty() && !occasion.barred {
             return false;
         }
         let Some(key) = first(&self.queued) else {
@@ -238,7 +275,42 @@ impl Outgoing {
         !self.may_go(&head.command, occasion)
     }
 
+    /// Whether room may be kept for the channel: something that is sent is due to go again; or nothing is sent, and the queue begins with a
+    /// reliable command.
+    pub fn awaits_room(&self, pending: &Pending) -> bool
+        requires { KeepsIn pending.now self.now }
+        ensures { result ≡ awaits_room (sender_in pending.now self.now) }
+    {
+        if self.sent.is_empty() {
+            return self.begins_reliable(pending);
+        }
+        self.find_due(pending).is_some()
+    }
+
+    /// Whether the queue begins with a reliable command.
+    fn begins_reliable(&self, pending: &Pending) -> bool
+        requires { KeepsIn pending.now self.now }
+        ensures { result ≡ begins_reliable (sender_in pending.now self.now).queued }
+    {
+        let Some(key) = first(&self.queued) else {
+            return false;
+        };
+        let Some(head) = pending.get(key) else {
+            unreachable!()
+        };
+        head.command.reliable
+    }
+
     /// The place of the first sent command that is due to go again.
+    fn find_due(&self, pending: &Pending) -> Option<usize>
+        requires { KeepsIn pending.now self.now }
+        ensures some { IfSome result (λ place. IsFirstDue (get pending.now.slab) self.now.sent.items place) }
+        ensures none { IfNone result (NoneDue (get pending.now.slab) self.now.sent.items 0 (length self.now.sent.items)) }
+    {
+        first_due(&self.sent, self.due_from, pending)
+    }
+
+    /// The same, with the places before it noted as not due.
     fn next_resend(&mut self, pending: &Pending) -> Option<usize>
         requires { KeepsIn pending.now self.old }
         ensures some { IfSome result (λ place. IsFirstDue (get pending.now.slab) self.old.sent.items place) }
@@ -246,7 +318,7 @@ impl Outgoing {
         ensures rings { self.new ≡ record self.old { due_from = self.new.due_from } }
         ensures kept { KeepsIn pending.now self.new }
     {
-        match first_due(&self.sent, self.due_from, pending) {
+        match self.find_due(pending) {
             Some(place) => {
                 self.due_from = place;
                 Some(place)
@@ -278,7 +350,8 @@ impl Outgoing {
         requires kept { KeepsIn pending.old self.old }
         requires first { IsFirstDue (get pending.old.slab) self.old.sent.items place }
         ensures did { Did (next_resent occasion (sender_in pending.old self.old) (length (named (get pending.old.slab) (take place self.old.sent.items)))
-            (slice_get (named (get pending.old.slab) self.old.sent.items) (length (named (get pending.old.slab) (take place self.old.sent.items))))) result
+            (slice_get (named (get pending.old.slab) self.old.sent.items) (length (named (get pending.old.slab) (take place self.old.sent.items)))))
+            (due_lacks occasion (slice_get (named (get pending.old.slab) self.old.sent.items) (length (named (get pending.old.slab) (take place self.old.sent.items))))) result
             (end_in pending.old self.old) (end_in pending.new self.new) (record { old = buf.old; at = at; new = buf.new }) }
         ensures rings { self.new ≡ record self.old { due_from = self.new.due_from } }
         ensures kept { KeepsIn pending.new self.new }
@@ -289,7 +362,7 @@ impl Outgoing {
             unreachable!()
         };
         if !has_room(&sent.command, occasion) {
-            return Due::Nothing;
+            return stopped(true, occasion);
         }
         let kind = due_kind(&sent.command);
         let (added, price) = counted(&sent.command);
@@ -315,7 +388,7 @@ impl Outgoing {
         ensures value { (at : ℕ → Option Sent) → Keeps at (rings_of self.now) → (command.now.reliable ≡ true → command.now.number ≡ number_after self.now.passed 1)
             → result ≡ may_go wire (named at self.now.sent.items) occasion command.now }
     {
-        !command.reliable || (self.sent.len() < SPAN && has_room(command, occasion))
+        !command.reliable || (self.sent.len() < SPAN && may_begin(command, occasion))
     }
 
     /// Writes the head of the queue, where it may go and fits; nothing that is sent may be due to go again.
@@ -330,7 +403,8 @@ impl Outgoing {
         requires room { HasRoom self.old }
         requires none { NoneDue (get pending.old.slab) self.old.sent.items 0 (length self.old.sent.items) }
         ensures did { Did (next_queued wire occasion
-            (sender_in pending.old self.old) (sender_in pending.old self.old).queued) result
+            (sender_in pending.old self.old) (sender_in pending.old self.old).queued)
+            (head_lacks occasion (sender_in pending.old self.old).sent (sender_in pending.old self.old).queued) result
             (end_in pending.old self.old) (end_in pending.new self.new) (record { old = buf.old; at = at; new = buf.new }) }
         ensures kept { KeepsIn pending.new self.new }
         ensures passes { PassesIn pending.old self.old pending.new self.new }
@@ -345,7 +419,7 @@ impl Outgoing {
         };
         let command = &head.command;
         if !self.may_go(command, occasion) {
-            return Due::Nothing;
+            return stopped(self.sent.is_empty(), occasion);
         }
         let kind = due_kind(command);
         let (added, price) = counted(command);
@@ -770,6 +844,25 @@ fn has_room(command: &DataCommand, occasion: Occasion) -> bool
     let (bytes, price) = counted(command);
     u64::from(occasion.transit) + u64::from(bytes) <= u64::from(occasion.most)
         && u64::from(occasion.prices) + u64::from(price) <= u64::from(occasion.dearest)
+}
+
+/// Whether a reliable command may go for the first time, the span apart.
+fn may_begin(command: &DataCommand, occasion: Occasion) -> bool
+    requires { IsShort command.now }
+    ensures { result ≡ may_begin occasion command.now }
+{
+    !occasion.barred && has_room(command, occasion)
+}
+
+/// What is answered where a command may not go, by whether room may be kept for it.
+fn stopped(may_be_kept: bool, occasion: Occasion) -> Due
+    ensures { result ≡ (if may_be_kept && not occasion.barred then Due.Full else Due.Nothing) }
+{
+    if may_be_kept && !occasion.barred {
+        Due::Full
+    } else {
+        Due::Nothing
+    }
 }
 
 /// What is told of a command whose acknowledgement repeats this time.
