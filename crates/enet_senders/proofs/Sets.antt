@@ -21,7 +21,7 @@ use Rattle.enet_sender.specs.Rings.{end_of}
 use Rattle.enet_seq.specs.Numbering.{Numbering, wire}
 use Rattle.enet_sender.specs.declared.outgoing.Acknowledged.{Acknowledged}
 use Rattle.enet_sender.specs.declared.outgoing.Occasion.{Occasion}
-use Rattle.enet_sender.specs.Sender.{Sender, Next, marked, left, after_acknowledgement, after_match, without_place, position_of, skipped, with_skipped, next, next_of, next_queued}
+use Rattle.enet_sender.specs.Sender.{Sender, Next, marked, left, after_acknowledgement, after_match, without_place, position_of, skipped, with_skipped, next, next_of, next_queued, wants_room, wants_room_at, head_lacks}
 use Rattle.enet_sender.proofs.Lists.{position_none}
 use Rattle.enet_sender.specs.declared.outgoing.Due.{Due}
 use Rattle.enet_sender.specs.declared.outgoing.Due.TheVariants as due
@@ -248,6 +248,15 @@ next-none g occasion s h =
     ap (λ (o : Option ℕ). next_of g occasion s o) (position_none (λ (p : Sent). p.transmission.due) s.sent h.sent)
     ∙ ap (λ (xs : List DataCommand). next_queued g occasion s xs) h.queued
 
+-- and no room is to be kept for it
+pub wants-none : (occasion : Occasion) (s : Sender) → IsStill s → wants_room occasion s ≡ false
+wants-none occasion s h =
+    ap (wants_room_at occasion s) (position_none (λ (p : Sent). p.transmission.due) s.sent h.sent) ∙ ap (head_lacks occasion s.sent) h.queued ∙ by s.sent
+  where
+    by : (sent : List Sent) → head_lacks occasion sent [] ≡ false
+    by [] = refl
+    by (p ∷ sent) = refl
+
 -- one channel's sender is changed, by which it stays still; what is said of what it has sent comes from outside
 pub keeps-changed : (ready flying flying2 : ChannelSet) (es new : List SendingEnd) (c : ℕ) (f : Sender → Sender) → c < length es → ((s : SendingEnd) → slice_get es c ≡ Some s → new ≡ slice_set es c (record s { sender = f s.sender }))
     → ((s : Sender) → IsStill s → IsStill (f s)) → ((i : ℕ) → i ≢ c → Lacks flying2 i → Lacks flying i) → ((e : SendingEnd) → Lacks flying2 c → slice_get new c ≡ Some e → e.sender.sent ≡ [])
@@ -278,23 +287,26 @@ inside-changed es s channels c t inside is =
     omega arith
 
 -- what a call of next_due leaves of the channel on which it was made
-did-still : (n : Option Next) (result : Due) (s t : SendingEnd) (from : List ℕ) (at : ℕ) (to : List ℕ) → n ≡ None → Did n result s t (record { old = from; at = at; new = to }) → t ≡ s
-did-still None (due.Sent past added price kind) s t from at to none d = absurd d
-did-still None due.NoRoom s t from at to none d = absurd d
-did-still None due.Nothing s t from at to none d = d.0
-did-still (Some n) result s t from at to none d = absurd (cc)
+did-still : (n : Option Next) (wants : Bool) (result : Due) (s t : SendingEnd) (from : List ℕ) (at : ℕ) (to : List ℕ) → n ≡ None → Did n wants result s t (record { old = from; at = at; new = to }) → t ≡ s
+did-still None wants (due.Sent past added price kind) s t from at to none d = absurd d
+did-still None wants due.NoRoom s t from at to none d = absurd d
+did-still None wants due.Full s t from at to none d = d.1
+did-still None wants due.Nothing s t from at to none d = d.1
+did-still (Some n) wants result s t from at to none d = absurd (cc)
 
-did-unsent : (n : Option Next) (result : Due) (s t : SendingEnd) (from : List ℕ) (at : ℕ) (to : List ℕ) → ((past : ℕ) (added : ℕ) (price : ℕ) (kind : Kind) → result ≢ due.Sent past added price kind) → Did n result s t (record { old = from; at = at; new = to }) → t ≡ s
-did-unsent n (due.Sent past added price kind) s t from at to unsent d = absurd (unsent past added price kind refl)
-did-unsent (Some n) due.NoRoom s t from at to unsent d = d.1
-did-unsent None due.NoRoom s t from at to unsent d = absurd d
-did-unsent (Some n) due.Nothing s t from at to unsent d = absurd d
-did-unsent None due.Nothing s t from at to unsent d = d.0
+did-unsent : (n : Option Next) (wants : Bool) (result : Due) (s t : SendingEnd) (from : List ℕ) (at : ℕ) (to : List ℕ) → ((past : ℕ) (added : ℕ) (price : ℕ) (kind : Kind) → result ≢ due.Sent past added price kind) → Did n wants result s t (record { old = from; at = at; new = to }) → t ≡ s
+did-unsent n wants (due.Sent past added price kind) s t from at to unsent d = absurd (unsent past added price kind refl)
+did-unsent (Some n) wants due.NoRoom s t from at to unsent d = d.1
+did-unsent None wants due.NoRoom s t from at to unsent d = absurd d
+did-unsent (Some n) wants due.Full s t from at to unsent d = absurd d
+did-unsent None wants due.Full s t from at to unsent d = d.1
+did-unsent (Some n) wants due.Nothing s t from at to unsent d = absurd d
+did-unsent None wants due.Nothing s t from at to unsent d = d.1
 
 -- what a call of next_due did on a channel
 abbrev pub DidOn : Occasion → ℕ → Due → List SendingEnd → List SendingEnd → List ℕ → ℕ → List ℕ → Type 0
 DidOn occasion c result es new from at to =
-    (s : SendingEnd) → slice_get es c ≡ Some s → (t : SendingEnd) × ((new ≡ slice_set es c t) × Did (next wire occasion s.sender) result s t (record { old = from; at = at; new = to }))
+    (s : SendingEnd) → slice_get es c ≡ Some s → (t : SendingEnd) × ((new ≡ slice_set es c t) × Did (next wire occasion s.sender) (wants_room occasion s.sender) result s t (record { old = from; at = at; new = to }))
 
 -- where the channel of a call was
 pub inside-due : (occasion : Occasion) (es : List SendingEnd) (s : Slab Sent) (channels : List Outgoing) (c : ℕ) (result : Due) (from : List ℕ) (at : ℕ) (to : List ℕ) → c < length es → DidOn occasion c result es (ends_of s channels) from at to → c < length channels
@@ -315,7 +327,7 @@ keeps-sent ready flying flying2 occasion es new c result from at to inside did o
     keeps-one ready flying ready flying2 es new c s t one.1 r.1.0 (λ i other lacks. lacks) others
     (λ lacks.
     let quiet = h.still c s lacks one.1 in
-    let same : t ≡ s = did-still (next wire occasion s.sender) result s t from at to (next-none wire occasion s.sender quiet) r.1.1 in
+    let same : t ≡ s = did-still (next wire occasion s.sender) (wants_room occasion s.sender) result s t from at to (next-none wire occasion s.sender quiet) r.1.1 in
     subst (λ (x : SendingEnd). IsStill x.sender) (sym same) quiet)
     (λ lacks. this t lacks (ap (λ (xs : List SendingEnd). slice_get xs c) r.1.0 ∙ get-set es c s t one.1)) h
 
@@ -326,7 +338,7 @@ same-unsent occasion es new c result from at to inside unsent did =
     let one = slice_get-some es c inside in
     let s = one.0 in
     let r = did s one.1 in
-    let same : r.0 ≡ s = did-unsent (next wire occasion s.sender) result s r.0 from at to unsent r.1.1 in
+    let same : r.0 ≡ s = did-unsent (next wire occasion s.sender) (wants_room occasion s.sender) result s r.0 from at to unsent r.1.1 in
     r.1.0 ∙ ap (λ (x : SendingEnd). slice_set es c x) same ∙ set-there es c s one.1
 
 -- the channel leaves the set of those that are ready, since it is still

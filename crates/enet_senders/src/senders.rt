@@ -6,7 +6,7 @@ ghost use Rattle.enet_rtt.specs.Clock.{HappensIn};
 ghost use Rattle.enet_seq.specs.Numbering.{wire};
 ghost use Rattle.enet_fragment.specs.Cutting.{piece_count};
 ghost use Rattle.enet_sender.specs.CommandChoice.{fragment_limit};
-ghost use Rattle.enet_sender.specs.Sender.{after_match, acknowledged, next, with_skipped, ends, is_late, left};
+ghost use Rattle.enet_sender.specs.Sender.{after_match, acknowledged, awaits_room, next, wants_room, with_skipped, ends, is_late, left};
 ghost use Rattle.enet_sender.specs.Due.{SendingEnd, Did, with_submitted, new_end};
 ghost use Rattle.enet_sender.specs.Waiting.{Waits};
 ghost use Rattle.enet_sender.specs.declared.outgoing.Outgoing.{Outgoing};
@@ -108,7 +108,7 @@ fn next_due_on(
     requires inside { channel < length channels.old.items }
     ensures did { (s : SendingEnd) → slice_get (ends_in pending.old channels.old.items) channel ≡ Some s
         → (t : SendingEnd) × ((ends_in pending.new channels.new.items ≡ slice_set (ends_in pending.old channels.old.items) channel t)
-        × Did (next wire occasion s.sender) result s t
+        × Did (next wire occasion s.sender) (wants_room occasion s.sender) result s t
         (record { old = buf.old; at = at; new = buf.new })) }
     ensures kept { KeepsAllIn pending.new channels.new.items }
 {
@@ -122,6 +122,15 @@ fn has_to_wait_on(channels: &[Outgoing], pending: &Pending, channel: u8, occasio
     ensures { (e : SendingEnd) → slice_get (ends_in pending.now channels.now) channel ≡ Some e → IsTrue result → Waits occasion e.sender }
 {
     channels[usize::from(channel)].has_to_wait(pending, occasion)
+}
+
+/// Whether room may be kept for a channel.
+fn awaits_room_on(channels: &[Outgoing], pending: &Pending, channel: u8) -> bool
+    requires kept { KeepsAllIn pending.now channels.now }
+    requires inside { channel < length channels.now }
+    ensures { (e : SendingEnd) → slice_get (ends_in pending.now channels.now) channel ≡ Some e → result ≡ awaits_room e.sender }
+{
+    channels[usize::from(channel)].awaits_room(pending)
 }
 
 /// The rest of a channel's unreliable packet is dropped: the other channels stay as they were.
@@ -345,11 +354,11 @@ impl Senders {
     }
 
     /// Writes the next command of a channel at `at`, where one may go, and keeps it as sent if it is reliable, as
-    /// `Outgoing::next_due` does. Neither `NoRoom` nor `Nothing` changes anything, and the buffer stays. It takes no memory.
+    /// `Outgoing::next_due` does. `NoRoom`, `Full` and `Nothing` change nothing, and the buffer stays. It takes no memory.
     pub fn next_due(&mut self, channel: u8, occasion: Occasion, buf: &mut [u8], at: usize) -> Due
         requires { channel < length self.old }
         ensures { (s : SendingEnd) → slice_get self.old channel ≡ Some s
-            → (t : SendingEnd) × ((self.new ≡ slice_set self.old channel t) × Did (next wire occasion s.sender) result s t
+            → (t : SendingEnd) × ((self.new ≡ slice_set self.old channel t) × Did (next wire occasion s.sender) (wants_room occasion s.sender) result s t
             (record { old = buf.old; at = at; new = buf.new })) }
     {
         let due = next_due_on(
@@ -366,17 +375,27 @@ impl Senders {
             }
             Due::Nothing => note_still(&self.channels, &self.pending, &mut self.ready, channel),
             Due::NoRoom => {}
+            Due::Full => {}
         }
         due
     }
 
-    /// Whether a channel surely has to wait: nothing that is sent there is due to go again, and the head of its queue may not go yet.
-    /// Where it answers true, `next_due` answers `Nothing`; it may also answer false where nothing may go.
+    /// Whether a channel surely has to wait: nothing that is sent there is due to go again, the head of its queue may not go yet, and no room
+    /// is to be kept for it. Where it answers true, `next_due` answers `Nothing`; it may also answer false where nothing may go.
     pub fn has_to_wait(&self, channel: u8, occasion: Occasion) -> bool
         requires { channel < length self.now }
         ensures { (s : SendingEnd) → slice_get self.now channel ≡ Some s → IsTrue result → Waits occasion s.sender }
     {
         has_to_wait_on(&self.channels, &self.pending, channel, occasion)
+    }
+
+    /// Whether room may be kept for a channel: something that is sent there is due to go again; or nothing is sent, and its queue begins with
+    /// a reliable command.
+    pub fn awaits_room(&self, channel: u8) -> bool
+        requires { channel < length self.now }
+        ensures { (s : SendingEnd) → slice_get self.now channel ≡ Some s → result ≡ awaits_room s.sender }
+    {
+        awaits_room_on(&self.channels, &self.pending, channel)
     }
 
     /// The first channel from `from` on of which something may go. Those that are passed over have nothing queued, and nothing

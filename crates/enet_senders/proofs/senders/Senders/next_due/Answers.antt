@@ -56,3 +56,15 @@ invariant_of-self-in-NoRoom c =
       kept = c.next_due_on-due.ensures.kept;
       sets = subst (λ (xs : List SendingEnd). KeepsSets c.self.inside.ready c.self.inside.flying xs) (sym same) c.self.invariant.sets;
     }
+
+pub invariant_of-self-in-Full : goal.invariant_of-self-in-Full
+invariant_of-self-in-Full c =
+    let inside = subst (λ (es : List SendingEnd). c.args.channel < length es) (sym c.self.view_is) c.requires in
+    let es = ends_in c.self.inside.pending c.self.inside.channels.items in
+    let new = ends_in c.next_due_on-due.new.pending c.next_due_on-due.new.channels.items in
+    let same : new ≡ es = same-unsent c.args.occasion es new c.args.channel due.Full c.args.buf.now c.args.at c.next_due_on-due.new.buf inside
+    (λ past added price kind is. absurd (cc)) c.in-Full.ensures.did in
+    record {
+      kept = c.next_due_on-due.ensures.kept;
+      sets = subst (λ (xs : List SendingEnd). KeepsSets c.self.inside.ready c.self.inside.flying xs) (sym same) c.self.invariant.sets;
+    }
