@@ -36,7 +36,8 @@ channels-begin {pace} {first} {n} {f} {senders} {w} {p} {buf} h is e = record {
   holds = h;
   outbox = ap (λ (ss : List SendingEnd). record f.outbox { senders = ss }) is
       ∙ ap (λ (t : Throttling). record f.outbox { senders = senders; throttle = t }) e.0
-      ∙ ap (λ (l : Option ℕ). record f.outbox { senders = senders; throttle = w.throttle; last = l }) e.1;
+      ∙ ap (λ (c : Option ℕ). record f.outbox { senders = senders; throttle = w.throttle; kept = c }) e.2.kept
+      ∙ ap (λ (l : Option ℕ). record f.outbox { senders = senders; throttle = w.throttle; kept = w.kept; last = l }) e.1;
   stage = refl;
   counts = e.2;
 }

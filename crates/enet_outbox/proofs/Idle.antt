@@ -10,14 +10,14 @@ use Rattle.enet_fragment.specs.declared.data.DataCommand.{DataCommand}
 use Rattle.enet_seq.specs.Numbering.{wire}
 use Rattle.enet_sender.specs.declared.sent.Sent.{Sent}
 use Rattle.enet_sender.specs.declared.outgoing.Occasion.{Occasion}
-use Rattle.enet_sender.specs.Sender.{next}
+use Rattle.enet_sender.specs.Sender.{next, wants_room}
 use Rattle.enet_sender.specs.Due.{SendingEnd}
 use Rattle.enet_outbox.specs.declared.parts.Pace.{Pace}
 use Rattle.enet_outbox.specs.Outbox.{Outbox, has_no_packet, has_no_reliable}
 use Rattle.enet_outbox.specs.Emission.{Filling, filled, occasion}
 use Rattle.enet_outbox.specs.Invariant.{HasNothing}
 use Rattle.enet_outbox.specs.Resting.{IsAtRest}
-use Rattle.enet_senders.proofs.Sets.{next-none, some-long}
+use Rattle.enet_senders.proofs.Sets.{next-none, some-long, wants-none}
 use Rattle.std.proofs.lemmas.List.Elements.{All-nil}
 use Rattle.enet_outbox.proofs.Filled.{Keeps, by-filling}
 
@@ -110,6 +110,9 @@ rest-next : (o : Outbox) (told : Occasion) (s : SendingEnd) (i : ℕ) → IsAtRe
 rest-next o told s i h there =
     next-none wire told s.sender (h.still i s there)
 
+rest-wants : (o : Outbox) (told : Occasion) (s : SendingEnd) (i : ℕ) → IsAtRest o → slice_get o.senders i ≡ Some s → wants_room told s.sender ≡ false
+rest-wants o told s i h there = wants-none told s.sender (h.still i s there)
+
 none-some : {X Y : Type 0} (o : Option X) (x : X) → o ≡ None → o ≡ Some x → Y
 none-some o x e f = absurd (let y : ◌≡◌ {A = Option _} None (Some x) = sym e ∙ f in cc)
 
@@ -120,8 +123,10 @@ stays-empty pace o h = record {
   controls = λ f n at e. none-some _ n (ap (λ (x : Outbox). controlling.next pace.now pace.timeout x.control) e.1 ∙ control-none pace.now pace.timeout o.control h.control) at;
   puts_unsequenced = λ f u rest t at e. some-one o.unsequenced u rest h.unsequenced (ap (λ (x : Outbox). x.unsequenced) (sym e.1) ∙ at);
   drops_unsequenced = λ f u rest t at e. some-one o.unsequenced u rest h.unsequenced (ap (λ (x : Outbox). x.unsequenced) (sym e.1) ∙ at);
-  puts_data = λ f k s n t there at e. none-some _ n (rest-next o (occasion pace f.outbox) s k h (ap (λ (x : Outbox). slice_get x.senders k) (sym e.1) ∙ there)) at;
-  drops_data = λ f k s n t there at unreliable e. none-some _ n (rest-next o (occasion pace f.outbox) s k h (ap (λ (x : Outbox). slice_get x.senders k) (sym e.1) ∙ there)) at;
+  puts_data = λ f k s n t there at e. none-some _ n (rest-next o (occasion pace k f.outbox) s k h (ap (λ (x : Outbox). slice_get x.senders k) (sym e.1) ∙ there)) at;
+  drops_data = λ f k s n t there at unreliable e. none-some _ n (rest-next o (occasion pace k f.outbox) s k h (ap (λ (x : Outbox). slice_get x.senders k) (sym e.1) ∙ there)) at;
+  keeps_room = λ f k s there wants e. absurd (let none = rest-wants o (occasion pace k f.outbox) s k h (ap (λ (x : Outbox). slice_get x.senders k) (sym e.1) ∙ there) in let y : false ≡ true = sym none ∙ wants in cc);
+  gives_room = λ f k s n there at e. none-some _ n (rest-next o (occasion pace k f.outbox) s k h (ap (λ (x : Outbox). slice_get x.senders k) (sym e.1) ∙ there)) at;
 }
 
 pub rest-goes : (pace : Pace) (o : Outbox) → IsAtRest o → ((filled pace o).messages ≡ []) × (o ≡ (filled pace o).outbox)

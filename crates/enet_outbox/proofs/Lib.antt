@@ -9,6 +9,7 @@ pub mod Lateness
 pub mod Oldest
 pub mod Passing
 pub mod Repeats
+pub mod Rooms
 pub mod Senders
 pub mod Spelled
 pub mod Stages

@@ -28,6 +28,8 @@ keeps pace a = record {
   drops_unsequenced = λ f u rest t e b. b;
   puts_data = λ f k s n t there due b. (b.0 ++ message_of s.channel n.command ∷ [], ap (λ (ms : List Message). ms ++ message_of s.channel n.command ∷ []) b.1);
   drops_data = λ f k s n t there due kind b. b;
+  keeps_room = λ f k s there wants b. b;
+  gives_room = λ f k s n there due b. b;
 }
 
 pub oldest-first : (pace : Pace) (o : Outbox) (a : Acknowledgement) (rest : List Acknowledgement) → 12 ≤ pace.mtu → o.acknowledgements ≡ a ∷ rest

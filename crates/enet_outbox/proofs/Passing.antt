@@ -6,14 +6,14 @@ use Rattle.enet_seq.specs.Numbering.{wire}
 use Rattle.enet_sender.specs.Sender.{Next}
 use Rattle.enet_sender.specs.Due.{SendingEnd}
 use Rattle.enet_senders.specs.Senders.{IsStill}
-use Rattle.enet_senders.proofs.Sets.{next-none}
+use Rattle.enet_senders.proofs.Sets.{next-none, wants-none}
 use Rattle.enet_outbox.specs.declared.parts.Pace.{Pace}
 use Rattle.enet_outbox.specs.declared.packing.Progress.{Progress}
 use Rattle.enet_outbox.specs.declared.packing.Flow.{Flow}
 use Rattle.enet_outbox.specs.Outbox.{Outbox}
-use Rattle.enet_outbox.specs.Emission.{Filling, channel_step, channel_turns, due_step, occasion, with_channel, with_channels, with_one_data}
+use Rattle.enet_outbox.specs.Emission.{Filling, channel_step, due_step, occasion, wants_room_on, with_channel, with_channels}
 use Rattle.enet_outbox.specs.Private.Packing.{turns}
-use Rattle.enet_outbox.proofs.Repeats.{repeated-closed, repeated-idle}
+use Rattle.enet_outbox.proofs.Repeats.{turn-closed, turn-idle}
 use Rattle.enet_outbox.proofs.Channels.{ChannelsAt, turns-more}
 
 -- a place further on in the same round
@@ -25,14 +25,20 @@ turned a d n low =
 -- a still channel has nothing due
 pub step-still : (pace : Pace) (channel : ℕ) (f : Filling) (o : Option SendingEnd) → ((e : SendingEnd) → o ≡ Some e → IsStill e.sender) → channel_step pace channel f o ≡ f
 step-still pace channel f None still = refl
-step-still pace channel f (Some s) still = ap (λ (n : Option Next). due_step f channel s n) (next-none wire (occasion pace f.outbox) s.sender (still s refl))
+step-still pace channel f (Some s) still = ap (λ (n : Option Next). due_step f channel s n) (next-none wire (occasion pace channel f.outbox) s.sender (still s refl))
+
+-- and wants no room
+wants-still : (pace : Pace) (channel : ℕ) (f : Filling) (o : Option SendingEnd) → ((e : SendingEnd) → o ≡ Some e → IsStill e.sender) → wants_room_on pace channel f.outbox o ≡ false
+wants-still pace channel f None still = refl
+wants-still pace channel f (Some s) still = wants-none (occasion pace channel f.outbox) s.sender (still s refl)
 
 pub channel-still : (pace : Pace) (f : Filling) (channel : ℕ) → ((e : SendingEnd) → slice_get f.outbox.senders channel ≡ Some e → IsStill e.sender) → with_channel pace f channel ≡ f
 channel-still pace f channel still = by f.closed refl
   where
     by : (b : Bool) → f.closed ≡ b → with_channel pace f channel ≡ f
-    by true e = repeated-closed (channel_turns f.outbox channel) (with_one_data pace channel) f e
-    by false e = repeated-idle (channel_turns f.outbox channel) (with_one_data pace channel) f e (step-still pace channel f (slice_get f.outbox.senders channel) still)
+    by true e = turn-closed pace channel f e
+    by false e =
+        turn-idle pace channel f e (step-still pace channel f (slice_get f.outbox.senders channel) still) (wants-still pace channel f (slice_get f.outbox.senders channel) still)
 
 -- the stage goes past so many still channels
 pub channels-pass : {pace : Pace} {first n : ℕ} {f : Filling} {senders : List SendingEnd} {w : Flow} {p : Progress} {buf : List ℕ} (d k j : ℕ) → k + d ≡ j → j ≤ n

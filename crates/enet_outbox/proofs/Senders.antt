@@ -9,14 +9,15 @@ use Rattle.enet_fragment.specs.declared.data.DataCommand.{DataCommand}
 use Rattle.enet_sender.specs.declared.lateness.Late.{Late}
 use Rattle.enet_sender.specs.declared.outgoing.Acknowledged.{Acknowledged}
 use Rattle.enet_sender.specs.declared.sent.Sent.{Sent}
-use Rattle.enet_sender.specs.Sender.{bytes_in_transit, prices_in_transit, transit_bytes, transit_price, bytes_of, price_of, bytes_leaving, price_leaving, late_bytes, late_price, lost_price, after_match, acknowledged}
+use Rattle.enet_sender.specs.Sender.{bytes_in_transit, prices_in_transit, transit_bytes, transit_price, bytes_of, price_of, bytes_leaving, price_leaving, late_bytes, late_price, lost_price, after_acknowledgement, after_match, acknowledged}
 use Rattle.enet_sender.specs.Due.{SendingEnd, new_end, with_submitted}
 use Rattle.enet_sender.proofs.Transit.{transit-acknowledged, prices-acknowledged, transit-marked, prices-marked, prices-lost}
 use Rattle.enet_senders.specs.Controlling as controlling
+use Rattle.enet_senders.proofs.Sets.{get-set}
 use Rattle.enet_senders.specs.Senders.{IsLateOver, sum_over}
 use Rattle.enet_outbox.specs.declared.parts.Matched.TheVariants as matched
 use Rattle.enet_outbox.specs.Allowance as allowance
-use Rattle.enet_outbox.specs.Outbox.{Outbox, acknowledged_on, as_control, as_data, cleared_sender, marked_sender, prices_lost, told_on, told_by, with_growth}
+use Rattle.enet_outbox.specs.Outbox.{Outbox, acknowledged_on, as_control, as_data, cleared_sender, marked_sender, prices_lost, still_kept, told_on, told_by, with_growth}
 use Rattle.enet_outbox.specs.Outbox as outbox
 use Rattle.enet_outbox.specs.Invariant.{KeepsOutbox, transit_over, prices_over, with_accepted}
 
@@ -236,10 +237,11 @@ accepted-none senders channel number time none = by (slice_get senders channel) 
         ∙ ap (λ (t : SendingEnd). set senders channel t) (sym (get_or_from_slice_get senders channel s s there)) ∙ set-get_or senders channel s
 
 -- and where it matches a command, the outbox is so
-pub accepted-some : (o : Outbox) (channel number time : ℕ) (told : Acknowledged) → (channel == 0xFF) ≡ false → told_on (slice_get o.senders channel) number time ≡ Some told
-    → record o { senders = with_accepted o.senders channel number time (slice_get o.senders channel); allowance = allowance.after_acknowledgement o.allowance told }
+pub accepted-some : (o : Outbox) (channel number time : ℕ) (told : Acknowledged) (kept : Option ℕ) → (channel == 0xFF) ≡ false → told_on (slice_get o.senders channel) number time ≡ Some told
+    → ((s : SendingEnd) → slice_get (with_accepted o.senders channel number time (slice_get o.senders channel)) channel ≡ Some s → kept ≡ still_kept o.kept channel s.sender)
+    → record o { senders = with_accepted o.senders channel number time (slice_get o.senders channel); allowance = allowance.after_acknowledgement o.allowance told; kept = kept }
     ≡ outbox.after_match matched.Data o channel number time
-accepted-some o channel number time told apart found = by (slice_get o.senders channel) refl found ∙ sym (ap (λ (x : Option Acknowledged). with_growth (outbox.after_acknowledgement o channel number) x) tells)
+accepted-some o channel number time told kept apart found stays = by (slice_get o.senders channel) refl found ∙ sym (ap (λ (x : Option Acknowledged). with_growth (outbox.after_acknowledgement o channel number) x) tells)
   where
     gone : outbox.after_acknowledgement o channel number ≡ acknowledged_on o channel number (slice_get o.senders channel)
     gone = ap (λ b. cond b (record o { control = controlling.after_acknowledgement o.control number }) (acknowledged_on o channel number (slice_get o.senders channel))) apart
@@ -248,9 +250,14 @@ accepted-some o channel number time told apart found = by (slice_get o.senders c
     tells = let none : Option Acknowledged = None in ap (λ b. cond b none (told_on (slice_get o.senders channel) number time)) apart ∙ found
 
     by : (x : Option SendingEnd) → slice_get o.senders channel ≡ x → told_on x number time ≡ Some told
-        → record o { senders = with_accepted o.senders channel number time x; allowance = allowance.after_acknowledgement o.allowance told } ≡ with_growth (outbox.after_acknowledgement o channel number) (Some told)
+        → record o { senders = with_accepted o.senders channel number time x; allowance = allowance.after_acknowledgement o.allowance told; kept = kept } ≡ with_growth (outbox.after_acknowledgement o channel number) (Some told)
     by None there e = cc
     by (Some s) there e =
-        ap (λ (m : Option Acknowledged). record o { senders = set o.senders channel (record s { sender = after_match s.sender number m }); allowance = allowance.after_acknowledgement o.allowance told }) e
+        let t : SendingEnd = record s { sender = after_match s.sender number (acknowledged s.sender number time) } in
+        let here : slice_get (with_accepted o.senders channel number time (slice_get o.senders channel)) channel ≡ Some t =
+        ap (λ (x : Option SendingEnd). slice_get (with_accepted o.senders channel number time x) channel) there ∙ get-set o.senders channel s t there in
+        let is : kept ≡ still_kept o.kept channel (after_acknowledgement s.sender number) =
+        stays t here ∙ ap (λ (m : Option Acknowledged). still_kept o.kept channel (after_match s.sender number m)) e in
+        (λ i. record o { senders = set o.senders channel (record s { sender = after_match s.sender number (e i) }); allowance = allowance.after_acknowledgement o.allowance told; kept = is i })
         ∙ ap (λ (x : Option SendingEnd). with_growth (acknowledged_on o channel number x) (Some told)) (sym there)
         ∙ ap (λ (x : Outbox). with_growth x (Some told)) (sym gone)

@@ -1,14 +1,14 @@
 -- Each command that goes leaves less to send, so the turns of a stage are enough.
 use Rattle.std.proofs.Common.{◌≡◌, ℕ, zero, suc, ◌+◌, ◌<◌, ◌≤◌, ◌⊎◌, inl, inr, Bool, true, false, not, ◌&&◌, ◌||◌, cond, nat_le, List, [], ◌∷◌, ◌++◌, length, refl, sym, ap, subst, ◌∙◌, arith, Option, Some, None, slice_set}
 use Rattle.std.specs.List.{position, slice_get}
-use Rattle.std.proofs.lemmas.Bool.{leb-true}
+use Rattle.std.proofs.lemmas.Bool.{and_parts, leb-true}
 use Rattle.std.proofs.lemmas.List.Quantifiers.{position-Some}
 use Rattle.std.proofs.lemmas.Option.{get_or_from_slice_get}
 use Rattle.enet_seq.specs.Numbering.{Numbering}
 use Rattle.enet_fragment.specs.declared.data.DataCommand.{DataCommand}
 use Rattle.enet_sender.specs.declared.sent.Sent.{Sent}
 use Rattle.enet_sender.specs.declared.outgoing.Occasion.{Occasion}
-use Rattle.enet_sender.specs.Sender.{Sender, Next, next, next_of, next_queued, next_resent, first_sent, resent, begun, again, has_room, may_go, is_in_span, bytes_of, price_of, is_more, skipped, with_skipped}
+use Rattle.enet_sender.specs.Sender.{Sender, Next, next, next_of, next_queued, next_resent, first_sent, resent, begun, again, has_room, may_begin, may_go, is_in_span, bytes_of, price_of, is_more, skipped, with_skipped}
 use Rattle.enet_senders.specs.declared.control.Numbered.{Numbered}
 use Rattle.enet_senders.specs.declared.control.SentControl.{SentControl}
 use Rattle.enet_senders.specs.Controlling as control
@@ -50,7 +50,7 @@ found-due p xs i x e there = sym (ap p (get_or_from_slice_get xs i x x there)) �
 if-some : {X : Type 0} (P : X → Type 0) (x n : X) → P x → Some x ≡ Some n → P n
 if-some P x n h e = let is : x ≡ n = cc in subst P is h
 
-if-goes : {X : Type 0} (P : X → Type 0) (b : Bool) (x n : X) → (b ≡ true → P x) → cond b (Some x) None ≡ Some n → P n
+pub if-goes : {X : Type 0} (P : X → Type 0) (b : Bool) (x n : X) → (b ≡ true → P x) → cond b (Some x) None ≡ Some n → P n
 if-goes P true x n h e = if-some P x n (h refl) e
 if-goes P false x n h e = cc
 
@@ -62,7 +62,7 @@ pub left-most : (s : Sender) → left_of s ≤ length s.queued + length s.sent
 left-most s = let h = due-most (λ (p : Sent). p.transmission.due) s.sent in omega arith
 
 -- a fact of what is due next: of each first send and of each resend
-by-next : (P : Next → Type 0) (g : Numbering) (occasion : Occasion) (s : Sender) (n : Next)
+pub by-next : (P : Next → Type 0) (g : Numbering) (occasion : Occasion) (s : Sender) (n : Next)
     → ((c : DataCommand) (rest : List DataCommand) → s.queued ≡ c ∷ rest → may_go g s.sent occasion c ≡ true → P (first_sent occasion.now occasion.timeout s c rest))
     → ((i : ℕ) (p : Sent) → slice_get s.sent i ≡ Some p → p.transmission.due ≡ true → has_room occasion p.command ≡ true → P (resent occasion.now s i p))
     → next g occasion s ≡ Some n → P n
@@ -111,11 +111,11 @@ added-fits g occasion s n e =
     (λ c rest is goes. first c rest c.reliable refl (is_in_span g s.sent c.number) goes)
     (λ i p there due room. let r = room-fits occasion (bytes_of p.command) (price_of p.command) room in record { bytes = inr r.0; prices = inr r.1 }) e
   where
-    first : (c : DataCommand) (rest : List DataCommand) (reliable : Bool) → c.reliable ≡ reliable → (span : Bool) → (not reliable || (span && has_room occasion c)) ≡ true
+    first : (c : DataCommand) (rest : List DataCommand) (reliable : Bool) → c.reliable ≡ reliable → (span : Bool) → (not reliable || (span && may_begin occasion c)) ≡ true
         → AddsFit occasion (first_sent occasion.now occasion.timeout s c rest)
     first c rest false is span goes = record { bytes = inl (ap (λ (b : Bool). cond b (length c.body) 0) is); prices = inl (ap (λ (b : Bool). cond b (length c.body + 28) 0) is) }
     first c rest true is false goes = absurd (cc)
-    first c rest true is true goes = let r = room-fits occasion (bytes_of c) (price_of c) goes in record { bytes = inr r.0; prices = inr r.1 }
+    first c rest true is true goes = let r = room-fits occasion (bytes_of c) (price_of c) (and_parts (not occasion.barred) (has_room occasion c) goes).1 in record { bytes = inr r.0; prices = inr r.1 }
 
 -- an unreliable command adds nothing
 pub added-none : (g : Numbering) (occasion : Occasion) (s : Sender) (n : Next) → next g occasion s ≡ Some n → n.command.reliable ≡ false → (n.added ≡ 0) × (n.price ≡ 0)

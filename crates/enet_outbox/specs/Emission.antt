@@ -1,5 +1,5 @@
 -- What a peer puts into its next datagram.
-use Rattle.std.specs.Prelude.{◌≡◌, ℕ, ◌+◌, ◌-◌, ◌%◌, ◌<◌, ◌≤◌, ◌&&◌, ◌==◌, max, Bool, true, false, nat_lt, nat_le, if◌then◌else◌, Option, Some, None, List, [], ◌∷◌, ◌++◌, length, map, take, slice_get, slice_set, unwrap_or}
+use Rattle.std.specs.Prelude.{◌≡◌, ℕ, ◌+◌, ◌-◌, ◌%◌, ◌<◌, ◌≤◌, ◌&&◌, ◌==◌, not, max, Bool, true, false, nat_lt, nat_le, if◌then◌else◌, Option, Some, None, List, [], ◌∷◌, ◌++◌, length, map, take, drop, slice_get, slice_set, unwrap_or}
 use Rattle.std.specs.Fn.{iterate}
 use Rattle.std.specs.List.{AllByRecursion, fold, range_with_len, flat_map, list_any}
 use Rattle.std.specs.Option.{option_map}
@@ -14,14 +14,14 @@ use Rattle.enet_fragment.specs.DataCommand.{message_of}
 use Rattle.enet_sender.specs.declared.outgoing.Kind.{Kind}
 use Rattle.enet_sender.specs.declared.outgoing.Kind.TheVariants.{Reliable, Begins, More}
 use Rattle.enet_sender.specs.declared.outgoing.Occasion.{Occasion}
-use Rattle.enet_sender.specs.Sender.{Next, next, with_skipped}
+use Rattle.enet_sender.specs.Sender.{Next, next, wants_room, with_skipped}
 use Rattle.enet_sender.specs.Due.{SendingEnd, due_kind}
 use Rattle.enet_outbox.specs.declared.parts.Acknowledgement.{Acknowledgement}
 use Rattle.enet_outbox.specs.declared.parts.Unsequenced.{Unsequenced}
 use Rattle.enet_outbox.specs.declared.parts.Pace.{Pace}
 use Rattle.enet_outbox.specs.declared.parts.Destination.{Destination}
 use Rattle.enet_outbox.specs.Allowance.{limit}
-use Rattle.enet_outbox.specs.Outbox.{Outbox, transit_of, prices_of}
+use Rattle.enet_outbox.specs.Outbox.{Outbox, released, transit_of, prices_of}
 
 -- a datagram that is being filled: its commands, how many more bytes and commands it takes, and the outbox by now. Once a
 -- command didn't fit, it is closed
@@ -139,9 +139,10 @@ abbrev pub data_put : Filling → ℕ → SendingEnd → Next → Outbox → Fil
 data_put f channel s n o =
     with_command f (message_of s.channel n.command) (record (with_sender o channel (record s { sender = n.sender })) { last = Some channel })
 
--- the throttle is asked of the first command of an unreliable packet, and may drop the packet
+-- the throttle is asked of the first command of an unreliable packet, and may drop the packet; once a reliable command goes, the room is kept
+-- for its channel no longer
 abbrev pub data_step : Filling → ℕ → SendingEnd → Next → Kind → Filling
-data_step f channel s n Reliable = data_put f channel s n f.outbox
+data_step f channel s n Reliable = data_put f channel s n (record f.outbox { kept = released f.outbox.kept channel })
 data_step f channel s n More = data_put f channel s n f.outbox
 data_step f channel s n Begins =
     if is_admitted f.outbox.throttle
@@ -154,21 +155,27 @@ due_step f channel s None = f
 due_step f channel s (Some n) =
     if fits f (message_of s.channel n.command) then data_step f channel s n (due_kind n.command) else shut f
 
+-- whether the room in transit is kept for another channel
+abbrev pub is_barred : Option ℕ → ℕ → Bool
+is_barred None channel = false
+is_barred (Some kept) channel = not (kept == channel)
+
 -- what the sender of a channel is told when it is asked what is due
-abbrev pub occasion : Pace → Outbox → Occasion
-occasion pace o = record {
+abbrev pub occasion : Pace → ℕ → Outbox → Occasion
+occasion pace channel o = record {
   now = pace.now;
   timeout = pace.timeout;
   transit = transit_of o;
   most = transit_limit pace o;
   prices = prices_of o;
   dearest = price_limit pace o;
+  barred = is_barred o.kept channel;
 }
 
 abbrev pub channel_step : Pace → ℕ → Filling → Option SendingEnd → Filling
 channel_step pace channel f None = f
 channel_step pace channel f (Some s) =
-    due_step f channel s (next wire (occasion pace f.outbox) s.sender)
+    due_step f channel s (next wire (occasion pace channel f.outbox) s.sender)
 
 -- one more of a channel, if one is due
 abbrev pub with_one_data : Pace → ℕ → Filling → Filling
@@ -181,8 +188,30 @@ turns_of (Some s) = length s.sender.queued + length s.sender.sent
 abbrev pub channel_turns : Outbox → ℕ → ℕ
 channel_turns o channel = turns_of (slice_get o.senders channel)
 
+-- whether a command asks for an acknowledgement
+abbrev pub asks : Message → Bool
+asks m = m.head.acknowledge
+
+-- whether a reliable command went in a channel's turn, which led from one filling to another: it is among what went then
+abbrev pub has_gone : Filling → Filling → Bool
+has_gone f g = list_any asks (drop (length f.messages) g.messages)
+
+abbrev pub wants_room_on : Pace → ℕ → Outbox → Option SendingEnd → Bool
+wants_room_on pace channel o None = false
+wants_room_on pace channel o (Some s) = wants_room (occasion pace channel o) s.sender
+
+abbrev pub is_to_keep : Pace → ℕ → Filling → Filling → Bool
+is_to_keep pace channel f g = wants_room_on pace channel g.outbox (slice_get g.outbox.senders channel) && not (has_gone f g)
+
+-- where the channel wants the room by then, and nothing reliable of it went, the room is kept for it
+abbrev pub keeping : Pace → ℕ → Filling → Filling → Filling
+keeping pace channel f g = if is_to_keep pace channel f g then record g { outbox = record g.outbox { kept = Some channel } } else g
+
+abbrev pub turn_ended : Pace → ℕ → Filling → Filling → Filling
+turn_ended pace channel f g = unless_closed (keeping pace channel f) g
+
 abbrev pub with_channel : Pace → Filling → ℕ → Filling
-with_channel pace f channel = repeated (channel_turns f.outbox channel) (with_one_data pace channel) f
+with_channel pace f channel = turn_ended pace channel f (repeated (channel_turns f.outbox channel) (with_one_data pace channel) f)
 
 abbrev pub with_channels : Pace → List ℕ → Filling → Filling
 with_channels pace order f = fold (with_channel pace) f order
@@ -197,9 +226,6 @@ filled pace o = with_channels pace (turn_order o) (with_unsequenced (with_contro
 
 -- the header: the sent time stands exactly where a command asks for an acknowledgement, and the session is 0 while the other's
 -- slot isn't known
-abbrev pub asks : Message → Bool
-asks m = m.head.acknowledge
-
 abbrev pub header_for : ℕ → Destination → List Message → Header
 header_for now to messages = record {
   peer = to.slot;

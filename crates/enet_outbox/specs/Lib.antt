@@ -4,4 +4,5 @@ pub mod Counting
 pub mod Emission
 pub mod Invariant
 pub mod Resting
+pub mod Room
 pub mod Private

@@ -14,7 +14,7 @@ use Rattle.enet_senders.specs.Controlling.{Commands, nothing_controlled, is_idle
 use Rattle.enet_senders.specs.Controlling as controlling
 use Rattle.enet_sender.specs.CommandChoice.{Packet, is_flagged_reliable, is_long}
 use Rattle.enet_sender.specs.declared.outgoing.Acknowledged.{Acknowledged}
-use Rattle.enet_sender.specs.Sender.{bytes_in_transit, prices_in_transit, lost_price, left}
+use Rattle.enet_sender.specs.Sender.{Sender, awaits_room, bytes_in_transit, prices_in_transit, lost_price, left}
 use Rattle.enet_sender.specs.Sender as sender
 use Rattle.enet_sender.specs.Due.{SendingEnd, new_end}
 use Rattle.enet_senders.specs.Senders.{sum_over}
@@ -34,6 +34,7 @@ pub record Outbox : Type 0 where
   pub throttle : Throttling
   pub last : Option ℕ  -- the channel of the last data command that a datagram had
   pub allowance : Allowed
+  pub kept : Option ℕ  -- the channel that the room in transit is kept for
 
 -- so many channels with nothing to send, so many commands of channel 0xFF having been numbered before
 abbrev pub empty_outbox : ℕ → ℕ → Throttling → Outbox
@@ -46,6 +47,7 @@ empty_outbox channels number t = record {
   throttle = t;
   last = None;
   allowance = new_allowance;
+  kept = None;
 }
 
 -- the payload bytes of what is in transit: sent, not acknowledged and not due to go again
@@ -80,11 +82,12 @@ cleared o = record o {
   control = controlling.cleared o.control;
   unsequenced = [];
   senders = map cleared_sender o.senders;
+  kept = None;
 }
 
 -- only the first channels stay
 abbrev pub narrowed : Outbox → ℕ → Outbox
-narrowed o channels = record o { senders = take channels o.senders }
+narrowed o channels = record o { senders = take channels o.senders; kept = None }
 
 -- the flag UNSEQUENCED, 2
 abbrev pub is_flagged_unsequenced : Packet → Bool
@@ -152,9 +155,21 @@ matched_by o channel number time =
     then as_control (controlling.acknowledged_control o.control number time)
     else matched_on (slice_get o.senders channel) number time
 
+-- the room in transit is kept for this channel no longer
+abbrev pub released : Option ℕ → ℕ → Option ℕ
+released None channel = None
+released (Some kept) channel = if kept == channel then None else Some kept
+
+-- for which channel it is kept once an acknowledgement leaves a channel so
+abbrev pub still_kept : Option ℕ → ℕ → Sender → Option ℕ
+still_kept kept channel s = if awaits_room s then kept else released kept channel
+
 abbrev pub acknowledged_on : Outbox → ℕ → ℕ → Option SendingEnd → Outbox
 acknowledged_on o channel number None = o
-acknowledged_on o channel number (Some s) = record o { senders = slice_set o.senders channel (record s { sender = sender.after_acknowledgement s.sender number }) }
+acknowledged_on o channel number (Some s) = record o {
+  senders = slice_set o.senders channel (record s { sender = sender.after_acknowledgement s.sender number });
+  kept = still_kept o.kept channel (sender.after_acknowledgement s.sender number);
+}
 
 abbrev pub after_acknowledgement : Outbox → ℕ → ℕ → Outbox
 after_acknowledgement o channel number =

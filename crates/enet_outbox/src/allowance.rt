@@ -80,8 +80,10 @@ impl Allowance {
     pub fn acknowledge(&mut self, told: Acknowledged)
         ensures { self.new ≡ after_acknowledgement self.old told }
     {
-        let grown = u64::from(self.bytes) + self.growth(told);
-        self.bytes = grown.min(u64::from(GREATEST)) as u32;
+        if self.bytes < GREATEST {
+            let grown = u64::from(self.bytes) + self.growth(told);
+            self.bytes = grown.min(u64::from(GREATEST)) as u32;
+        }
     }
 
     // By how much it grows.

@@ -7,7 +7,11 @@ ghost use Rattle.enet_codec.specs.Datagram.{SpellsDatagram};
 ghost use Rattle.enet_outbox.specs.declared.parts.Acknowledgement.{Acknowledgement};
 ghost use Rattle.enet_outbox.specs.declared.parts.Destination.{Destination};
 ghost use Rattle.enet_outbox.specs.declared.parts.Pace.{Pace};
-ghost use Rattle.enet_outbox.specs.Outbox.{Outbox};
+ghost use Rattle.enet_outbox.specs.Outbox.{Outbox, after_acknowledgement, cleared, empty_outbox, marked, narrowed, submitted};
+ghost use Rattle.enet_outbox.specs.Room.{RoomIsAwaited};
+ghost use Rattle.enet_rtt.specs.declared.transmission.Tick.{Tick};
+ghost use Rattle.enet_sender.specs.CommandChoice.{Packet};
+ghost use Rattle.enet_throttle.specs.Throttle.{Throttling};
 ghost use Rattle.enet_outbox.specs.Emission.{HasDatagram, acknowledgement_of, filled, header_for};
 
 /// What is put out spells its header and its commands, in their order, and nothing else. So a receiver reads just these.
@@ -20,4 +24,17 @@ pub fn what_goes_is_spelled()
 pub fn oldest_goes_first()
     ensures { (pace : Pace) (o : Outbox) (a : Acknowledgement) (rest : List Acknowledgement) → 12 ≤ pace.mtu → o.acknowledgements ≡ a ∷ rest
         → (more : List Message) × ((filled pace o).messages ≡ acknowledgement_of a ∷ more) }
+{}
+
+/// Where the room in transit is kept for a channel, something of it may wait for room: something is due to go again, or nothing is sent and the
+/// queue begins with a reliable command. And all that is sent is reliable. So it is of an empty outbox, and whatever is called leaves it so:
+/// the room is never kept for nothing.
+pub fn room_is_kept_for_something()
+    ensures opened { (channels number : ℕ) (t : Throttling) → RoomIsAwaited (empty_outbox channels number t) }
+    ensures submitted { (o : Outbox) (mtu channel : ℕ) (q : Packet) → RoomIsAwaited o → RoomIsAwaited (submitted o mtu channel q) }
+    ensures acknowledged { (o : Outbox) (channel number : ℕ) → RoomIsAwaited o → RoomIsAwaited (after_acknowledgement o channel number) }
+    ensures marked { (o : Outbox) (tick : Tick) → RoomIsAwaited o → RoomIsAwaited (marked o tick) }
+    ensures filled { (pace : Pace) (o : Outbox) → RoomIsAwaited o → RoomIsAwaited (filled pace o).outbox }
+    ensures cleared { (o : Outbox) → RoomIsAwaited (cleared o) }
+    ensures narrowed { (o : Outbox) (channels : ℕ) → RoomIsAwaited o → RoomIsAwaited (narrowed o channels) }
 {}

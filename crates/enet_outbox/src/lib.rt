@@ -10,6 +10,7 @@
 //! unacknowledged.
 //! By specs/Allowance: how much may be in transit beside the window, and how that grows with what is acknowledged and shrinks with what was
 //! lost while the peer answered (`Allowance`).
+//! By specs/Room: the room in transit is kept for a channel only while something of it may wait for room (`room_is_kept_for_something`).
 //! What later calls need has its room before, told as a number: `acknowledge` and `queue_control` ask for room, and `narrow`
 //! that nothing is in transit.
 //! Laws: the bytes of a datagram spell its header and its commands, in their order, and nothing else
@@ -25,6 +26,6 @@ mod packing;
 mod parts;
 mod readings;
 
-pub use laws::{oldest_goes_first, what_goes_is_spelled};
+pub use laws::{oldest_goes_first, room_is_kept_for_something, what_goes_is_spelled};
 pub use outbox::Outbox;
 pub use parts::{Acknowledgement, Destination, Matched, Pace, Unsequenced};

@@ -5,7 +5,7 @@ ghost use Rattle.std.specs.VecDeque.{deque_len, deque_capacity};
 ghost use Rattle.enet_sender.specs.Due.{SendingEnd, with_submitted};
 ghost use Rattle.enet_sender.specs.CommandChoice.{fragment_limit};
 ghost use Rattle.enet_fragment.specs.Cutting.{piece_count};
-ghost use Rattle.enet_outbox.specs.Outbox.{cleared_sender, marked_sender, prices_lost, told_on};
+ghost use Rattle.enet_outbox.specs.Outbox.{cleared_sender, marked_sender, prices_lost, released, still_kept, told_on};
 ghost use Rattle.enet_outbox.specs.Invariant.{KeepsOutbox, with_accepted};
 
 use crate::Acknowledgement;
@@ -77,6 +77,30 @@ pub fn acknowledge_on(
         *prices -= told.price;
     }
     Some(told)
+}
+
+/// For which channel the room is kept, once it is kept for this one no longer.
+pub fn released(kept: Option<u8>, channel: u8) -> Option<u8>
+    ensures { result ≡ released kept channel }
+{
+    match kept {
+        None => None,
+        Some(owner) => { if owner == channel { None } else { kept } }
+    }
+}
+
+/// For which channel the room is kept once a command of this channel was acknowledged: for this one no longer, where nothing of it may wait
+/// for room.
+pub fn still_kept(senders: &Senders, kept: Option<u8>, channel: u8) -> Option<u8>
+    ensures { (s : SendingEnd) → slice_get senders.now channel ≡ Some s → result ≡ still_kept kept channel s.sender }
+{
+    let Some(owner) = kept else {
+        return None;
+    };
+    if owner != channel || usize::from(channel) >= senders.len() || senders.awaits_room(channel) {
+        return kept;
+    }
+    None
 }
 
 /// What is in transit once what is late left it.

@@ -46,6 +46,8 @@ pub struct Outbox {
     /// Its prices.
     pub(crate) prices: u32,
     pub(crate) allowance: Allowance,
+    /// The channel that the room in transit is kept for.
+    pub(crate) kept: Option<u8>,
     /// Whether the channels were seen to have nothing queued or unacknowledged, and nothing was submitted on one since.
     pub(crate) idle: bool,
 }
@@ -71,6 +73,7 @@ impl Model for Outbox {
         throttle = o.throttle;
         last = o.last;
         allowance = o.allowance;
+        kept = o.kept;
       };
       acknowledgement_room = deque_capacity o.acknowledgements - deque_len o.acknowledgements;
       control_room = o.control.room;
@@ -105,6 +108,7 @@ impl Outbox {
             transit: 0,
             prices: 0,
             allowance: Allowance::new(),
+            kept: None,
             idle: false,
         })
     }
@@ -246,7 +250,8 @@ impl Outbox {
         }
     }
 
-    /// The same of a data command. The allowance grows by what is acknowledged.
+    /// The same of a data command. The allowance grows by what is acknowledged, and the room is kept for its channel no longer where nothing
+    /// of it may wait for room.
     fn acknowledge_data(&mut self, channel: u8, number: u16, time: u16) -> Matched
         requires { channel < 255 }
         ensures found { result ≡ matched_by self.old.outbox channel number time }
@@ -260,6 +265,7 @@ impl Outbox {
             None => Matched::Nothing,
             Some(told) => {
                 self.allowance.acknowledge(told);
+                self.kept = lists::still_kept(&self.senders, self.kept, channel);
                 Matched::Data
             }
         }
@@ -453,9 +459,10 @@ impl Outbox {
         lists::clear(&mut self.senders);
         self.transit = 0;
         self.prices = 0;
+        self.kept = None;
     }
 
-    /// Keeps so many channels, the first ones; nothing may be in transit.
+    /// Keeps so many channels, the first ones; nothing may be in transit. The room is kept for none then.
     pub fn narrow(&mut self, channels: u8)
         requires { prices_of self.old.outbox ≡ 0 }
         ensures outbox { self.new.outbox ≡ narrowed self.old.outbox channels }
@@ -463,6 +470,7 @@ impl Outbox {
         ensures control_room { self.new.control_room ≡ self.old.control_room }
     {
         self.idle = false;
+        self.kept = None;
         self.senders.narrow(usize::from(channels));
     }
 }

@@ -5,17 +5,17 @@
 //! A label names its loop for the proofs, here and in the other crates: its goals are called by it (`turns-preserved`), also
 //! if no `break` or `continue` names it.
 
-ghost use Rattle.std.specs.Prelude.{◌≡◌, ℕ, true, IsTrue, ◌≤◌, ◌+◌, ◌-◌, ◌%◌, ◌<◌, ◌^◌, ◌++◌, length, take, drop, slice_get, slice_set, Some, slice_range, unwrap_or};
+ghost use Rattle.std.specs.Prelude.{◌≡◌, ℕ, true, ◌||◌, IsTrue, ◌≤◌, ◌+◌, ◌-◌, ◌%◌, ◌<◌, ◌^◌, ◌++◌, length, take, drop, slice_get, slice_set, Some, slice_range, unwrap_or};
 ghost use Rattle.std.specs.Option.{option_map};
 ghost use Rattle.std.specs.VecDeque.{deque_len, deque_capacity};
 ghost use Rattle.enet_codec.specs.Header.{header_text};
 ghost use Rattle.enet_sender.specs.Due.{SendingEnd};
 ghost use Rattle.enet_codec.specs.Message.{view, payload_of};
-ghost use Rattle.enet_outbox.specs.Emission.{acknowledgement_of, unsequenced_of, filled, Emits};
+ghost use Rattle.enet_outbox.specs.Emission.{acknowledgement_of, is_barred, unsequenced_of, filled, Emits};
 ghost use Rattle.enet_outbox.specs.Invariant.{HasNothing};
 ghost use Rattle.enet_outbox.specs.Resting.{IsAtRest};
 ghost use Rattle.enet_senders.specs.Senders.{IsStill};
-ghost use Rattle.enet_outbox.specs.Private.Packing.{header_asking, most_unused, Leads, taken_in, place_in, asked_for, refuses, told, GoesIn, PacksAcknowledgements, PacksControls, PacksUnsequenced, PacksChannel, PacksChannels};
+ghost use Rattle.enet_outbox.specs.Private.Packing.{header_asking, is_reliable, kept_after, most_unused, Leads, taken_in, place_in, asked_for, refuses, told, GoesIn, PacksAcknowledgements, PacksControls, PacksUnsequenced, PacksChannel, PacksChannels};
 
 use crate::{Acknowledgement, Destination, Outbox, Pace, Unsequenced, lists};
 use enet_codec::{Command, Head, Header, NO_PEER, write_acknowledge, write_command, write_header};
@@ -60,6 +60,8 @@ pub struct Flow {
     pub prices: u32,
     /// How much these may be together, the mtu apart.
     pub dearest: u32,
+    /// The channel that the room in transit is kept for.
+    pub kept: Option<u8>,
     /// The channel of the last data command that a datagram had.
     pub last: Option<u8>,
 }
@@ -272,9 +274,43 @@ fn refuses(throttle: &mut Throttle, kind: Kind) -> bool
     }
 }
 
+/// Whether the room in transit is kept for another channel.
+fn is_barred(kept: Option<u8>, channel: u8) -> bool
+    ensures { result ≡ is_barred kept channel }
+{
+    match kept {
+        None => false,
+        Some(owner) => owner != channel,
+    }
+}
+
+/// For which channel the room is kept after a turn of this one: if a reliable command of it went, for this one no longer; else for this one,
+/// if it wants the room.
+fn kept_after(went: bool, wants: bool, kept: Option<u8>, channel: u8) -> Option<u8>
+    ensures { result ≡ kept_after went wants kept channel }
+{
+    if went {
+        lists::released(kept, channel)
+    } else if wants {
+        Some(channel)
+    } else {
+        kept
+    }
+}
+
+/// Whether a reliable command of a channel went in its turn, once one more of it goes.
+fn went_with(kind: Kind, went: bool) -> bool
+    ensures { result ≡ (is_reliable kind || went) }
+{
+    match kind {
+        Kind::Reliable => true,
+        Kind::Begins | Kind::More => went,
+    }
+}
+
 /// What the sender of a channel is told when it is asked what is due.
-fn occasion_of(flow: &Flow, pace: Pace) -> Occasion
-    ensures { result ≡ told pace flow.now }
+fn occasion_of(flow: &Flow, channel: u8, pace: Pace) -> Occasion
+    ensures { result ≡ told pace channel flow.now }
 {
     Occasion {
         now: pace.now,
@@ -283,11 +319,13 @@ fn occasion_of(flow: &Flow, pace: Pace) -> Occasion
         most: flow.throttle.transit_limit(pace.window, pace.mtu),
         prices: flow.prices,
         dearest: flow.dearest.max(pace.mtu),
+        barred: is_barred(flow.kept, channel),
     }
 }
 
 /// Puts what is due on a channel into the datagram, as far as it fits. The throttle is asked of the first command of each
-/// unreliable packet that fits, and may drop the packet.
+/// unreliable packet that fits, and may drop the packet. Where the channel wants the room in transit and nothing reliable of it went, the
+/// room is kept for it; once something reliable of it goes, no longer (our profile).
 fn pack_channel(
     senders: &mut Senders,
     flow: &mut Flow,
@@ -302,9 +340,10 @@ fn pack_channel(
         (record { progress = from; buf = buf.old }) (record { progress = result; buf = buf.new })) }
 {
     let mut progress = from;
+    let mut went = false;
     'commands: loop {
         let place = progress.place(buf);
-        let occasion = occasion_of(flow, pace);
+        let occasion = occasion_of(flow, channel, pace);
         match senders.next_due(channel, occasion, buf, place) {
             Due::Sent {
                 past,
@@ -318,23 +357,35 @@ fn pack_channel(
                     flow.transit += added;
                     flow.prices += price;
                     flow.last = Some(channel);
+                    went = went_with(kind, went);
                     progress = progress.with(buf, past);
                 }
             }
-            Due::NoRoom => return progress.shut(),
-            Due::Nothing => return progress,
+            Due::NoRoom => {
+                flow.kept = kept_after(went, false, flow.kept, channel);
+                return progress.shut();
+            }
+            Due::Full => {
+                flow.kept = kept_after(went, true, flow.kept, channel);
+                return progress;
+            }
+            Due::Nothing => {
+                flow.kept = kept_after(went, false, flow.kept, channel);
+                return progress;
+            }
         }
     }
 }
 
-/// Whether what is in transit is so much that a command of the mtu may find no room.
+/// Whether what is in transit is so much that a command of the mtu may find no room, or the room is kept for another channel.
 fn is_nearly_full(occasion: Occasion, mtu: u32) -> bool {
     u64::from(occasion.transit) + u64::from(mtu) > u64::from(occasion.most)
         || u64::from(occasion.prices) + u64::from(mtu) > u64::from(occasion.dearest)
+        || occasion.barred
 }
 
-/// Puts what is due on a channel into the datagram as `pack_channel` does. Where what is in transit is nearly as much as it may be, a channel
-/// that surely has to wait is passed over.
+/// Puts what is due on a channel into the datagram as `pack_channel` does. Where what is in transit is nearly as much as it may be, or the
+/// room is kept for another channel, one that surely has to wait is passed over.
 fn pack_turn(
     senders: &mut Senders,
     flow: &mut Flow,
@@ -348,7 +399,7 @@ fn pack_turn(
         × PacksChannel pace (record { channel = channel; sender = s; flow = flow.old }) (record { channel = channel; sender = t; flow = flow.new })
         (record { progress = progress.old; buf = buf.old }) (record { progress = progress.new; buf = buf.new })) }
 {
-    let occasion = occasion_of(flow, pace);
+    let occasion = occasion_of(flow, channel, pace);
     if is_nearly_full(occasion, pace.mtu) && senders.has_to_wait(channel, occasion) {
         return;
     }
@@ -499,6 +550,7 @@ impl Outbox {
             transit: self.transit,
             prices: self.prices,
             dearest: self.allowance.limit(),
+            kept: self.kept,
             last: self.last,
         };
         let sent = pack_channels(&mut self.senders, &mut flow, first, pace, buf, unsequenced);
@@ -506,6 +558,7 @@ impl Outbox {
         self.throttle = flow.throttle;
         self.transit = flow.transit;
         self.prices = flow.prices;
+        self.kept = flow.kept;
         self.last = flow.last;
         sent
     }
@@ -534,6 +587,11 @@ impl Outbox {
     /// after the last that had a data command in an earlier datagram. On a channel first goes what is due to go again, then
     /// what is queued. Nothing goes behind the first command that does not fit: that one waits for a later datagram (our
     /// profile).
+    ///
+    /// Where what is in transit leaves no room for a command of a channel, the room is kept for that channel if it is kept for none yet, nothing
+    /// reliable of the channel went in this datagram, and the command is due to go again or nothing of the channel is sent and
+    /// unacknowledged. Then no reliable command of another channel goes for the first time, in this datagram or a later one, until a
+    /// reliable command of that channel goes, or an acknowledgement leaves nothing of it that may wait for room (our profile).
     ///
     /// The throttle is asked of each unsequenced packet that fits, and of the first command of each unreliable packet that
     /// fits; it may drop the packet. A drop is no command: also where the answer is None the outbox may have changed. The

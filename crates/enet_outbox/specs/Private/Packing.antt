@@ -14,11 +14,11 @@ use Rattle.enet_outbox.specs.declared.parts.Destination.{Destination}
 use Rattle.enet_outbox.specs.declared.packing.Progress.{Progress}
 use Rattle.enet_outbox.specs.declared.packing.Flow.{Flow}
 use Rattle.enet_sender.specs.declared.outgoing.Kind.{Kind}
-use Rattle.enet_sender.specs.declared.outgoing.Kind.TheVariants.{Begins}
+use Rattle.enet_sender.specs.declared.outgoing.Kind.TheVariants.{Begins, Reliable}
 use Rattle.enet_sender.specs.declared.outgoing.Occasion.{Occasion}
 use Rattle.enet_outbox.specs.Allowance.{limit}
-use Rattle.enet_outbox.specs.Outbox.{Outbox, transit_of, prices_of}
-use Rattle.enet_outbox.specs.Emission.{Filling, asks, fits, with_command, with_acknowledgements, with_controls, with_unsequenced, with_channel, with_channels}
+use Rattle.enet_outbox.specs.Outbox.{Outbox, released, transit_of, prices_of}
+use Rattle.enet_outbox.specs.Emission.{Filling, asks, fits, is_barred, with_command, with_acknowledgements, with_controls, with_unsequenced, with_channel, with_channels}
 
 -- for no more than so many unsequenced packets room is kept where none waits
 abbrev pub most_unused : ℕ
@@ -92,27 +92,39 @@ abbrev pub refuses : Kind → Throttling → Bool
 refuses Begins t = not (is_admitted t)
 refuses _ t = false
 
--- what the channels share: the throttle, what is in transit, what the prices may be together, and the channel of the last data command
+abbrev pub is_reliable : Kind → Bool
+is_reliable Reliable = true
+is_reliable _ = false
+
+-- for which channel the room is kept after a turn of one: if a reliable command of it went, for that one no longer; else for that one, if it
+-- wants the room
+abbrev pub kept_after : Bool → Bool → Option ℕ → ℕ → Option ℕ
+kept_after went wants kept channel = if went then released kept channel else (if wants then Some channel else kept)
+
+-- what the channels share: the throttle, what is in transit, what the prices may be together, the channel that the room is kept for, and the
+-- channel of the last data command
 abbrev pub with_flow : Outbox → List SendingEnd → Flow → Outbox
-with_flow o senders w = record o { senders = senders; throttle = w.throttle; last = w.last }
+with_flow o senders w = record o { senders = senders; throttle = w.throttle; kept = w.kept; last = w.last }
 
 pub record Counts (o : Outbox) (w : Flow) : Type 0 where
   pub transit : transit_of o ≡ w.transit
   pub prices : prices_of o ≡ w.prices
   pub dearest : limit o.allowance ≡ w.dearest
+  pub kept : o.kept ≡ w.kept
 
 abbrev pub Shares : Outbox → Flow → Type 0
 Shares o w = (o.throttle ≡ w.throttle) × (o.last ≡ w.last) × Counts o w
 
 -- what the sender of a channel is told when it is asked what is due
-abbrev pub told : Pace → Flow → Occasion
-told pace w = record {
+abbrev pub told : Pace → ℕ → Flow → Occasion
+told pace channel w = record {
   now = pace.now;
   timeout = pace.timeout;
   transit = w.transit;
   most = transit w.throttle pace.window pace.mtu;
   prices = w.prices;
   dearest = max w.dearest pace.mtu;
+  barred = is_barred w.kept channel;
 }
 
 -- one channel: its place among the senders, its sender, and what it shares

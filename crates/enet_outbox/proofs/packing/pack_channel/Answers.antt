@@ -5,7 +5,7 @@ use Rattle.enet_sender.specs.declared.outgoing.Occasion.{Occasion}
 use Rattle.enet_sender.specs.Due.{SendingEnd}
 use Rattle.enet_senders.proofs.Sets.{get-set}
 use Rattle.enet_sender.specs.declared.outgoing.Due.TheVariants as due
-use Rattle.enet_outbox.proofs.ChannelTurns.{called, some-sender, turn-begin, turn-put, turn-drop, turn-full, turn-none, turn-falls, skip-falls, turn-length, called-room, called-bytes, called-prices}
+use Rattle.enet_outbox.proofs.ChannelTurns.{called, some-sender, settled, told-settled, turn-begin, turn-goes, turn-drop, turn-full, turn-none, turn-waits, turn-falls, skip-falls, turn-length, called-room, called-bytes, called-prices}
 use Rattle.enet_outbox.proofs.packing.pack_channel.Goals as goal
 
 pub commands-init : goal.commands-init
@@ -19,23 +19,23 @@ next_due-requires c =
 
 pub commands-preserved : goal.commands-preserved
 commands-preserved c = λ s there.
-    let did = called c.args.pace c.args.channel c.commands.flow c.commands.progress c.commands.senders c.next_due.new.self c.commands.buf c.next_due.new.buf (due.Sent c.in-Sent.past c.in-Sent.added c.in-Sent.price c.in-Sent.kind)
-    c.occasion_of-occasion.result c.place-place.result c.occasion_of-occasion.ensures c.place-place.ensures c.in-Sent.ensures in
-    rw (c.refuses.ensures.asked, c.with-progress.ensures) (turn-put c.in-Sent.added c.in-Sent.price c.in-Sent.kind (c.commands.invariant s there) did (sym c.refuses.ensures.answer ∙ c.if-refuses.false))
+    let did = called c.args.pace c.args.channel (settled c.commands.flow c.commands.went c.args.channel) c.commands.progress c.commands.senders c.next_due.new.self c.commands.buf c.next_due.new.buf (due.Sent c.in-Sent.past c.in-Sent.added c.in-Sent.price c.in-Sent.kind)
+    c.occasion_of-occasion.result c.place-place.result (c.occasion_of-occasion.ensures ∙ told-settled c.args.pace c.args.channel c.commands.flow c.commands.went) c.place-place.ensures c.in-Sent.ensures in
+    rw (c.refuses.ensures.asked, c.with-progress.ensures, c.went_with-went.ensures) (turn-goes c.commands.flow c.in-Sent.added c.in-Sent.price c.in-Sent.kind (c.commands.invariant s there) did (sym c.refuses.ensures.answer ∙ c.if-refuses.false))
 
 pub commands-preserved-then-refuses : goal.commands-preserved-then-refuses
 commands-preserved-then-refuses c = λ s there.
-    let did = called c.args.pace c.args.channel c.commands.flow c.commands.progress c.commands.senders c.next_due.new.self c.commands.buf c.next_due.new.buf (due.Sent c.in-Sent.past c.in-Sent.added c.in-Sent.price c.in-Sent.kind)
-    c.occasion_of-occasion.result c.place-place.result c.occasion_of-occasion.ensures c.place-place.ensures c.in-Sent.ensures in
+    let did = called c.args.pace c.args.channel (settled c.commands.flow c.commands.went c.args.channel) c.commands.progress c.commands.senders c.next_due.new.self c.commands.buf c.next_due.new.buf (due.Sent c.in-Sent.past c.in-Sent.added c.in-Sent.price c.in-Sent.kind)
+    c.occasion_of-occasion.result c.place-place.result (c.occasion_of-occasion.ensures ∙ told-settled c.args.pace c.args.channel c.commands.flow c.commands.went) c.place-place.ensures c.in-Sent.ensures in
     rw c.refuses.ensures.asked (turn-drop c.in-Sent.past c.in-Sent.added c.in-Sent.price c.in-Sent.kind (c.commands.invariant s there) did (sym c.refuses.ensures.answer ∙ c.if-refuses.true) c.skip.ensures)
 
 pub commands-smaller : goal.commands-smaller
 commands-smaller c =
     let first = some-sender c.args.senders.now c.args.channel c.requires in
     let a = c.commands.invariant first.0 first.1 in
-    turn-falls c.args.pace c.args.channel c.commands.flow c.commands.progress c.commands.senders c.next_due.new.self c.commands.buf c.next_due.new.buf c.in-Sent.past c.in-Sent.added c.in-Sent.price c.in-Sent.kind a.s a.there
-    (called c.args.pace c.args.channel c.commands.flow c.commands.progress c.commands.senders c.next_due.new.self c.commands.buf c.next_due.new.buf (due.Sent c.in-Sent.past c.in-Sent.added c.in-Sent.price c.in-Sent.kind)
-    c.occasion_of-occasion.result c.place-place.result c.occasion_of-occasion.ensures c.place-place.ensures c.in-Sent.ensures)
+    turn-falls c.args.pace c.args.channel (settled c.commands.flow c.commands.went c.args.channel) c.commands.progress c.commands.senders c.next_due.new.self c.commands.buf c.next_due.new.buf c.in-Sent.past c.in-Sent.added c.in-Sent.price c.in-Sent.kind a.s a.there
+    (called c.args.pace c.args.channel (settled c.commands.flow c.commands.went c.args.channel) c.commands.progress c.commands.senders c.next_due.new.self c.commands.buf c.next_due.new.buf (due.Sent c.in-Sent.past c.in-Sent.added c.in-Sent.price c.in-Sent.kind)
+    c.occasion_of-occasion.result c.place-place.result (c.occasion_of-occasion.ensures ∙ told-settled c.args.pace c.args.channel c.commands.flow c.commands.went) c.place-place.ensures c.in-Sent.ensures)
 
 pub skip-requires : goal.skip-requires
 skip-requires c =
@@ -50,9 +50,9 @@ pub commands-smaller-then-refuses : goal.commands-smaller-then-refuses
 commands-smaller-then-refuses c =
     let first = some-sender c.args.senders.now c.args.channel c.requires in
     let a = c.commands.invariant first.0 first.1 in
-    let did = called c.args.pace c.args.channel c.commands.flow c.commands.progress c.commands.senders c.next_due.new.self c.commands.buf c.next_due.new.buf (due.Sent c.in-Sent.past c.in-Sent.added c.in-Sent.price c.in-Sent.kind)
-    c.occasion_of-occasion.result c.place-place.result c.occasion_of-occasion.ensures c.place-place.ensures c.in-Sent.ensures in
-    let falls = turn-falls c.args.pace c.args.channel c.commands.flow c.commands.progress c.commands.senders c.next_due.new.self c.commands.buf c.next_due.new.buf c.in-Sent.past c.in-Sent.added c.in-Sent.price c.in-Sent.kind a.s a.there did in
+    let did = called c.args.pace c.args.channel (settled c.commands.flow c.commands.went c.args.channel) c.commands.progress c.commands.senders c.next_due.new.self c.commands.buf c.next_due.new.buf (due.Sent c.in-Sent.past c.in-Sent.added c.in-Sent.price c.in-Sent.kind)
+    c.occasion_of-occasion.result c.place-place.result (c.occasion_of-occasion.ensures ∙ told-settled c.args.pace c.args.channel c.commands.flow c.commands.went) c.place-place.ensures c.in-Sent.ensures in
+    let falls = turn-falls c.args.pace c.args.channel (settled c.commands.flow c.commands.went c.args.channel) c.commands.progress c.commands.senders c.next_due.new.self c.commands.buf c.next_due.new.buf c.in-Sent.past c.in-Sent.added c.in-Sent.price c.in-Sent.kind a.s a.there did in
     let r = did a.s a.there in
     let there : slice_get c.next_due.new.self c.args.channel ≡ Some r.0 = ap (λ (xs : List SendingEnd). slice_get xs c.args.channel) r.1.0 ∙ get-set c.commands.senders c.args.channel a.s r.0 a.there in
     let skip = skip-falls c.args.channel c.next_due.new.self c.skip.new.self r.0 there c.skip.ensures in
@@ -86,26 +86,32 @@ pub with-progress-requires-clause-within : goal.with-progress-requires-clause-wi
 with-progress-requires-clause-within c =
     let first = some-sender c.args.senders.now c.args.channel c.requires in
     let a = c.commands.invariant first.0 first.1 in
-    (called-room c.args.pace c.args.channel c.commands.flow c.commands.progress c.commands.senders c.next_due.new.self c.commands.buf c.next_due.new.buf c.in-Sent.past c.in-Sent.added c.in-Sent.price c.in-Sent.kind a.s a.there
-    (called c.args.pace c.args.channel c.commands.flow c.commands.progress c.commands.senders c.next_due.new.self c.commands.buf c.next_due.new.buf (due.Sent c.in-Sent.past c.in-Sent.added c.in-Sent.price c.in-Sent.kind)
-    c.occasion_of-occasion.result c.place-place.result c.occasion_of-occasion.ensures c.place-place.ensures c.in-Sent.ensures)).1
+    (called-room c.args.pace c.args.channel (settled c.commands.flow c.commands.went c.args.channel) c.commands.progress c.commands.senders c.next_due.new.self c.commands.buf c.next_due.new.buf c.in-Sent.past c.in-Sent.added c.in-Sent.price c.in-Sent.kind a.s a.there
+    (called c.args.pace c.args.channel (settled c.commands.flow c.commands.went c.args.channel) c.commands.progress c.commands.senders c.next_due.new.self c.commands.buf c.next_due.new.buf (due.Sent c.in-Sent.past c.in-Sent.added c.in-Sent.price c.in-Sent.kind)
+    c.occasion_of-occasion.result c.place-place.result (c.occasion_of-occasion.ensures ∙ told-settled c.args.pace c.args.channel c.commands.flow c.commands.went) c.place-place.ensures c.in-Sent.ensures)).1
 
 pub with-progress-requires-clause-more : goal.with-progress-requires-clause-more
 with-progress-requires-clause-more c =
     let first = some-sender c.args.senders.now c.args.channel c.requires in
     let a = c.commands.invariant first.0 first.1 in
-    (called-room c.args.pace c.args.channel c.commands.flow c.commands.progress c.commands.senders c.next_due.new.self c.commands.buf c.next_due.new.buf c.in-Sent.past c.in-Sent.added c.in-Sent.price c.in-Sent.kind a.s a.there
-    (called c.args.pace c.args.channel c.commands.flow c.commands.progress c.commands.senders c.next_due.new.self c.commands.buf c.next_due.new.buf (due.Sent c.in-Sent.past c.in-Sent.added c.in-Sent.price c.in-Sent.kind)
-    c.occasion_of-occasion.result c.place-place.result c.occasion_of-occasion.ensures c.place-place.ensures c.in-Sent.ensures)).0
+    (called-room c.args.pace c.args.channel (settled c.commands.flow c.commands.went c.args.channel) c.commands.progress c.commands.senders c.next_due.new.self c.commands.buf c.next_due.new.buf c.in-Sent.past c.in-Sent.added c.in-Sent.price c.in-Sent.kind a.s a.there
+    (called c.args.pace c.args.channel (settled c.commands.flow c.commands.went c.args.channel) c.commands.progress c.commands.senders c.next_due.new.self c.commands.buf c.next_due.new.buf (due.Sent c.in-Sent.past c.in-Sent.added c.in-Sent.price c.in-Sent.kind)
+    c.occasion_of-occasion.result c.place-place.result (c.occasion_of-occasion.ensures ∙ told-settled c.args.pace c.args.channel c.commands.flow c.commands.went) c.place-place.ensures c.in-Sent.ensures)).0
 
 pub returns-in-NoRoom : goal.returns-in-NoRoom
 returns-in-NoRoom c = λ s there.
-    rw c.shut.ensures (turn-full (c.commands.invariant s there)
-    (called c.args.pace c.args.channel c.commands.flow c.commands.progress c.commands.senders c.next_due.new.self c.commands.buf c.next_due.new.buf due.NoRoom
-    c.occasion_of-occasion.result c.place-place.result c.occasion_of-occasion.ensures c.place-place.ensures c.in-NoRoom.ensures))
+    rw (c.shut.ensures, c.kept_after-flow.ensures) (turn-full (c.commands.invariant s there)
+    (called c.args.pace c.args.channel (settled c.commands.flow c.commands.went c.args.channel) c.commands.progress c.commands.senders c.next_due.new.self c.commands.buf c.next_due.new.buf due.NoRoom
+    c.occasion_of-occasion.result c.place-place.result (c.occasion_of-occasion.ensures ∙ told-settled c.args.pace c.args.channel c.commands.flow c.commands.went) c.place-place.ensures c.in-NoRoom.ensures))
+
+pub returns-in-Full : goal.returns-in-Full
+returns-in-Full c = λ s there.
+    rw c.kept_after-flow-in-Full.ensures (turn-waits c.commands.flow (c.commands.invariant s there)
+    (called c.args.pace c.args.channel (settled c.commands.flow c.commands.went c.args.channel) c.commands.progress c.commands.senders c.next_due.new.self c.commands.buf c.next_due.new.buf due.Full
+    c.occasion_of-occasion.result c.place-place.result (c.occasion_of-occasion.ensures ∙ told-settled c.args.pace c.args.channel c.commands.flow c.commands.went) c.place-place.ensures c.in-Full.ensures))
 
 pub returns-in-Nothing : goal.returns-in-Nothing
 returns-in-Nothing c = λ s there.
-    turn-none (c.commands.invariant s there)
-    (called c.args.pace c.args.channel c.commands.flow c.commands.progress c.commands.senders c.next_due.new.self c.commands.buf c.next_due.new.buf due.Nothing
-    c.occasion_of-occasion.result c.place-place.result c.occasion_of-occasion.ensures c.place-place.ensures c.in-Nothing.ensures)
+    rw c.kept_after-flow-in-Nothing.ensures (turn-none (c.commands.invariant s there)
+    (called c.args.pace c.args.channel (settled c.commands.flow c.commands.went c.args.channel) c.commands.progress c.commands.senders c.next_due.new.self c.commands.buf c.next_due.new.buf due.Nothing
+    c.occasion_of-occasion.result c.place-place.result (c.occasion_of-occasion.ensures ∙ told-settled c.args.pace c.args.channel c.commands.flow c.commands.went) c.place-place.ensures c.in-Nothing.ensures))

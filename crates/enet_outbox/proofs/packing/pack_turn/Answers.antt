@@ -1,6 +1,6 @@
 use Rattle.std.proofs.Common.{Option, refl, sym, subst}
 use Rattle.enet_sender.specs.declared.outgoing.Due.TheVariants as due
-use Rattle.enet_sender.specs.Sender.{Next}
+use Rattle.enet_sender.specs.Sender.{Next, wants_room}
 use Rattle.enet_sender.specs.Due.{Did}
 use Rattle.enet_senders.proofs.Each.{set-there}
 use Rattle.enet_outbox.specs.Private.Packing.{place_in}
@@ -16,5 +16,6 @@ returns-then-has_to_wait c = λ s there.
     turn-none (turn-begin s there)
     (called c.args.pace c.args.channel flow c.args.progress.now senders senders buf buf due.Nothing c.occasion_of-occasion.result at c.occasion_of-occasion.ensures refl
     (λ e here.
-    let P : Option Next → Type 0 = λ n. Did n due.Nothing e e (record { old = buf; at = at; new = buf }) in
-    (e, (sym (set-there senders c.args.channel e here), subst P (sym (c.has_to_wait.ensures e here c.if-has_to_wait.true)) (refl, refl)))))
+    let waits = c.has_to_wait.ensures e here c.if-has_to_wait.true in
+    let P : Option Next → Type 0 = λ n. Did n (wants_room c.occasion_of-occasion.result e.sender) due.Nothing e e (record { old = buf; at = at; new = buf }) in
+    (e, (sym (set-there senders c.args.channel e here), subst P (sym waits.0) (waits.1, refl, refl)))))
