@@ -447,6 +447,8 @@ filled-places pace o h = by-filling pace o (λ (f : Filling). At InPlace f.outbo
   drops_unsequenced = λ f u rest t e a. a;
   puts_data = λ f k s n t there due a. at-set InPlace f.outbox.senders k (record s { sender = n.sender }) (a k s there) a;
   drops_data = λ f k s n t there due kind a. at-set InPlace f.outbox.senders k (record s { sender = with_skipped n.sender }) (a k s there) a;
+  keeps_room = λ f i x there wants a. a;
+  gives_room = λ f i x n there due a. a;
 }) h
 
 -- nothing is left to send but the last DISCONNECT, if that
@@ -468,6 +470,8 @@ filled-spent pace o Left goes h = by-filling pace o (λ (f : Filling). Spent Lef
   drops_unsequenced = λ f u rest t e a. absurd (nil-cons f.outbox.unsequenced u rest a.0.no_unsequenced e);
   puts_data = λ f k s n t there due a. absurd (idle-next _ s.sender n (a.0.no_queued k s there) (a.0.no_sent k s there) due);
   drops_data = λ f k s n t there due kind a. absurd (idle-next _ s.sender n (a.0.no_queued k s there) (a.0.no_sent k s there) due);
+  keeps_room = λ f i x there wants a. a;
+  gives_room = λ f i x n there due a. a;
 }) h
 
 filled-empty : (pace : Pace) (o : Outbox) → Spent (λ queued. queued ≡ []) o → Spent (λ queued. queued ≡ []) (filled pace o).outbox

@@ -76,6 +76,8 @@ cleans-filled pace o places few =
         few = few-set f.outbox.senders k (record s { sender = with_skipped n.sender }) a.few;
         messages = a.messages;
       };
+      keeps_room = λ f i x there wants a. record { places = a.places; few = a.few; messages = a.messages };
+      gives_room = λ f i x n there due a. record { places = a.places; few = a.few; messages = a.messages };
     }) (record { places = places; few = few; messages = λ m h. absurd h })
 
 -- the log of an end

@@ -261,8 +261,10 @@ packs-filled mtu channel z v pace o ready places =
           packs-other mtu channel z v f m (record f.outbox { control = n.commands }) (ap (λ b. b && m.head.channel == channel) (control-none n.command.control m.head)) refl a.places a);
       puts_unsequenced = λ f u rest t e a. packs-other mtu channel z v f (unsequenced_of u) (record f.outbox { throttle = t; unsequenced = rest; last = Some u.channel }) refl refl a.places a;
       drops_unsequenced = λ f u rest t e a. record { link = a.link; events = a.events; runs = a.runs; same = a.same; ready = a.ready; places = a.places; making = a.making; greatest = a.greatest; few = a.few };
-      puts_data = λ f k s n t there due a. packs-put mtu channel z v f k s n t (occasion pace f.outbox) there due a;
-      drops_data = λ f k s n t there due kind a. packs-drop mtu channel z v f k s n t (occasion pace f.outbox) there due kind a;
+      puts_data = λ f k s n t there due a. packs-put mtu channel z v f k s n t (occasion pace k f.outbox) there due a;
+      drops_data = λ f k s n t there due kind a. packs-drop mtu channel z v f k s n t (occasion pace k f.outbox) there due kind a;
+      keeps_room = λ f i x there wants a. record { link = a.link; events = a.events; runs = a.runs; same = a.same; ready = a.ready; places = a.places; making = a.making; greatest = a.greatest; few = a.few };
+      gives_room = λ f i x n there due a. record { link = a.link; events = a.events; runs = a.runs; same = a.same; ready = a.ready; places = a.places; making = a.making; greatest = a.greatest; few = a.few };
     }) (record {
       link = v;
       events = [];
@@ -385,6 +387,8 @@ answers-filled mtu channel v pace o waiting =
           answers-other mtu channel v f m (record (with_sender (record f.outbox { throttle = t }) k (record s { sender = n.sender })) { last = Some k })
           (not-answer m (data-no_answer n.command.reliable n.command.fragment n.command.unreliable n.command.body)) refl a);
       drops_data = λ f k s n t there due kind a. record { link = a.link; events = a.events; runs = a.runs; same = a.same; waiting = a.waiting; old = a.old; acks = a.acks };
+      keeps_room = λ f i x there wants a. record { link = a.link; events = a.events; runs = a.runs; same = a.same; waiting = a.waiting; old = a.old; acks = a.acks };
+      gives_room = λ f i x n there due a. record { link = a.link; events = a.events; runs = a.runs; same = a.same; waiting = a.waiting; old = a.old; acks = a.acks };
     }) (record {
       link = v;
       events = [];

@@ -3,7 +3,7 @@ use Rattle.std.proofs.Common.{◌≡◌, ℕ, ◌+◌, ◌-◌, ◌*◌, ◌/◌
 use Rattle.std.proofs.lemmas.Bool.Decides.{nat_tests}
 use Rattle.std.proofs.lemmas.List.{append-nil, map-append}
 use Rattle.std.proofs.lemmas.Nat.{div_below}
-use Rattle.std.specs.Prelude.{nat_lt, nat_le, ◌&&◌, slice_get, slice_set}
+use Rattle.std.specs.Prelude.{nat_lt, ◌&&◌, slice_get, slice_set}
 use Rattle.std.specs.List.{position}
 use Rattle.enet_seq.specs.Windows.{ahead}
 use Rattle.enet_seq.proofs.WindowsLemmas.{ahead_true}
@@ -15,7 +15,7 @@ use Rattle.enet_fragment.specs.declared.data.DataCommand.{DataCommand}
 use Rattle.enet_receiver.specs.Receiver.{Receiver}
 use Rattle.enet_sender.specs.CommandChoice.{Packet, ChosenPacket, carried, carried_from, carried_as, goes_reliable}
 use Rattle.enet_sender.specs.declared.outgoing.Occasion.{Occasion}
-use Rattle.enet_sender.specs.Sender.{Sender, Next, commands_of, with_queued, again, begun, is_in_span, has_room, may_go, resent, first_sent, next_queued, next_resent, next_of, next, is_more, skipped, with_skipped, marked}
+use Rattle.enet_sender.specs.Sender.{Sender, Next, commands_of, with_queued, again, begun, is_in_span, has_room, may_begin, may_go, resent, first_sent, next_queued, next_resent, next_of, next, is_more, skipped, with_skipped, marked}
 use Rattle.enet_sender.specs.declared.sent.Sent.{Sent}
 use Rattle.law_connection.specs.Follows.{command_count, count_after}
 use Rattle.law_connection.specs.Link.{wired}
@@ -383,7 +383,7 @@ Sound-begins_reliable mtu v occasion n s sending b k kind =
     let head_kind : c.reliable ≡ true = ap (λ (x : DataCommand). x.reliable) k.command ∙ kind in
     let meant_number : k.meant.number ≡ l.sent + 1 = k.number ∙ ap (λ r. cond r (l.sent + 1) l.sent) kind in
     let number : c.number ≡ (l.sent + 1) % 65536 = ap (λ (x : DataCommand). x.number) k.command ∙ ap (λ x. x % 65536) meant_number in
-    let span : is_in_span wire v.outgoing.sent c.number ≡ true = and_left (is_in_span wire v.outgoing.sent c.number) (has_room occasion c) (or_left c.reliable _ b.allowed head_kind) in
+    let span : is_in_span wire v.outgoing.sent c.number ≡ true = and_left (is_in_span wire v.outgoing.sent c.number) (may_begin occasion c) (or_left c.reliable _ b.allowed head_kind) in
     let room = room_from mtu l.carried l.unacked v.outgoing.sent c.number l.sent (h.images sending) h.rising (λ m j. let u = s.numbers.unacked m j in (u.1, u.2)) number span in
     let command : n.command ≡ c = ap (λ (x : Next). x.command) b.is in
     let up : greatest_after v.greatest n.command.number ≡ v.greatest + 1 = ap (λ (x : DataCommand). greatest_after v.greatest x.number) command ∙ grows_for v.greatest c.number (number ∙ ap (λ g. (g + 1) % 65536) (sym h.greatest)) in

@@ -3,7 +3,7 @@ use Rattle.std.proofs.Common.{◌≡◌, ◌≢◌, ℕ, ◌+◌, ◌-◌, ◌%�
 use Rattle.std.proofs.lemmas.Bool.Decides.{nat_tests}
 use Rattle.std.proofs.lemmas.List.{map-append, length-map}
 use Rattle.std.proofs.lemmas.List.Folds.{fold-map}
-use Rattle.std.specs.Prelude.{nat_lt, nat_le, ◌&&◌, slice_get, slice_set, is_some, sum_by}
+use Rattle.std.specs.Prelude.{nat_lt, ◌&&◌, slice_get, slice_set, is_some, sum_by}
 use Rattle.std.specs.Option.{option_map}
 use Rattle.std.specs.List.{position, range_with_len}
 use Rattle.enet_codec.specs.declared.command.Fragment.{Fragment}
@@ -16,7 +16,7 @@ use Rattle.enet_rtt.specs.declared.transmission.Tick.{Tick}
 use Rattle.enet_fragment.specs.declared.data.DataCommand.{DataCommand}
 use Rattle.enet_sender.specs.CommandChoice.{Packet, ChosenPacket, carried_as}
 use Rattle.enet_sender.specs.declared.outgoing.Occasion.{Occasion}
-use Rattle.enet_sender.specs.Sender.{Sender, Next, nothing_sent, command_at, commands_of, with_queued, submitted, again, begun, is_in_span, may_go, resent, first_sent, next_queued, next_resent, next_of, next, is_after_first, is_more, skipped, with_skipped, position_of, without_place, after_acknowledgement, has_room, matching, matching_at, acknowledged, transit_bytes, transit_price, bytes_in_transit, prices_in_transit, is_late, marked, with_marked, ends, lateness, after_lateness, cleared, left}
+use Rattle.enet_sender.specs.Sender.{Sender, Next, nothing_sent, command_at, commands_of, with_queued, submitted, again, begun, is_in_span, may_begin, may_go, resent, first_sent, next_queued, next_resent, next_of, next, is_after_first, is_more, skipped, with_skipped, position_of, without_place, after_acknowledgement, has_room, matching, matching_at, acknowledged, transit_bytes, transit_price, bytes_in_transit, prices_in_transit, is_late, marked, with_marked, ends, lateness, after_lateness, cleared, left}
 use Rattle.enet_sender.specs.declared.sent.Sent.{Sent}
 use Rattle.law_connection.specs.Link.{wired, wired_fragment}
 use Rattle.law_connection.specs.Image.{reliable_count, reached, numbers_of, IsRising, IsRow, IsInOrder, wired_sent, ShowsSender, ShowsNext}
@@ -247,7 +247,7 @@ Shows-first now timeout v s c rest h e allowed =
 
 may_go-same : (occasion : Occasion) (v s : Sender) (c : DataCommand) → ShowsSender v s → (c.reliable ≡ true → c.number ≡ reached s + 1) → may_go wire v.sent occasion (wired c) ≡ may_go unbounded s.sent occasion c
 may_go-same occasion v s c h number =
-    let fits : Bool = has_room occasion c in
+    let fits : Bool = may_begin occasion c in
     elim c.reliable as (λ b. c.reliable ≡ b → (not b || (is_in_span wire v.sent (c.number % 65536) && fits)) ≡ (not b || (is_in_span unbounded s.sent c.number && fits))) [
       | true ↦ λ t. ap (λ l. is_in_span wire l (c.number % 65536) && fits) h.sent
           ∙ ap (λ b. b && fits) (let o = h.in_order in span_same s.sent c.number (reached s) o.span (number t))

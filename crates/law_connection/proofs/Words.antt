@@ -257,6 +257,8 @@ filled-say w pace b says = let a = all in a.messages
         messages = more-said w f.messages (fragment.message_of s.channel n.command) a.messages (λ o t. absurd (data-said n.command.reliable n.command.fragment n.command.unreliable n.command.body o t));
       };
       drops_data = λ f k s n t there due kind a. record { control = a.control; messages = a.messages };
+      keeps_room = λ f i x there wants a. record { control = a.control; messages = a.messages };
+      gives_room = λ f i x n there due a. record { control = a.control; messages = a.messages };
     }) (record { control = says; messages = λ m o h. absurd h })
 
 -- an end

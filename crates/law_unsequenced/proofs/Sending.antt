@@ -142,6 +142,8 @@ fills pace o =
       puts_data = λ f k s n t there due a. (let m : Message = message_of s.channel n.command in
           record { group = a.group; waits = a.waits; puts = more-puts o f.messages m a.puts (λ u c. carries-none m u (data-carries s.channel n.command.reliable n.command.fragment n.command.unreliable n.command.body) c) });
       drops_data = λ f k s n t there due kind a. record { group = a.group; waits = a.waits; puts = a.puts };
+      keeps_room = λ f i x there wants a. record { group = a.group; waits = a.waits; puts = a.puts };
+      gives_room = λ f i x n there due a. record { group = a.group; waits = a.waits; puts = a.puts };
     }) (record { group = refl; waits = λ u h. h; puts = λ m u h c. absurd h })
 
 pub goes-emitted : (own other : End) (p : Peering) (now : ℕ) → own.peer ≡ Some p → SendsAt own
