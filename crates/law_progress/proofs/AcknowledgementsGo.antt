@@ -23,6 +23,8 @@ gone-kept pace m most = record {
   drops_unsequenced = λ f u rest t e g. g;
   puts_data = λ f k s n t there due g. (Has-push_left f.messages _ m g.0, g.1);
   drops_data = λ f k s n t there due kind g. g;
+  keeps_room = λ f i x there wants g. g;
+  gives_room = λ f i x n there due g. g;
 }
 
 pub acknowledgement-goes : (pace : Pace) (o : Outbox) (a : Acknowledgement) (rest : List Acknowledgement) → 576 ≤ pace.mtu → o.acknowledgements ≡ a ∷ rest

@@ -11,7 +11,7 @@ use Rattle.enet_receiver.specs.Members.{Has}
 use Rattle.enet_sender.specs.declared.sent.Sent.{Sent}
 use Rattle.law_progress.specs.Outboxes.{AllFit, NothingMayGo, GoOrStay, put_out, IsPutOut, ready}
 use Rattle.law_progress.proofs.Found.{controls-rest}
-use Rattle.law_progress.proofs.Blocked.{some-in-transit, idle-senders}
+use Rattle.law_progress.proofs.Blocked.{none-sent, some-in-transit}
 use Rattle.law_progress.proofs.Kept.{go-or-stay}
 use Rattle.law_progress.proofs.PutsOut.{less-ready}
 use Rattle.law_progress.proofs.Spent.{nothing-may-go, filled-fits}
@@ -33,7 +33,7 @@ none-out pace o fit r = record {
   due = λ i s there p h due reliable. inr (
     (s, there, h),
     elim (some-in-transit o.senders) [
-      | inl all ↦ absurd (subst (λ (l : List Sent). Has l p) (idle-senders pace o fit all r i s there).1 h)
+      | inl all ↦ absurd (subst (λ (l : List Sent). Has l p) (none-sent pace o fit all r i s there) h)
       | inr some ↦ some
     ],
   );

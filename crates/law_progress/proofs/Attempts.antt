@@ -216,6 +216,8 @@ kept-filled pace o R goes empty r = by-filling pace o (Kept R) (record {
   drops_unsequenced = λ f u rest t e g. g;
   puts_data = λ f k s n t there due g. absurd (let h = empty-at f.outbox.senders k s g.0 there in let x = none-due _ s.sender h.1 h.0 in let y : Some n ≡ None = sym due ∙ x in cc);
   drops_data = λ f k s n t there due kind g. absurd (let h = empty-at f.outbox.senders k s g.0 there in let x = none-due _ s.sender h.1 h.0 in let y : Some n ≡ None = sym due ∙ x in cc);
+  keeps_room = λ f i x there wants g. g;
+  gives_room = λ f i x n there due g. g;
 }) (empty, r)
 
 -- what a peer keeps at a moment while the attempt lasts

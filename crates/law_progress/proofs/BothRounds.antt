@@ -20,6 +20,8 @@ use Rattle.enet_sender.specs.declared.sent.Sent.{Sent}
 use Rattle.enet_sender.specs.Due.{SendingEnd}
 use Rattle.enet_senders.specs.Controlling as controlling
 use Rattle.enet_senders.specs.declared.control.Control.TheVariants as control
+use Rattle.enet_outbox.specs.Room.{RoomIsAwaited}
+use Rattle.enet_outbox.proofs.Rooms.{awaited-filled, awaited-marked}
 use Rattle.enet_outbox.specs.declared.parts.Acknowledgement.{Acknowledgement}
 use Rattle.enet_outbox.specs.Outbox.{has_late, marked_sender, with_control}
 use Rattle.enet_outbox.specs.Emission.{filled, acknowledgement_of}
@@ -97,12 +99,13 @@ pub record Sending (joined : Bool) (D : ℕ → Sent → Type 0) (p0 q0 : Peerin
   pub other_kept : Kept q0 other
   pub least : outstanding_over peer.outbox.senders ≤ outstanding_over p0.outbox.senders
   pub how : (peer.outbox.senders ≡ p0.outbox.senders) ⊎ ((outstanding_over peer.outbox.senders < outstanding_over p0.outbox.senders) ⊎ Coming to peer)
+  pub awaited : RoomIsAwaited p0.outbox → RoomIsAwaited peer.outbox
   pub all : (channel : ℕ) (t : Sent) → HasSent peer.outbox.senders channel t → D channel t ⊎ OnItsWay peer.offset to channel t
 
 sending-start : (joined : Bool) (D : ℕ → Sent → Type 0) (p0 q0 : Peering) (from to : End) → Joint joined from to → from.peer ≡ Some p0 → p0.state ≡ state.Connected → to.peer ≡ Some q0 → q0.state ≡ state.Connected
     → ((channel : ℕ) (t : Sent) → HasSent p0.outbox.senders channel t → D channel t ⊎ OnItsWay p0.offset to channel t) → Sending joined D p0 q0 from to
 sending-start joined D p0 q0 from to j is on other_is other_on all =
-    record { joint = j; peer = p0; is = is; connected = on; mtu = refl; other = q0; other_is = other_is; other_connected = other_on; other_kept = kept-self q0; least = omega arith; how = inl refl; all = all }
+    record { joint = j; peer = p0; is = is; connected = on; mtu = refl; other = q0; other_is = other_is; other_connected = other_on; other_kept = kept-self q0; least = omega arith; how = inl refl; awaited = λ h. h; all = all }
 
 sending-one : (joined : Bool) (D : ℕ → Sent → Type 0) (now there : ℕ) (p0 q0 : Peering) (from to from' to' : End) → PutsOne now there from to from' to' → Sending joined D p0 q0 from to → Sending joined D p0 q0 from' to'
 sending-one joined D now there p0 q0 from to from' to' o k = record {
@@ -117,6 +120,7 @@ sending-one joined D now there p0 q0 from to from' to' o k = record {
   other_kept = kept-then q0 k.other came.peer k.other_kept came.kept;
   least = (let a = e.least in let b = k.least in omega arith);
   how = by k.how;
+  awaited = λ h. awaited-filled (pace_of k.peer now) k.peer.outbox (k.awaited h);
   all = all;
 }
   where
@@ -442,6 +446,7 @@ pub record Ticked (now : ℕ) (p q : Peering) : Type 0 where
   pub from : (channel : ℕ) (t : Sent) → HasSent q.outbox.senders channel t → t.transmission.due ≡ false → HasSent p.outbox.senders channel t × (has_waited_out now t ≡ false)
   pub was : (channel : ℕ) (t : Sent) → HasSent q.outbox.senders channel t → (x : Sent) × HasSent p.outbox.senders channel x × (marked (tick_of p now) x ≡ t)
   pub still : (channel : ℕ) (x : Sent) → HasSent p.outbox.senders channel x → HasSent q.outbox.senders channel (marked (tick_of p now) x)
+  pub awaited : RoomIsAwaited p.outbox → RoomIsAwaited q.outbox
   pub acknowledgements : q.outbox.acknowledgements ≡ p.outbox.acknowledgements
 
 over-marked : (tick : Moment) (xs : List SendingEnd) → outstanding_over (map (marked_sender tick) xs) ≡ outstanding_over xs
@@ -500,7 +505,7 @@ state-pinged q now = elim (is_pinged q now) as (λ b. (cond b (record q { outbox
 
 ticked-pinged : (p q : Peering) (now : ℕ) → Ticked now p q → Ticked now p (pinged q now)
 ticked-pinged p q now k = elim (is_pinged q now) as (λ b. Ticked now p (cond b (record q { outbox = with_control q.outbox control.Ping }) q)) [
-  | true ↦ record { senders = k.senders; over = k.over; mtu = k.mtu; offset = k.offset; from = k.from; was = k.was; still = k.still; acknowledgements = k.acknowledgements }
+  | true ↦ record { senders = k.senders; over = k.over; mtu = k.mtu; offset = k.offset; from = k.from; was = k.was; still = k.still; acknowledgements = k.acknowledgements; awaited = k.awaited }
   | false ↦ k
 ]
 
@@ -509,8 +514,8 @@ cut-state state.Answering p e = cc
 cut-state s p e = cc
 
 -- a peer whose channels are marked, all else being as it was
-ticks-so : (now : ℕ) (p q : Peering) → q.outbox.senders ≡ map (marked_sender (tick_of p now)) p.outbox.senders → q.terms.mtu ≡ p.terms.mtu → q.offset ≡ p.offset → q.outbox.acknowledgements ≡ p.outbox.acknowledgements → Ticked now p q
-ticks-so now p q senders mtu offset acks = record {
+ticks-so : (now : ℕ) (p q : Peering) → q.outbox.senders ≡ map (marked_sender (tick_of p now)) p.outbox.senders → q.terms.mtu ≡ p.terms.mtu → q.offset ≡ p.offset → q.outbox.acknowledgements ≡ p.outbox.acknowledgements → (RoomIsAwaited p.outbox → RoomIsAwaited q.outbox) → Ticked now p q
+ticks-so now p q senders mtu offset acks awaited = record {
   senders = senders;
   over = ap outstanding_over senders ∙ over-marked tick p.outbox.senders;
   mtu = mtu;
@@ -519,6 +524,7 @@ ticks-so now p q senders mtu offset acks = record {
   was = λ channel t h. (let m = there channel t h in let k = Has-mapped (marked tick) m.0.sender.sent t m.2 in (k.0, (m.0, m.1, k.1), k.2));
   still = λ channel x h. subst (λ (l : List SendingEnd). HasSent l channel (marked tick x)) (sym senders) (marked_sender tick h.0, at-marked tick p.outbox.senders channel h.0 h.1, has-marked tick h.0.sender.sent x h.2);
   acknowledgements = acks;
+  awaited = awaited;
 }
   where
     tick : Moment
@@ -530,8 +536,8 @@ ticks-so now p q senders mtu offset acks = record {
 pub ticked-so : (p : Peering) (now : ℕ) → (ticked p now).state ≡ state.Connected → Ticked now p (ticked p now)
 ticked-so p now = by-expiry (λ (e : Expiry). (pinged (after e) now).state ≡ state.Connected → Ticked now p (pinged (after e) now)) p now
     (λ stays. absurd (cut-state p.state p (sym (state-pinged (after Ends) now) ∙ stays)))
-    (λ e f stays. ticked-pinged p (after Resend) now (ticks-so now p (after Resend) refl refl refl refl))
-    (λ e f stays. ticked-pinged p (after No) now (ticks-so now p (after No) (sym (all-marks-none (tick_of p now) p.outbox.senders (none-late f))) refl refl refl))
+    (λ e f stays. ticked-pinged p (after Resend) now (ticks-so now p (after Resend) refl refl refl refl (λ h. awaited-marked p.outbox (tick_of p now) h)))
+    (λ e f stays. ticked-pinged p (after No) now (ticks-so now p (after No) (sym (all-marks-none (tick_of p now) p.outbox.senders (none-late f))) refl refl refl (λ h. h)))
   where
     after : Expiry → Peering
     after e = after_timeouts_by e p now
@@ -561,8 +567,8 @@ over-none (x ∷ xs) h =
 
 -- where nothing went, nothing is outstanding, or something is in transit
 pub only-waits : (now : ℕ) (p p0 v u : Peering) → Ticked now p p0 → ((when : ℕ) → AllFit (pace_of p when) p.outbox) → v.outbox.senders ≡ p0.outbox.senders → v.terms.mtu ≡ p0.terms.mtu → u.outbox.senders ≡ p0.outbox.senders
-    → NothingMayGo (pace_of v now) v.outbox → OnlyWaits now p u
-only-waits now p p0 v u t fit at_v mtu at_u rests = record {
+    → NothingMayGo (pace_of v now) v.outbox → RoomIsAwaited v.outbox → OnlyWaits now p u
+only-waits now p p0 v u t fit at_v mtu at_u rests awaited = record {
   same = at_u ∙ t.senders;
   waits = elim (some-in-transit v.outbox.senders) [
     | inl due ↦ inl (ap outstanding_over (at_u ∙ sym at_v) ∙ over-none v.outbox.senders (idle-senders (pace_of v now) v.outbox all due rests))
@@ -593,6 +599,7 @@ only-waits now p p0 v u t fit at_v mtu at_u rests = record {
         unsequenced = λ x h. absurd (subst (λ l. Has l x) rests.unsequenced h);
         queued = λ i s e c h. (let w = was i s e in subst (λ m. length c.body + 28 ≤ m) mtu_is ((fit now).fit.queued i w.0 w.1 c (subst (λ (y : SendingEnd). Has y.sender.queued c) (sym w.2) h)));
       };
+      awaited = awaited;
       sent = λ i s e x h. (let w = was i s e in
           let k = Has-mapped (marked tick) w.0.sender.sent x (subst (λ (y : SendingEnd). Has y.sender.sent x) (sym w.2) h) in
           subst (λ m. length x.command.body + 28 ≤ m) mtu_is (subst (λ (y : Sent). length y.command.body + 28 ≤ (pace_of p now).mtu) k.2 ((fit now).sent i w.0 w.1 k.0 k.1)));
@@ -717,8 +724,9 @@ rounded joined D E now there c d p q i open_one open_two r waits_one waits_two =
     by (inr x) (inr y) (inr z) = inl (let k = a.least in let l = least in let m = b.least in let s = tick_one.over in let t = tick_two.over in omega arith)
     by (inr x) (inr y) (inl z) = inr (
       (let k = a.least in let l = least in let s = tick_one.over in omega arith),
-      (u, a.then'.other_is, only-waits now p p0 a.first.peer u tick_one open_one.fit x.1 a.first.mtu x.0 x.2),
-      only-waits there q q0 b.first.peer b.then'.other tick_two open_two.fit (y.1 ∙ z) (b.first.mtu ∙ a.first.other_kept.mtu) (y.0 ∙ z) y.2,
+      (u, a.then'.other_is, only-waits now p p0 a.first.peer u tick_one open_one.fit x.1 a.first.mtu x.0 x.2 (a.first.awaited (tick_one.awaited (open_one.fit 0).awaited))),
+      only-waits there q q0 b.first.peer b.then'.other tick_two open_two.fit (y.1 ∙ z) (b.first.mtu ∙ a.first.other_kept.mtu) (y.0 ∙ z) y.2
+          (b.first.awaited (a.first.other_kept.awaited (tick_two.awaited (open_two.fit 0).awaited))),
     )
 
 -- of what waited before

@@ -184,6 +184,8 @@ emitted pace o all = by-filling pace o (λ f. Emitted pace.now o.senders f.messa
   drops_unsequenced = λ f u rest t is e. e;
   puts_data = λ f k s n t there due e. puts pace.now o.senders f.messages f.outbox.senders k s n there e (stepped _ s.sender n (e.sound k s there).1 (goes-of _ s.sender n due));
   drops_data = λ f k s n t there due kind e. drops pace.now o.senders f.messages f.outbox.senders k s n there kind e (stepped _ s.sender n (e.sound k s there).1 (goes-of _ s.sender n due));
+  keeps_room = λ f i x there wants e. e;
+  gives_room = λ f i x n there due e. e;
 }) (record { least = omega arith; sound = all; how = inl refl })
 
 -- what waits on a channel
@@ -211,6 +213,8 @@ emitted-waits pace o channel number all w = (by-filling pace o (λ f. Emitted pa
       (puts pace.now o.senders f.messages f.outbox.senders k s n there e.0 p, waits-set f.outbox.senders k s (record s { sender = n.sender }) channel number there p.kept e.1));
   drops_data = λ f k s n t there due kind e. (let p = stepped _ s.sender n (e.0.sound k s there).1 (goes-of _ s.sender n due) in
       (drops pace.now o.senders f.messages f.outbox.senders k s n there kind e.0 p, waits-set f.outbox.senders k s (record s { sender = with_skipped n.sender }) channel number there p.kept e.1));
+  keeps_room = λ f i x there wants e. e;
+  gives_room = λ f i x n there due e. e;
 }) (record { least = omega arith; sound = all; how = inl refl }, w)).1
 
 -- this reliable command was put in at this moment
@@ -258,4 +262,6 @@ emitted-from pace o all = (by-filling pace o (λ f. Emitted pace.now o.senders f
     set-from pace.now o.senders f.messages f.outbox.senders k s (record s { sender = with_skipped n.sender }) f.messages there e.1 (λ m h. h)
         (λ x h. elim (p.from x h) [ inl old ↦ inl old | inr w ↦ absurd (let z : true ≡ false = sym w.0 ∙ kind in cc) ]),
   ));
+  keeps_room = λ f i x there wants e. e;
+  gives_room = λ f i x n there due e. e;
 }) (record { least = omega arith; sound = all; how = inl refl }, λ channel t h. inl h)).1

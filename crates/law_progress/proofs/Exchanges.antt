@@ -13,6 +13,7 @@ use Rattle.enet_rtt.specs.declared.transmission.Transmission.{Transmission}
 use Rattle.enet_sender.specs.Sender.{Sender, position_of}
 use Rattle.enet_sender.specs.declared.sent.Sent.{Sent}
 use Rattle.enet_sender.specs.Due.{SendingEnd}
+use Rattle.enet_outbox.specs.Room.{RoomIsAwaited}
 use Rattle.enet_outbox.specs.declared.parts.Acknowledgement.{Acknowledgement}
 use Rattle.enet_outbox.specs.Outbox.{Outbox, is_done}
 use Rattle.enet_outbox.specs.Emission.{filled, acknowledgement_of}
@@ -267,7 +268,7 @@ took-one own other new p h is on = record {
   peer = h.1;
   is = ap (λ (e : End). e.peer) h.5;
   connected = left.1 ∙ on;
-  kept = record { senders = inl (ap (λ (o : Outbox). o.senders) left.0); mtu = left.2; offset = offset-taken p (record { event = h.2; after = h.1 }) gives; acknowledgements = λ a k. subst (λ (o : Outbox). Has o.acknowledgements a) (sym left.0) k; sent = λ channel t k. subst (λ (o : Outbox). HasSent o.senders channel t) left.0 k };
+  kept = record { senders = inl (ap (λ (o : Outbox). o.senders) left.0); mtu = left.2; offset = offset-taken p (record { event = h.2; after = h.1 }) gives; acknowledgements = λ a k. subst (λ (o : Outbox). Has o.acknowledgements a) (sym left.0) k; sent = λ channel t k. subst (λ (o : Outbox). HasSent o.senders channel t) left.0 k; awaited = λ a. subst (λ (o : Outbox). RoomIsAwaited o) (sym left.0) a };
   log = ap (λ (e : End). e.log) h.5;
 }
   where

@@ -18,8 +18,9 @@ use Rattle.enet_sender.specs.Sender.{Next, next, with_skipped}
 use Rattle.enet_sender.specs.Due.{SendingEnd, due_kind}
 use Rattle.enet_outbox.specs.declared.parts.Unsequenced.{Unsequenced}
 use Rattle.enet_outbox.specs.declared.parts.Pace.{Pace}
-use Rattle.enet_outbox.specs.Outbox.{Outbox}
+use Rattle.enet_outbox.specs.Outbox.{Outbox, released}
 use Rattle.enet_outbox.specs.Emission.{Filling, size_of, fits, with_command, shut, asked, repeated, unsequenced_of, unsequenced_asked, unsequenced_step, with_one_unsequenced, with_sender, data_put, data_step, due_step, channel_step, with_one_data, with_channel, channel_turns, with_channels, occasion}
+use Rattle.enet_outbox.proofs.Filled.{by-turn_end}
 use Rattle.enet_outbox.proofs.Repeats.{by-repeated}
 use Rattle.enet_receiver.specs.Members.{Has}
 use Rattle.law_progress.specs.Outboxes.{AreSome}
@@ -98,7 +99,7 @@ data-filled pace i f h = at (slice_get f.outbox.senders i)
     put s n o = (h.0, stays-filled f (message_of s.channel n.command) h.0 (record (with_sender o i (record s { sender = n.sender })) { last = Some i }) h.1)
 
     kind : (s : SendingEnd) (n : Next) (d : Kind) → Filled (data_step f i s n d)
-    kind s n Reliable = put s n f.outbox
+    kind s n Reliable = put s n (record f.outbox { kept = released f.outbox.kept i })
     kind s n More = put s n f.outbox
     kind s n Begins = if-filled (is_admitted f.outbox.throttle) (data_put f i s n (asked f.outbox)) (record f { outbox = with_sender (asked f.outbox) i (record s { sender = with_skipped n.sender }) }) (put s n (asked f.outbox)) h
 
@@ -108,11 +109,17 @@ data-filled pace i f h = at (slice_get f.outbox.senders i)
 
     at : (o : Option SendingEnd) → Filled (channel_step pace i f o)
     at None = h
-    at (Some s) = due s (next wire (occasion pace f.outbox) s.sender)
+    at (Some s) = due s (next wire (occasion pace i f.outbox) s.sender)
 
 pub channel-filled : (pace : Pace) (i times : ℕ) (f : Filling) → Filled f → Filled (repeated times (with_one_data pace i) f)
 channel-filled pace i times f h = by-repeated Filled times (with_one_data pace i) (λ g k. data-filled pace i g k) f h
 
+-- nor does the end of its turn
+pub turn-filled : (pace : Pace) (i : ℕ) (f : Filling) → Filled f → Filled (with_channel pace f i)
+turn-filled pace i f h =
+    let all : Filled (repeated (channel_turns f.outbox i) (with_one_data pace i) f) = channel-filled pace i (channel_turns f.outbox i) f h in
+    by-turn_end pace i Filled f (repeated (channel_turns f.outbox i) (with_one_data pace i) f) (λ s there wants. all) all
+
 pub order-filled : (pace : Pace) (order : List ℕ) (f : Filling) → Filled f → Filled (with_channels pace order f)
 order-filled pace [] f h = h
-order-filled pace (i ∷ rest) f h = order-filled pace rest (with_channel pace f i) (channel-filled pace i (channel_turns f.outbox i) f h)
+order-filled pace (i ∷ rest) f h = order-filled pace rest (with_channel pace f i) (turn-filled pace i f h)

@@ -37,7 +37,9 @@ use Rattle.enet_outbox.specs.declared.parts.Unsequenced.{Unsequenced}
 use Rattle.enet_outbox.specs.Outbox.{Outbox, matched_by, marked_sender, cleared_sender, after_acknowledgement}
 use Rattle.enet_outbox.specs.Outbox as outbox
 use Rattle.enet_outbox.specs.Emission.{filled}
+use Rattle.enet_outbox.specs.Room.{IsAwaited, RoomIsAwaited}
 use Rattle.enet_outbox.proofs.Filled.{by-filling}
+use Rattle.enet_outbox.proofs.Rooms.{awaited-acknowledged, awaited-cleared, awaited-filled, awaited-marked, awaited-narrowed, awaited-new, awaited-submitted}
 use Rattle.enet_peer.specs.declared.parts.PeerState.{PeerState}
 use Rattle.enet_peer.specs.declared.parts.PeerState.TheVariants as state
 use Rattle.enet_peer.specs.declared.parts.Limits.{Limits}
@@ -50,7 +52,7 @@ use Rattle.enet_peer.specs.Calls.{Leave, AtOnce, TellsOnce, Asks, AsksLater, Ref
 use Rattle.law_progress.specs.Attempts.{Hears, PutsOut, Takes, after_take}
 use Rattle.law_progress.specs.Fits.{StaysFit}
 use Rattle.law_progress.specs.Outboxes.{AllFit}
-use Rattle.law_progress.specs.Waits.{Deed, Lives, Submits, Leaves, after_leave, after_deed, after_deeds, Moment, Moments, RoomyMoments}
+use Rattle.law_progress.specs.Waits.{Deed, Lives, Submits, Leaves, after_leave, after_deed, after_deeds, Moment, Moments, RoomyBefore}
 use Rattle.law_progress.proofs.Moving.{by-moved}
 use Rattle.law_progress.proofs.SomethingGoes.{Has-skipped}
 use Rattle.law_progress.proofs.Spent.{goes-of, queued-left, sent-left}
@@ -110,6 +112,8 @@ small-filled most pace o a = by-filling pace o (λ f. Small most f.outbox) (reco
   drops_data = λ f k s n t there due kind g. small-set most f.outbox (Rattle.enet_outbox.specs.Emission.with_sender (record f.outbox { throttle = t }) k (record s { sender = with_skipped n.sender })) k (record s { sender = with_skipped n.sender }) g refl refl
       (λ c h. g.queued s (Has-at f.outbox.senders k s there) c (queued-left _ s.sender n c (goes-of _ s.sender n due) (Has-skipped n.sender.queued c h)))
       (λ x h. sent-left _ s.sender n (λ c. length c.body + 28 ≤ most) (goes-of _ s.sender n due) (λ c j. g.queued s (Has-at f.outbox.senders k s there) c j) (λ p j. g.sent s (Has-at f.outbox.senders k s there) p j) x h);
+  keeps_room = λ f i x there wants g. record { unsequenced = g.unsequenced; queued = g.queued; sent = g.sent };
+  gives_room = λ f i x n there due g. record { unsequenced = g.unsequenced; queued = g.queued; sent = g.sent };
 }) a
 
 -- a packet is cut by the mtu
@@ -207,23 +211,27 @@ small-gone most o channel number a = by (channel == 0xFF)
 pub record Fits (p : Peering) : Type 0 where
   pub mtu : p.terms.mtu ≤ 4096
   pub small : Small (room_of p.terms.mtu) p.outbox
+  pub awaited : RoomIsAwaited p.outbox
 
 -- an end drops all
-fits-dropped : (p q : Peering) → Fits p → q.terms ≡ p.terms → q.outbox.unsequenced ≡ [] → q.outbox.senders ≡ map cleared_sender p.outbox.senders → Fits q
-fits-dropped p q f terms none senders = record {
+fits-dropped : (p q : Peering) → Fits p → q.terms ≡ p.terms → q.outbox.unsequenced ≡ [] → q.outbox.senders ≡ map cleared_sender p.outbox.senders → q.outbox.kept ≡ None → Fits q
+fits-dropped p q f terms none senders kept = record {
   mtu = subst (λ (t : Terms). t.mtu ≤ 4096) (sym terms) f.mtu;
   small = small-cleared (room_of q.terms.mtu) q.outbox none (λ s h. cleared-empty p.outbox.senders s (subst (λ (l : List SendingEnd). Has l s) senders h));
+  awaited = (let c : RoomIsAwaited (outbox.cleared p.outbox) = awaited-cleared p.outbox in
+      subst (λ (l : List SendingEnd). IsAwaited l q.outbox.kept) (sym senders) (subst (IsAwaited (map cleared_sender p.outbox.senders)) (sym kept) c));
 }
 
 -- or all that is sent stays
-pub fits-same : (p q : Peering) → Fits p → q.terms.mtu ≡ p.terms.mtu → q.outbox.unsequenced ≡ p.outbox.unsequenced → q.outbox.senders ≡ p.outbox.senders → Fits q
-fits-same p q f mtu unsequenced senders = record {
+pub fits-same : (p q : Peering) → Fits p → q.terms.mtu ≡ p.terms.mtu → q.outbox.unsequenced ≡ p.outbox.unsequenced → q.outbox.senders ≡ p.outbox.senders → q.outbox.kept ≡ p.outbox.kept → Fits q
+fits-same p q f mtu unsequenced senders kept = record {
   mtu = subst (λ m. m ≤ 4096) (sym mtu) f.mtu;
   small = subst (λ m. Small (room_of m) q.outbox) (sym mtu) (record {
     unsequenced = λ u h. a.unsequenced u (subst (λ l. Has l u) unsequenced h);
     queued = λ s h c k. a.queued s (subst (λ (l : List SendingEnd). Has l s) senders h) c k;
     sent = λ s h t k. a.sent s (subst (λ (l : List SendingEnd). Has l s) senders h) t k;
   });
+  awaited = subst (λ (l : List SendingEnd). IsAwaited l q.outbox.kept) (sym senders) (subst (IsAwaited p.outbox.senders) (sym kept) f.awaited);
 }
   where
     a : Small (room_of p.terms.mtu) p.outbox
@@ -233,12 +241,12 @@ fits-settled : (p : Peering) → Fits p → Fits (settled p)
 fits-settled p f = by (is_later p.state && outbox.is_done p.outbox)
   where
     by : (b : Bool) → Fits (cond b (disconnecting p p.info) p)
-    by true = fits-dropped p (disconnecting p p.info) f refl refl refl
+    by true = fits-dropped p (disconnecting p p.info) f refl refl refl refl
     by false = f
 
 fits-answer : (p : Peering) (s : PeerState) (what : Control) → Fits p → Fits (with_answer s what p)
-fits-answer p state.Answering (control.VerifyConnect verify) f = record { mtu = f.mtu; small = f.small }
-fits-answer p state.Disconnecting (control.Disconnect info) f = fits-dropped p (ended p 0) f refl refl refl
+fits-answer p state.Answering (control.VerifyConnect verify) f = record { mtu = f.mtu; small = f.small; awaited = f.awaited }
+fits-answer p state.Disconnecting (control.Disconnect info) f = fits-dropped p (ended p 0) f refl refl refl refl
 fits-answer p s what f = f
 
 fits-acknowledge : (p : Peering) (now channel number told : ℕ) → Fits p → Fits (on_acknowledge p now channel number told)
@@ -254,7 +262,7 @@ fits-acknowledge p now channel number told f = by-state (is_connecting p.state)
     b = small-gone (room_of p.terms.mtu) p.outbox channel number f.small
 
     g : Fits q
-    g = record { mtu = f.mtu; small = record { unsequenced = b.unsequenced; queued = b.queued; sent = b.sent } }
+    g = record { mtu = f.mtu; small = record { unsequenced = b.unsequenced; queued = b.queued; sent = b.sent }; awaited = awaited-acknowledged p.outbox channel number f.awaited }
 
     by : (x : Matched) → Fits (on_match x p q)
     by matched.Nothing = f
@@ -275,23 +283,24 @@ fits-verify : (p : Peering) (v : Verify) (s : PeerState) → Fits p → Fits (on
 fits-verify p v state.Connecting f = by (is_accepted p.offer v)
   where
     by : (b : Bool) → Fits (welcomed p v (cond b (Some (agreed p.offer v)) None))
-    by false = unwelcomed-holds Fits p v f (fits-dropped p (ended p 0) f refl refl refl)
+    by false = unwelcomed-holds Fits p v f (fits-dropped p (ended p 0) f refl refl refl refl)
     by true = record {
       mtu = lesser-mtu p.offer.mtu v.mtu;
       small = small-cleared (room_of (mtu_of p.offer.mtu v.mtu)) _ refl (λ s h. cleared-empty p.outbox.senders s (taken-has (agreed p.offer v).channels (map cleared_sender p.outbox.senders) s h));
+      awaited = awaited-narrowed (outbox.cleared p.outbox) (agreed p.offer v).channels (awaited-cleared p.outbox);
     }
 fits-verify p v s f = f
 
 fits-last : (p : Peering) (b : Bool) (info : ℕ) → Fits p → Fits (on_last_disconnect p b info)
-fits-last p true info f = fits-dropped p (on_last_disconnect p true info) f refl refl refl
-fits-last p false info f = fits-dropped p (ended p info) f refl refl refl
+fits-last p true info f = fits-dropped p (on_last_disconnect p true info) f refl refl refl refl
+fits-last p false info f = fits-dropped p (ended p info) f refl refl refl refl
 
 fits-disconnect : (p : Peering) (s : PeerState) (b : Bool) (info : ℕ) → Fits p → Fits (on_disconnect_in s p b info)
 fits-disconnect p state.Connected b info f = fits-last p b info f
 fits-disconnect p state.DisconnectLater b info f = fits-last p b info f
-fits-disconnect p state.Connecting b info f = fits-dropped p (ended p info) f refl refl refl
-fits-disconnect p state.Disconnecting b info f = fits-dropped p (ended p info) f refl refl refl
-fits-disconnect p state.Answering b info f = fits-dropped p (freed p) f refl refl refl
+fits-disconnect p state.Connecting b info f = fits-dropped p (ended p info) f refl refl refl refl
+fits-disconnect p state.Disconnecting b info f = fits-dropped p (ended p info) f refl refl refl refl
+fits-disconnect p state.Answering b info f = fits-dropped p (freed p) f refl refl refl refl
 fits-disconnect p s b info f = f
 
 fits-answered : (p : Peering) (m : Message) (sent : Option ℕ) (may : Bool) → Fits p → Fits (answered p m sent may).after
@@ -300,7 +309,7 @@ fits-answered p m sent may f = by (m.head.acknowledge && may && is_answered_in p
     by : (b : Bool) (o : Option ℕ) → Fits (cond b (answered_at p m.head o) (record { stop = None; after = p })).after
     by false o = f
     by true None = f
-    by true (Some time) = fits-same p (answered_at p m.head (Some time)).after f refl refl refl
+    by true (Some time) = fits-same p (answered_at p m.head (Some time)).after f refl refl refl refl
 
 fits-result : (p : Peering) (m : Message) (sent : Option ℕ) (r : Result Bool Stop) → Fits p → Fits (by_answer p m sent r).after
 fits-result p m sent (Err why) f = f
@@ -314,7 +323,7 @@ fits-data p m sent f = by (is_later p.state)
 
     by : (b : Bool) → Fits (cond b (by_answer p m sent (passed_over p.inbox m)) (by_arrival p m sent a)).after
     by true = fits-result p m sent (passed_over p.inbox m) f
-    by false = fits-result (record p { inbox = a.after }) m sent a.answer (fits-same p (record p { inbox = a.after }) f refl refl refl)
+    by false = fits-result (record p { inbox = a.after }) m sent a.answer (fits-same p (record p { inbox = a.after }) f refl refl refl refl)
 
 pub fits-obeyed : (p : Peering) (now : ℕ) (sent : Option ℕ) (m : Message) → Fits p → Fits (obeyed p now sent m).after
 fits-obeyed p now sent m f = by (is_connect m.body) (is_allowed p.state m.body)
@@ -325,8 +334,8 @@ fits-obeyed p now sent m f = by (is_connect m.body) (is_allowed p.state m.body)
     body (verify_connect v) = fits-answered (on_verify_in p.state p v) m sent true (fits-verify p v p.state f)
     body (disconnect info) = fits-answered (on_disconnect_in p.state p (m.head.acknowledge && is_some sent) info) m sent true (fits-disconnect p p.state (m.head.acknowledge && is_some sent) info f)
     body ping = fits-answered p m sent true f
-    body (bandwidth_limit incoming outgoing) = fits-answered (on_bandwidth p incoming) m sent true (fits-same p (on_bandwidth p incoming) f refl refl refl)
-    body (throttle_configure interval acceleration deceleration) = fits-answered (on_throttle p interval acceleration deceleration) m sent true (fits-same p (on_throttle p interval acceleration deceleration) f refl refl refl)
+    body (bandwidth_limit incoming outgoing) = fits-answered (on_bandwidth p incoming) m sent true (fits-same p (on_bandwidth p incoming) f refl refl refl refl)
+    body (throttle_configure interval acceleration deceleration) = fits-answered (on_throttle p interval acceleration deceleration) m sent true (fits-same p (on_throttle p interval acceleration deceleration) f refl refl refl refl)
     body (send_reliable payload) = fits-data p m sent f
     body (send_unreliable number payload) = fits-data p m sent f
     body (send_fragment fragment payload) = fits-data p m sent f
@@ -343,41 +352,41 @@ pub fits-takes : (p : Peering) → Fits p → Fits (after_take p (next_event p))
 fits-takes p f = by p.greeting
   where
     last : (s : PeerState) → Fits (after_take p (last_event s p))
-    last state.Ended = fits-same p (record p { state = state.Free }) f refl refl refl
+    last state.Ended = fits-same p (record p { state = state.Free }) f refl refl refl refl
     last s = f
 
     packets : (untaken : List codec.Packet) → Fits (after_take p (packet_event p untaken))
     packets [] = last p.state
-    packets (q ∷ rest) = fits-same p (record p { inbox = record p.inbox { untaken = rest } }) f refl refl refl
+    packets (q ∷ rest) = fits-same p (record p { inbox = record p.inbox { untaken = rest } }) f refl refl refl refl
 
     by : (greeting : Option ℕ) → Fits (after_take p (event_after p greeting))
-    by (Some info) = fits-same p (record p { greeting = None }) f refl refl refl
+    by (Some info) = fits-same p (record p { greeting = None }) f refl refl refl refl
     by None = packets p.inbox.untaken
 
 pub fits-went : (p : Peering) (s : PeerState) → Fits p → Fits (gone_on_in s p)
-fits-went p state.AckDisconnect f = fits-dropped p (ended p p.info) f refl refl refl
+fits-went p state.AckDisconnect f = fits-dropped p (ended p p.info) f refl refl refl refl
 fits-went p state.Parting f = by (nat_lt 0 (length p.outbox.control.queued))
   where
     by : (b : Bool) → Fits (cond b p (freed p))
     by true = f
-    by false = fits-dropped p (freed p) f refl refl refl
+    by false = fits-dropped p (freed p) f refl refl refl refl
 fits-went p s f = fits-settled p f
 
 pub fits-submitted : (p : Peering) (channel : ℕ) (q : Packet) → Fits p → Fits (submitted p channel q)
-fits-submitted p channel q f = record { mtu = f.mtu; small = small-submitted p.terms.mtu p.outbox channel q f.mtu f.small }
+fits-submitted p channel q f = record { mtu = f.mtu; small = small-submitted p.terms.mtu p.outbox channel q f.mtu f.small; awaited = awaited-submitted p.outbox p.terms.mtu channel q f.awaited }
 
 pub fits-left : (p : Peering) (leave : Leave) (info : ℕ) → Fits p → Fits (after_leave p (left leave p info))
-fits-left p AtOnce info f = fits-dropped p (freed p) f refl refl refl
-fits-left p TellsOnce info f = fits-dropped p (parting p info) f refl refl refl
-fits-left p Asks info f = fits-dropped p (disconnecting p info) f refl refl refl
-fits-left p AsksLater info f = fits-settled (record p { state = state.DisconnectLater; info = info }) (fits-same p (record p { state = state.DisconnectLater; info = info }) f refl refl refl)
+fits-left p AtOnce info f = fits-dropped p (freed p) f refl refl refl refl
+fits-left p TellsOnce info f = fits-dropped p (parting p info) f refl refl refl refl
+fits-left p Asks info f = fits-dropped p (disconnecting p info) f refl refl refl refl
+fits-left p AsksLater info f = fits-settled (record p { state = state.DisconnectLater; info = info }) (fits-same p (record p { state = state.DisconnectLater; info = info }) f refl refl refl refl)
 fits-left p Refused info f = f
 
 fits-deed : (now : ℕ) (p : Peering) (deed : Deed) → Fits p → Fits (after_deed now p deed)
 fits-deed now p (Lives (Hears sent m)) f = fits-obeyed p now sent m f
 fits-deed now p (Lives PutsOut) f =
     let o = (filled (pace_of p now) p.outbox).outbox in
-    fits-went (record p { outbox = o }) p.state (record { mtu = f.mtu; small = small-filled (room_of p.terms.mtu) (pace_of p now) p.outbox f.small })
+    fits-went (record p { outbox = o }) p.state (record { mtu = f.mtu; small = small-filled (room_of p.terms.mtu) (pace_of p now) p.outbox f.small; awaited = awaited-filled (pace_of p now) p.outbox f.awaited })
 fits-deed now p (Lives Takes) f = fits-takes p f
 fits-deed now p (Submits channel packet) f = fits-submitted p channel packet f
 fits-deed now p (Leaves leave info) f = fits-left p leave info f
@@ -390,23 +399,23 @@ pub fits-ticked : (p : Peering) (n : ℕ) → Fits p → Fits (ticked p n)
 fits-ticked p n f = by (expiry_of p n)
   where
     cut : (s : PeerState) → Fits (cut_off_in s p)
-    cut state.Answering = fits-dropped p (freed p) f refl refl refl
-    cut s = fits-dropped p (ended p 0) f refl refl refl
+    cut state.Answering = fits-dropped p (freed p) f refl refl refl refl
+    cut s = fits-dropped p (ended p 0) f refl refl refl refl
 
     pings : (q : Peering) → Fits q → Fits (pinged q n)
     pings q g = go (is_pinged q n)
       where
         go : (b : Bool) → Fits (cond b (record q { outbox = outbox.with_control q.outbox control.Ping }) q)
-        go true = fits-same q (record q { outbox = outbox.with_control q.outbox control.Ping }) g refl refl refl
+        go true = fits-same q (record q { outbox = outbox.with_control q.outbox control.Ping }) g refl refl refl refl
         go false = g
 
     by : (e : Expiry) → Fits (pinged (after_timeouts_by e p n) n)
     by End = pings (cut_off_in p.state p) (cut p.state)
-    by Resend = pings (record p { outbox = outbox.marked p.outbox (tick_of p n) }) (record { mtu = f.mtu; small = small-marked (room_of p.terms.mtu) (tick_of p n) p.outbox f.small })
+    by Resend = pings (record p { outbox = outbox.marked p.outbox (tick_of p n) }) (record { mtu = f.mtu; small = small-marked (room_of p.terms.mtu) (tick_of p n) p.outbox f.small; awaited = awaited-marked p.outbox (tick_of p n) f.awaited })
     by No = pings p f
 
 pub fits-moved : (short : Bool) (p : Peering) (n : ℕ) → Fits p → Fits (moved short p n)
-fits-moved short p n f = by-moved Fits short p n (fits-ticked p n f) (λ answers lasts. fits-same p (held_back p n) f refl refl refl)
+fits-moved short p n f = by-moved Fits short p n (fits-ticked p n f) (λ answers lasts. fits-same p (held_back p n) f refl refl refl refl)
 
 fits-moment : (now : ℕ) (p q : Peering) → Fits p → Moment now p q → Fits q
 fits-moment now p q f m = subst (λ (x : Peering). Fits x) (sym m.after) (fits-deeds (now % 2 ^ 32) (moved m.short p (now % 2 ^ 32)) m.deeds (fits-moved m.short p (now % 2 ^ 32) f))
@@ -415,15 +424,16 @@ pub fits-moments : (gap now : ℕ) (moments : List ℕ) (p q : Peering) → Fits
 fits-moments gap now [] p q f m = fits-moment now p q f m
 fits-moments gap now (next ∷ later) p q f (u, m, low, high, rest) = fits-moments gap next later u q (fits-moment now p u f m) rest
 
--- moments at whose end nothing is due are moments
-pub as-moments : (gap now : ℕ) (moments : List ℕ) (p q : Peering) → RoomyMoments gap now p moments q → Moments gap now p moments q
-as-moments gap now [] p q m = m.moment
-as-moments gap now (next ∷ later) p q (u, m, low, high, rest) = (u, m.moment, low, high, as-moments gap next later u q rest)
+-- whatever is due at their ends
+pub as-moments : (since gap now : ℕ) (moments : List ℕ) (p q : Peering) → RoomyBefore since gap now p moments q → Moments gap now p moments q
+as-moments since gap now [] p q m = m.0
+as-moments since gap now (next ∷ later) p q (u, m, roomy, low, high, rest) = (u, m, low, high, as-moments since gap next later u q rest)
 
 -- so all fits
 pub all-fits : (p : Peering) (now : ℕ) → Fits p → AllFit (pace_of p now) p.outbox
 all-fits p now f = record {
   fit = record { mtu = wide (min p.terms.mtu 4096); unsequenced = a.unsequenced; queued = λ i s t c h. a.queued s (Has-at p.outbox.senders i s t) c h };
+  awaited = f.awaited;
   sent = λ i s t x h. a.sent s (Has-at p.outbox.senders i s t) x h;
 }
   where
@@ -437,10 +447,10 @@ pub stays-fit : (p : Peering) → Fits p → StaysFit p
 stays-fit p f gap now moments q when run = all-fits q when (fits-moments gap now moments p q f run)
 
 pub joined-fits : (start : ℕ) (terms : Terms) (limits : Limits) → terms.mtu ≤ 4096 → Fits (joined start terms limits)
-joined-fits start terms limits low = record { mtu = low; small = small-cleared (room_of terms.mtu) _ refl (new-empty 0 terms.channels) }
+joined-fits start terms limits low = record { mtu = low; small = small-cleared (room_of terms.mtu) _ refl (new-empty 0 terms.channels); awaited = awaited-new terms.channels }
 
 pub asking-fits : (start offset : ℕ) (offer : Offer) (limits : Limits) → offer.mtu ≤ 4096 → Fits (connecting start offset offer limits)
-asking-fits start offset offer limits low = record { mtu = low; small = small-cleared (room_of offer.mtu) _ refl (new-empty 0 _) }
+asking-fits start offset offer limits low = record { mtu = low; small = small-cleared (room_of offer.mtu) _ refl (new-empty 0 _); awaited = awaited-new _ }
 
 pub answering-fits : (start : ℕ) (offsets : Offsets) (offer : Offer) (server : Server) (limits : Limits) → Fits (answering start offsets offer server limits)
-answering-fits start offsets offer server limits = record { mtu = lesser-mtu offer.mtu server.mtu; small = small-cleared (room_of (mtu_of offer.mtu server.mtu)) _ refl (new-empty 0 _) }
+answering-fits start offsets offer server limits = record { mtu = lesser-mtu offer.mtu server.mtu; small = small-cleared (room_of (mtu_of offer.mtu server.mtu)) _ refl (new-empty 0 _); awaited = awaited-new _ }

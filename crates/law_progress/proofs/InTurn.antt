@@ -41,7 +41,7 @@ ticks-to now own other new p (inr h) is patient = record {
   peer = q;
   is = here;
   connected = on;
-  tick = record { senders = k.senders; over = k.over; mtu = k.mtu; offset = k.offset; from = k.from; was = k.was; still = k.still; acknowledgements = k.acknowledgements };
+  tick = record { senders = k.senders; over = k.over; mtu = k.mtu; offset = k.offset; from = k.from; was = k.was; still = k.still; acknowledgements = k.acknowledgements; awaited = k.awaited };
 }
   where
     m : (short : Bool) × (h.1.peer ≡ Some (moved short p now))
@@ -110,7 +110,7 @@ played joined D E now there c d p q i open_one open_two r waits_one waits_two = 
   less_one = λ due. elim a.how [
     | inl less ↦ inl (let y = kept-least b.other t1.peer t1.kept in let z = tick_one.over in omega arith)
     | inr x ↦
-        let o = none-waits now p b.other (only-waits now p p0 a.first.peer b.other tick_one open_one.fit x.1 a.first.mtu x.0 x.2) (λ channel t h. due channel t (a.none channel t h)) in
+        let o = none-waits now p b.other (only-waits now p p0 a.first.peer b.other tick_one open_one.fit x.1 a.first.mtu x.0 x.2 (a.first.awaited (tick_one.awaited (open_one.fit 0).awaited))) (λ channel t h. due channel t (a.none channel t h)) in
         inr (let n = o.1 in let y = kept-least b.other t1.peer t1.kept in omega arith)
   ];
   less_two = λ due. by due b.how a.first.other_kept.senders t2.kept.senders;
@@ -225,7 +225,8 @@ played joined D E now there c d p q i open_one open_two r waits_one waits_two = 
       ),
     ))
     by none (inl x) (inl y) (inl z) =
-        let o = none-waits there q b.peer (only-waits there q q0 b.peer b.peer tick_two open_two.fit (x ∙ y) (b.mtu ∙ a.first.other_kept.mtu) (x ∙ y) (r.back.spent b.peer b.is))
+        let o = none-waits there q b.peer (only-waits there q q0 b.peer b.peer tick_two open_two.fit (x ∙ y) (b.mtu ∙ a.first.other_kept.mtu) (x ∙ y) (r.back.spent b.peer b.is)
+        (b.awaited (a.first.other_kept.awaited (tick_two.awaited (open_two.fit 0).awaited))))
         (λ channel t h. none channel t (mid channel t (subst (λ (l : List SendingEnd). HasSent l channel t) x h))) in
         inr (inl (let n = o.1 in let u = kept-least b.peer t2.peer t2.kept in omega arith))
 

@@ -101,6 +101,8 @@ stays-kept pace o at s c has there reliable goes skips h = by-filling pace o (St
       | inr m ↦ g.stays x m.1
     ];
   };
+  keeps_room = λ f i x there wants g. record { stays = g.stays };
+  gives_room = λ f i x n there due g. record { stays = g.stays };
 }) (record { stays = λ t w. (let one : Some s ≡ Some t = sym there ∙ w in let it : s ≡ t = cc in (ap (λ (z : SendingEnd). z.channel) (sym it), inl (subst (λ (z : SendingEnd). has z.sender) it h))) })
   where
     later : {X : Type 0} (f : Filling) (m : Message) → X ⊎ Has f.messages (message_of s.channel c) → X ⊎ Has (f.messages ++ m ∷ []) (message_of s.channel c)
@@ -153,6 +155,8 @@ go-or-stay pace o = record {
     drops_unsequenced = λ f u rest t e g. g;
     puts_data = λ f k s x t there due g. later f (acknowledgement_of a) _ g;
     drops_data = λ f k s x t there due kind g. g;
+    keeps_room = λ f i x there wants g. g;
+    gives_room = λ f i x n there due g. g;
   }) (inl h);
   there = λ i s e. by-filling pace o (λ f. Still i s.channel f.outbox.senders) (record {
     closes = λ f g. g;
@@ -162,6 +166,8 @@ go-or-stay pace o = record {
     drops_unsequenced = λ f u rest t e g. g;
     puts_data = λ f k y n t there due g. still i s.channel f.outbox.senders k y (record y { sender = n.sender }) there refl g;
     drops_data = λ f k y n t there due kind g. still i s.channel f.outbox.senders k y (record y { sender = with_skipped n.sender }) there refl g;
+    keeps_room = λ f i x there wants g. g;
+    gives_room = λ f i x n there due g. g;
   }) (s, e, refl);
   due = λ i s t there here p h reliable. (let k = stays-kept pace o i s p.command (λ a. Has a.sent p) there reliable (λ u a n g j. sent-data u a n p g j) (λ a j. j) h in let z = k.stays t here in z.1);
   controls = λ n h. by-filling pace o (λ f. Has f.outbox.control.queued n ⊎ Has f.messages (controlling.message_of n)) (record {
@@ -178,6 +184,8 @@ go-or-stay pace o = record {
     drops_unsequenced = λ f u rest t e g. g;
     puts_data = λ f k s x t there due g. later f (controlling.message_of n) _ g;
     drops_data = λ f k s x t there due kind g. g;
+    keeps_room = λ f i x there wants g. g;
+    gives_room = λ f i x n there due g. g;
   }) (inl h);
   due_controls = λ p h. by-filling pace o (λ f. Has f.outbox.control.sent p ⊎ Has f.messages (controlling.message_of p.command)) (record {
     closes = λ f g. g;
@@ -193,6 +201,8 @@ go-or-stay pace o = record {
     drops_unsequenced = λ f u rest t e g. g;
     puts_data = λ f k s x t there due g. later f (controlling.message_of p.command) _ g;
     drops_data = λ f k s x t there due kind g. g;
+    keeps_room = λ f i x there wants g. g;
+    gives_room = λ f i x n there due g. g;
   }) (inl h);
 }
   where

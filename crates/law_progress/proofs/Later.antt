@@ -37,6 +37,8 @@ use Rattle.enet_outbox.specs.Outbox.{Outbox, has_late, matched_by, marked_sender
 use Rattle.enet_outbox.specs.Outbox as outbox
 use Rattle.enet_outbox.specs.Emission.{filled, data_put, with_sender}
 use Rattle.enet_outbox.proofs.Filled.{by-filling}
+use Rattle.enet_outbox.specs.Room.{IsAwaited}
+use Rattle.enet_outbox.proofs.Rooms.{awaited-marked, awaited-on}
 use Rattle.enet_peer.specs.declared.parts.PeerState.{PeerState}
 use Rattle.enet_peer.specs.declared.parts.PeerState.TheVariants as state
 use Rattle.enet_peer.specs.declared.parts.Limits.{Limits}
@@ -50,7 +52,7 @@ use Rattle.law_progress.specs.Outboxes.{AllFit, WaitsForSome}
 use Rattle.law_progress.specs.Attempts.{Step, Hears, PutsOut, Takes, after_take, after_step, Stays, Turn, Turns, last_of}
 use Rattle.law_progress.specs.Later.{queued_over, sent_over, still_to_do, DisconnectsLater}
 use Rattle.law_progress.proofs.Moving.{Lasting, by-expiry, by-moved, moved-elsewhere}
-use Rattle.law_progress.proofs.Paces.{Paces, paces-begun, paces-again, paces-timed, paces-marked, late-brief}
+use Rattle.law_progress.proofs.Paces.{Paces, paces-begun, paces-again, paces-marked, late-brief}
 use Rattle.law_progress.proofs.Kept.{stays-set}
 use Rattle.law_progress.proofs.Trips.{Has-map}
 use Rattle.law_progress.proofs.Controls.{some-is, GoesControl, Heads, Repeats, goes-control}
@@ -58,7 +60,8 @@ use Rattle.law_progress.proofs.SomethingGoes.{get-set, set-same, skipped-length}
 use Rattle.law_progress.proofs.Spent.{Goes, First, Again, goes-of, filled-fits}
 use Rattle.law_progress.proofs.Blocked.{done-or-waits}
 use Rattle.law_progress.proofs.Fitting.{Fits, fits-moments, as-moments, all-fits, joined-fits, asking-fits, answering-fits}
-use Rattle.law_progress.proofs.Waiting.{Each, Fair, Ready, Rests, Goes as Goes_any, Has-at, Has-set, Has-pushed, Has-mapped, Has-removed, each-set, none-new, fair-obeyed, fair-takes, timeout-low, moments-ready, none-of, or-both, patient as patient-by}
+use Rattle.law_progress.proofs.Lately.{Lately, Known, as-lately, known-moments}
+use Rattle.law_progress.proofs.Waiting.{Each, Fair, Rests, Goes as Goes_any, Has-at, Has-set, Has-pushed, Has-mapped, Has-removed, each-set, none-new, fair-obeyed, fair-takes, timeout-low, none-of, or-both, patient as patient-by}
 
 -- how many are queued, where one channel changed
 queued-set : (xs : List SendingEnd) (k : ℕ) (x y : SendingEnd) → slice_get xs k ≡ Some x → queued_over (slice_set xs k y) + length x.sender.queued ≡ queued_over xs + length y.sender.queued
@@ -143,6 +146,8 @@ filled-paced most stretch total start now pace o same low r = by-filling pace o 
   drops_unsequenced = λ f u rest t e g. record { limit = g.limit; each = g.each; count = g.count; near = g.near; begun = g.begun; held = g.held };
   puts_data = λ f k s n t there due g. senders f.outbox (data_put f k s n (record f.outbox { throttle = t })).outbox k s n n.sender there g (goes-of _ s.sender n due) refl refl refl (omega arith) refl refl;
   drops_data = λ f k s n t there due kind g. senders f.outbox (with_sender (record f.outbox { throttle = t }) k (record s { sender = with_skipped n.sender })) k s n (with_skipped n.sender) there g (goes-of _ s.sender n due) refl refl refl (skipped-length n.sender.queued) refl refl;
+  keeps_room = λ f i x there wants g. record { limit = g.limit; each = g.each; count = g.count; near = g.near; begun = g.begun; held = g.held };
+  gives_room = λ f i x n there due g. record { limit = g.limit; each = g.each; count = g.count; near = g.near; begun = g.begun; held = g.held };
 }) r
   where
     Keeps : Outbox → Type 0
@@ -326,6 +331,7 @@ fit-at a b o same all = record {
     unsequenced = λ u h. subst (λ m. length u.body + 28 ≤ m) same (all.fit.unsequenced u h);
     queued = λ i s t c h. subst (λ m. length c.body + 28 ≤ m) same (all.fit.queued i s t c h);
   };
+  awaited = all.awaited;
   sent = λ i s t p h. subst (λ m. length p.command.body + 28 ≤ m) same (all.sent i s t p h);
 }
 
@@ -337,8 +343,8 @@ record Fewer (p q : Peering) : Type 0 where
   fit : (pace : Pace) → AllFit pace p.outbox → AllFit pace q.outbox
 
 -- where all that is sent stays as it is
-fewer-same : (p q : Peering) → q.outbox.control ≡ p.outbox.control → q.outbox.senders ≡ p.outbox.senders → q.outbox.unsequenced ≡ p.outbox.unsequenced → q.terms.mtu ≡ p.terms.mtu → Fewer p q
-fewer-same p q control senders unsequenced mtu = record {
+fewer-same : (p q : Peering) → q.outbox.control ≡ p.outbox.control → q.outbox.senders ≡ p.outbox.senders → q.outbox.unsequenced ≡ p.outbox.unsequenced → q.terms.mtu ≡ p.terms.mtu → q.outbox.kept ≡ p.outbox.kept → Fewer p q
+fewer-same p q control senders unsequenced mtu kept = record {
   count = (let a : length q.outbox.control.queued ≡ length p.outbox.control.queued = ap (λ (c : Commands). length c.queued) control in
       let b : queued_over q.outbox.senders ≡ queued_over p.outbox.senders = ap queued_over senders in
       let c : length q.outbox.control.sent ≡ length p.outbox.control.sent = ap (λ (c : Commands). length c.sent) control in
@@ -351,6 +357,7 @@ fewer-same p q control senders unsequenced mtu = record {
       unsequenced = λ u h. a.fit.unsequenced u (subst (λ xs. Has xs u) unsequenced h);
       queued = λ i s t c h. a.fit.queued i s (subst (λ (l : List SendingEnd). slice_get l i ≡ Some s) senders t) c h;
     };
+    awaited = subst (λ (l : List SendingEnd). IsAwaited l q.outbox.kept) (sym senders) (subst (IsAwaited p.outbox.senders) (sym kept) a.awaited);
     sent = λ i s t x h. a.sent i s (subst (λ (l : List SendingEnd). slice_get l i ≡ Some s) senders t) x h;
   };
 }
@@ -381,7 +388,7 @@ answered-fewer p e m sent may h = go (m.head.acknowledge && may && is_answered_i
     go : (b : Bool) (o : Option ℕ) → Goes_on p (cond b (answered_at e m.head o) (record { stop = None; after = e })).after
     go false o = h
     go true None = h
-    go true (Some time) = λ k. fewer-then p e (answered_at e m.head (Some time)).after (h k) (fewer-same e (answered_at e m.head (Some time)).after refl refl refl refl)
+    go true (Some time) = λ k. fewer-then p e (answered_at e m.head (Some time)).after (h k) (fewer-same e (answered_at e m.head (Some time)).after refl refl refl refl refl)
 
 -- a list from which an element was taken, or that has none at that place
 remove-either : {X : Type 0} (xs : List X) (i : ℕ) → (remove xs i ≡ xs) ⊎ (length (remove xs i) + 1 ≡ length xs)
@@ -414,7 +421,7 @@ gone-fewer p now channel number time = by (channel == 0xFF)
     after o = Rattle.enet_peer.specs.CommandEffect.sampled (record p { outbox = outbox.with_growth o told }) now time
 
     on : (x : Option SendingEnd) → slice_get p.outbox.senders channel ≡ x → Fewer p (after (outbox.acknowledged_on p.outbox channel number x))
-    on None e = fewer-same p (after p.outbox) refl refl refl refl
+    on None e = fewer-same p (after p.outbox) refl refl refl refl refl
     on (Some s) e = record {
       count = (let k = queued-set p.outbox.senders channel s new e in let l = sent-set p.outbox.senders channel s new e in let m = gone-least in omega arith);
       less = elim (gone-either s.sender.sent (sender.position_of number s.sender.sent)) [
@@ -431,6 +438,7 @@ gone-fewer p now channel number time = by (channel == 0xFF)
             | inr w ↦ a.fit.queued i y w.1 c h
           ];
         };
+        awaited = awaited-on p.outbox channel number (Some s) e a.awaited;
         sent = λ i y t x h. elim (get-set p.outbox.senders channel i new y t) [
           | inl w ↦ a.sent channel s e x (left (sender.position_of number s.sender.sent) x (subst (λ (z : SendingEnd). Has z.sender.sent x) (sym w.1) h))
           | inr w ↦ a.sent i y w.1 x h
@@ -463,7 +471,7 @@ gone-fewer p now channel number time = by (channel == 0xFF)
         controls = controlling.without_place p.outbox.control.sent (controlling.position_of number p.outbox.control.sent)
 
         fits : (pace : Pace) → AllFit pace p.outbox → AllFit pace (after (record p.outbox { control = controlling.after_acknowledgement p.outbox.control number })).outbox
-        fits pace a = record { fit = record { mtu = a.fit.mtu; unsequenced = a.fit.unsequenced; queued = a.fit.queued }; sent = a.sent }
+        fits pace a = record { fit = record { mtu = a.fit.mtu; unsequenced = a.fit.unsequenced; queued = a.fit.queued }; awaited = a.awaited; sent = a.sent }
     by false = on (slice_get p.outbox.senders channel) refl
 
 settled-fewer : (p q : Peering) → Fewer p q → Goes_on p (settled q)
@@ -489,10 +497,10 @@ acknowledge-fewer p now channel number told = by (matched_by p.outbox channel nu
     gone = acknowledged old now channel number time
 
     less : Fewer p gone
-    less = fewer-then p old gone (fewer-same p old refl refl refl refl) (gone-fewer old now channel number time)
+    less = fewer-then p old gone (fewer-same p old refl refl refl refl refl) (gone-fewer old now channel number time)
 
     by : (x : Matched) → Goes_on p (on_match x old gone)
-    by matched.Nothing = λ k. fewer-same p old refl refl refl refl
+    by matched.Nothing = λ k. fewer-same p old refl refl refl refl refl
     by matched.Data = settled-fewer p gone less
     by (matched.Control what) = settled-fewer p gone less
 
@@ -507,7 +515,7 @@ hears-fewer p now sent m = by m.body
     old = at_later p
 
     same : Goes_on p old
-    same = λ k. fewer-same p old refl refl refl refl
+    same = λ k. fewer-same p old refl refl refl refl refl
 
     passed : (r : Result Bool Stop) → Goes_on p (by_answer old m sent r).after
     passed (Err why) = same
@@ -527,9 +535,9 @@ hears-fewer p now sent m = by m.body
     by (send_fragment fragment payload) = effect (send_fragment fragment payload) (passed (passed_over p.inbox m))
     by (send_unsequenced group payload) = effect (send_unsequenced group payload) (passed (passed_over p.inbox m))
     by (send_unreliable_fragment fragment payload) = effect (send_unreliable_fragment fragment payload) (passed (passed_over p.inbox m))
-    by (bandwidth_limit incoming outgoing) = effect (bandwidth_limit incoming outgoing) (answered-fewer p (on_bandwidth old incoming) m sent true (λ k. fewer-same p (on_bandwidth old incoming) refl refl refl refl))
+    by (bandwidth_limit incoming outgoing) = effect (bandwidth_limit incoming outgoing) (answered-fewer p (on_bandwidth old incoming) m sent true (λ k. fewer-same p (on_bandwidth old incoming) refl refl refl refl refl))
     by (throttle_configure interval acceleration deceleration) =
-        effect (throttle_configure interval acceleration deceleration) (answered-fewer p (on_throttle old interval acceleration deceleration) m sent true (λ k. fewer-same p (on_throttle old interval acceleration deceleration) refl refl refl refl))
+        effect (throttle_configure interval acceleration deceleration) (answered-fewer p (on_throttle old interval acceleration deceleration) m sent true (λ k. fewer-same p (on_throttle old interval acceleration deceleration) refl refl refl refl refl))
 
 takes-fewer : (p : Peering) → Goes_on p (after_take (at_later p) (next_event (at_later p)))
 takes-fewer p = by p.greeting
@@ -538,11 +546,11 @@ takes-fewer p = by p.greeting
     old = at_later p
 
     packets : (untaken : List codec.Packet) → Goes_on p (after_take old (packet_event old untaken))
-    packets [] = λ k. fewer-same p old refl refl refl refl
-    packets (q ∷ rest) = λ k. fewer-same p _ refl refl refl refl
+    packets [] = λ k. fewer-same p old refl refl refl refl refl
+    packets (q ∷ rest) = λ k. fewer-same p _ refl refl refl refl refl
 
     by : (greeting : Option ℕ) → Goes_on p (after_take old (event_after old greeting))
-    by (Some info) = λ k. fewer-same p _ refl refl refl refl
+    by (Some info) = λ k. fewer-same p _ refl refl refl refl refl
     by None = packets p.inbox.untaken
 
 -- the peer by now, while it is to disconnect later
@@ -683,6 +691,7 @@ marked-fits tick pace o a = record {
     unsequenced = a.fit.unsequenced;
     queued = λ i s t c h. (let w = back o.senders i s t in a.fit.queued i w.0 w.1 c (subst (λ (z : SendingEnd). Has z.sender.queued c) (sym w.2) h));
   };
+  awaited = awaited-marked o tick a.awaited;
   sent = λ i s t x h. (let w = back o.senders i s t in
       let m = Has-mapped (sender.marked tick) w.0.sender.sent x (subst (λ (z : SendingEnd). Has z.sender.sent x) (sym w.2) h) in
       subst (λ (y : Sent). length y.command.body + 28 ≤ pace.mtu) m.2 (a.sent i w.0 w.1 m.0 m.1));
@@ -940,8 +949,8 @@ turns-later most gap total start (next ∷ later) now p q begun close first (r, 
 
 -- from the moments before on, at which any sent commands went by then
 fresh-later : (p : Peering) → ((R : Transmission → Type 0) → Each R p.outbox.control.sent p.outbox.senders) → IsWithin p.estimate 65535 → Fits p → DisconnectsLater p
-fresh-later p none within fits gap now moments q next later r close run low high turns =
-    let end = turns-later most gap total next later next q r (omega arith) near begins turns in
+fresh-later p none within fits since gap now moments q next later r run low high begun close turns =
+    let end = turns-later most gap total since later next q r begun near begins turns in
     let sum : total + stretch ≡ next + (still_to_do q.outbox + 1) * stretch = omega arith in
     omega arith
   where
@@ -957,35 +966,35 @@ fresh-later p none within fits gap now moments q next later r close run low high
     before : ℕ
     before = last_of now moments
 
-    near : total + (5000 + 2 * most + gap) + (5000 + 2 * most + gap) < next + 2 ^ 32
+    near : total + (5000 + 2 * most + gap) + (5000 + 2 * most + gap) < since + 2 ^ 32
     near = let sum : total + stretch + stretch ≡ next + (still_to_do q.outbox + 2) * stretch = omega arith in omega arith
 
-    brief : stretch < 2 ^ 32
-    brief = let more = no-more 1 (still_to_do q.outbox + 2) stretch (omega arith) in omega arith
+    known : Known since gap most before q
+    known = known-moments since gap most moments now now p q (inl ((none (Goes_any most now), within, refl), none Rests)) (omega arith) (omega arith) (omega (arith, near)) (omega (arith, near)) run
 
-    ready : Ready most before q
-    ready = moments-ready most gap moments now now p q ((none (Goes_any most now), within, refl), none Rests) (omega arith) (omega arith) brief run
+    ready : Fair (Lately since stretch most before) most q
+    ready = as-lately since gap most before q (omega arith) known
 
-    once : (t : Transmission) → t.due ≡ false → Goes_any most before t → Until most stretch next next before t
-    once t waits g = (g.0, paces-timed g.0 most before t g.1 waits, (let x = g.1 in let y = x.after in let z = x.by in omega arith), (let x = g.1 in let y = x.in_time in omega arith))
+    once : (t : Transmission) → Lately since stretch most before t → Until most stretch since next before t
+    once t g = (g.0, g.1, (let x = g.1 in let y = x.after in let z = x.by in omega arith), g.2)
 
-    ahead : Ahead most gap total next before q
+    ahead : Ahead most gap total since before q
     ahead = record {
       paced = record {
         limit = next;
-        each = ((λ t h. once t.transmission (ready.1.0 t h) (ready.0.0.0 t h)), (λ s k t h. once t.transmission (ready.1.1 s k t h) (ready.0.0.1 s k t h)));
+        each = ((λ t h. once t.transmission (ready.0.0 t h)), (λ s k t h. once t.transmission (ready.0.1 s k t h)));
         count = omega arith;
         near = omega arith;
         begun = omega arith;
         held = inl (omega arith);
       };
-      within = ready.0.1;
-      patient = ready.0.2;
-      fit = all-fits q 0 (fits-moments gap now moments p q fits (as-moments gap now moments p q run));
+      within = ready.1;
+      patient = ready.2;
+      fit = all-fits q 0 (fits-moments gap now moments p q fits (as-moments since gap now moments p q run));
     }
 
-    begins : (short : Bool) → (moved short q (next % 2 ^ 32)).state ≡ state.DisconnectLater → Ahead most gap total next next (moved short q (next % 2 ^ 32))
-    begins short h = tick-ahead most gap total next before next short q ahead low (omega arith) near (omega arith) (inl (omega arith)) h
+    begins : (short : Bool) → (moved short q (next % 2 ^ 32)).state ≡ state.DisconnectLater → Ahead most gap total since next (moved short q (next % 2 ^ 32))
+    begins short h = tick-ahead most gap total since before next short q ahead low begun near (omega arith) (inl (omega arith)) h
 
 pub joined-later : (start : ℕ) (terms : Terms) (limits : Limits) → terms.mtu ≤ 4096 → DisconnectsLater (joined start terms limits)
 joined-later start terms limits low = fresh-later (joined start terms limits) (λ R. ((λ t k. absurd k), none-new R 0 terms.channels)) (record { round_trip = omega arith; variance = omega arith }) (joined-fits start terms limits low)

@@ -36,6 +36,7 @@ pub mod Paces
 pub mod Attempts
 pub mod Told
 pub mod Waiting
+pub mod Lately
 pub mod Ageing
 pub mod Wide
 pub mod Fitting

@@ -24,7 +24,7 @@ use Rattle.law_progress.proofs.Complete.{Consumed-all, dispatched-consumed}
 
 -- nothing is in transit, and a body so long may be
 abbrev occasion_for : ℕ → Occasion
-occasion_for most = record { now = 0; timeout = 0; transit = 0; most = most; prices = 0; dearest = most + 28 }
+occasion_for most = record { now = 0; timeout = 0; transit = 0; most = most; prices = 0; dearest = most + 28; barred = false }
 
 room : (c : DataCommand) → has_room (occasion_for (length c.body)) c ≡ true
 room c = room-for (occasion_for (length c.body)) c (omega arith) (omega arith)
@@ -35,7 +35,7 @@ moment now = record { now = now; heard = 0; bound = 1000; present = 0 }
 
 -- where nothing waits for its acknowledgement, the head of the queue may go
 head-goes : (s : Sender) (c : DataCommand) (rest : List DataCommand) → s.sent ≡ [] → s.queued ≡ c ∷ rest → (n : Next) × (next wire (occasion_for (length c.body)) s ≡ Some n)
-head-goes s c rest none queued = (first_sent 0 0 s c rest, head-due (occasion_for (length c.body)) s c rest none queued (room c))
+head-goes s c rest none queued = (first_sent 0 0 s c rest, head-due (occasion_for (length c.body)) s c rest none queued refl (room c))
 
 -- what is due to go again goes
 due-goes : (s : Sender) (x : Sent) (xs : List Sent) → s.sent ≡ x ∷ xs → x.transmission.due ≡ true → (n : Next) × (next wire (occasion_for (length x.command.body)) s ≡ Some n)

@@ -23,6 +23,8 @@ use Rattle.enet_peer.specs.Peering.{Peering}
 use Rattle.enet_peer.specs.CommandEffect.{obeyed, unless_refused, stopped, is_allowed, is_connect, by_body, by_answer, by_arrival, answered, answered_at, is_answered_in, on_acknowledge, on_match, acknowledged, on_disconnect_in, on_bandwidth, on_throttle}
 use Rattle.enet_peer.specs.CommandEffect as effect
 use Rattle.enet_peer.proofs.Obeying.{unless-holds}
+use Rattle.enet_outbox.specs.Room.{IsAwaited, RoomIsAwaited}
+use Rattle.enet_outbox.proofs.Rooms.{awaited-on}
 use Rattle.enet_receiver.specs.Members.{Has}
 use Rattle.law_connection.proofs.Firsts.{drop_first, without-first, Has-from_drop}
 use Rattle.law_connection.proofs.Lists.{Has-push_left}
@@ -36,15 +38,16 @@ pub record Kept (p q : Peering) : Type 0 where
   pub offset : q.offset ≡ p.offset
   pub acknowledgements : (a : Acknowledgement) → Has p.outbox.acknowledgements a → Has q.outbox.acknowledgements a
   pub sent : (channel : ℕ) (t : Sent) → HasSent q.outbox.senders channel t → HasSent p.outbox.senders channel t
+  pub awaited : RoomIsAwaited p.outbox → RoomIsAwaited q.outbox
 
 pub kept-self : (p : Peering) → Kept p p
-kept-self p = record { senders = inl refl; mtu = refl; offset = refl; acknowledgements = λ a h. h; sent = λ channel t h. h }
+kept-self p = record { senders = inl refl; mtu = refl; offset = refl; acknowledgements = λ a h. h; sent = λ channel t h. h; awaited = λ h. h }
 
 pub kept-least : (p q : Peering) → Kept p q → outstanding_over q.outbox.senders ≤ outstanding_over p.outbox.senders
 kept-least p q k = elim k.senders [ inl same ↦ (let e : outstanding_over q.outbox.senders ≡ outstanding_over p.outbox.senders = ap outstanding_over same in omega arith) | inr less ↦ omega arith ]
 
 pub kept-then : (p q r : Peering) → Kept p q → Kept q r → Kept p r
-kept-then p q r a b = record { senders = by a.senders b.senders; mtu = b.mtu ∙ a.mtu; offset = b.offset ∙ a.offset; acknowledgements = λ x h. b.acknowledgements x (a.acknowledgements x h); sent = λ channel t h. a.sent channel t (b.sent channel t h) }
+kept-then p q r a b = record { senders = by a.senders b.senders; mtu = b.mtu ∙ a.mtu; offset = b.offset ∙ a.offset; acknowledgements = λ x h. b.acknowledgements x (a.acknowledgements x h); sent = λ channel t h. a.sent channel t (b.sent channel t h); awaited = λ h. b.awaited (a.awaited h) }
   where
     by : (q.outbox.senders ≡ p.outbox.senders) ⊎ (outstanding_over q.outbox.senders < outstanding_over p.outbox.senders)
         → (r.outbox.senders ≡ q.outbox.senders) ⊎ (outstanding_over r.outbox.senders < outstanding_over q.outbox.senders)
@@ -62,7 +65,7 @@ answered-stays p e m sent may h = go (m.head.acknowledge && may && is_answered_i
     go : (b : Bool) (o : Option ℕ) → Stays p (cond b (answered_at e m.head o) (record { stop = None; after = e })).after
     go false o = h
     go true None = h
-    go true (Some time) = λ k. (let r = h k in record { senders = r.senders; mtu = r.mtu; offset = r.offset; acknowledgements = λ a j. Has-push_left e.outbox.acknowledgements _ a (r.acknowledgements a j); sent = r.sent })
+    go true (Some time) = λ k. (let r = h k in record { senders = r.senders; mtu = r.mtu; offset = r.offset; acknowledgements = λ a j. Has-push_left e.outbox.acknowledgements _ a (r.acknowledgements a j); sent = r.sent; awaited = r.awaited })
 
 -- an acknowledgement takes one away, if any
 drop-either : (n : ℕ) (xs : List Sent) → (drop_first (λ (q : Sent). q.command.number == n) xs ≡ xs) ⊎ (length (drop_first (λ (q : Sent). q.command.number == n) xs) + 1 ≡ length xs)
@@ -87,8 +90,8 @@ gone-kept p now channel number time = by (channel == 0xFF)
     after o = effect.sampled (record p { outbox = outbox.with_growth o told }) now time
 
     on : (x : Option SendingEnd) → slice_get p.outbox.senders channel ≡ x → Kept p (after (outbox.acknowledged_on p.outbox channel number x))
-    on None e = record { senders = inl refl; mtu = refl; offset = refl; acknowledgements = λ a h. h; sent = λ k t h. h }
-    on (Some s) e = record { senders = elim (drop-either number s.sender.sent) [ inl a ↦ inl (as-before a) | inr a ↦ inr (fewer a) ]; mtu = refl; offset = refl; acknowledgements = λ a h. h; sent = from }
+    on None e = record { senders = inl refl; mtu = refl; offset = refl; acknowledgements = λ a h. h; sent = λ k t h. h; awaited = λ h. h }
+    on (Some s) e = record { senders = elim (drop-either number s.sender.sent) [ inl a ↦ inl (as-before a) | inr a ↦ inr (fewer a) ]; mtu = refl; offset = refl; acknowledgements = λ a h. h; sent = from; awaited = λ h. awaited-on p.outbox channel number (Some s) e h }
       where
         new : SendingEnd
         new = record s { sender = sender.after_acknowledgement s.sender number }
@@ -122,19 +125,20 @@ gone-kept p now channel number time = by (channel == 0xFF)
             omega arith
 
     by : (b : Bool) → Kept p (after (cond b (record p.outbox { control = controlling.after_acknowledgement p.outbox.control number }) (outbox.acknowledged_on p.outbox channel number (slice_get p.outbox.senders channel))))
-    by true = record { senders = inl refl; mtu = refl; offset = refl; acknowledgements = λ a h. h; sent = λ k t h. h }
+    by true = record { senders = inl refl; mtu = refl; offset = refl; acknowledgements = λ a h. h; sent = λ k t h. h; awaited = λ h. h }
     by false = on (slice_get p.outbox.senders channel) refl
 
 abbrev connected : Peering → Peering
 connected p = record p { state = state.Connected }
 
-same-stays : (p q : Peering) → q.outbox.senders ≡ p.outbox.senders → q.terms.mtu ≡ p.terms.mtu → q.offset ≡ p.offset → q.outbox.acknowledgements ≡ p.outbox.acknowledgements → Stays p q
-same-stays p q senders mtu offset acks k = record {
+same-stays : (p q : Peering) → q.outbox.senders ≡ p.outbox.senders → q.terms.mtu ≡ p.terms.mtu → q.offset ≡ p.offset → q.outbox.acknowledgements ≡ p.outbox.acknowledgements → q.outbox.kept ≡ p.outbox.kept → Stays p q
+same-stays p q senders mtu offset acks kept k = record {
   senders = inl senders;
   mtu = mtu;
   offset = offset;
   acknowledgements = λ a h. subst (λ (l : List Acknowledgement). Has l a) (sym acks) h;
   sent = λ channel t h. subst (λ (l : List SendingEnd). HasSent l channel t) senders h;
+  awaited = λ h. subst (λ (l : List SendingEnd). IsAwaited l q.outbox.kept) (sym senders) (subst (IsAwaited p.outbox.senders) (sym kept) h);
 }
 
 acknowledge-stays : (p : Peering) (now channel number told : ℕ) → Stays p (on_acknowledge (connected p) now channel number told)
@@ -150,10 +154,10 @@ acknowledge-stays p now channel number told = by (matched_by p.outbox channel nu
     gone = acknowledged old now channel number time
 
     less : Kept p gone
-    less = (let k = gone-kept old now channel number time in record { senders = k.senders; mtu = k.mtu; offset = k.offset; acknowledgements = k.acknowledgements; sent = k.sent })
+    less = (let k = gone-kept old now channel number time in record { senders = k.senders; mtu = k.mtu; offset = k.offset; acknowledgements = k.acknowledgements; sent = k.sent; awaited = k.awaited })
 
     by : (x : Matched) → Stays p (on_match x old gone)
-    by matched.Nothing = same-stays p old refl refl refl refl
+    by matched.Nothing = same-stays p old refl refl refl refl refl
     by matched.Data = λ k. less
     by (matched.Control what) = λ k. less
 
@@ -168,7 +172,7 @@ hears-stays p now sent m = by m.body
     old = connected p
 
     same : Stays p old
-    same = same-stays p old refl refl refl refl
+    same = same-stays p old refl refl refl refl refl
 
     comes : (a : DataEffect) → Stays p (by_arrival old m sent a).after
     comes a = go a.answer
@@ -177,8 +181,8 @@ hears-stays p now sent m = by m.body
         there = record old { inbox = a.after }
 
         go : (r : Result Bool Stop) → Stays p (by_answer there m sent r).after
-        go (Err why) = same-stays p there refl refl refl refl
-        go (Ok may) = answered-stays p there m sent may (same-stays p there refl refl refl refl)
+        go (Err why) = same-stays p there refl refl refl refl refl
+        go (Ok may) = answered-stays p there m sent may (same-stays p there refl refl refl refl refl)
 
     effect-of : (b : Body) → Stays p (by_body old now sent m b).after → Stays p (unless_refused old m (by_body old now sent m b)).after
     effect-of b h = unless-holds (Stays p) old m (by_body old now sent m b) same h
@@ -194,9 +198,9 @@ hears-stays p now sent m = by m.body
     by (send_fragment fragment payload) = effect-of (send_fragment fragment payload) (comes (arrival p.inbox m))
     by (send_unsequenced group payload) = effect-of (send_unsequenced group payload) (comes (arrival p.inbox m))
     by (send_unreliable_fragment fragment payload) = effect-of (send_unreliable_fragment fragment payload) (comes (arrival p.inbox m))
-    by (bandwidth_limit incoming outgoing) = effect-of (bandwidth_limit incoming outgoing) (answered-stays p (on_bandwidth old incoming) m sent true (same-stays p (on_bandwidth old incoming) refl refl refl refl))
+    by (bandwidth_limit incoming outgoing) = effect-of (bandwidth_limit incoming outgoing) (answered-stays p (on_bandwidth old incoming) m sent true (same-stays p (on_bandwidth old incoming) refl refl refl refl refl))
     by (throttle_configure interval acceleration deceleration) =
-        effect-of (throttle_configure interval acceleration deceleration) (answered-stays p (on_throttle old interval acceleration deceleration) m sent true (same-stays p (on_throttle old interval acceleration deceleration) refl refl refl refl))
+        effect-of (throttle_configure interval acceleration deceleration) (answered-stays p (on_throttle old interval acceleration deceleration) m sent true (same-stays p (on_throttle old interval acceleration deceleration) refl refl refl refl refl))
 
 -- a command comes to a connected peer, which stays connected
 pub hears-kept : (p : Peering) (now : ℕ) (sent : Option ℕ) (m : Message) → p.state ≡ state.Connected → (obeyed p now sent m).after.state ≡ state.Connected → Kept p (obeyed p now sent m).after

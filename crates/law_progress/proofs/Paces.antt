@@ -92,3 +92,31 @@ paces-marked first most before now tick t at present w up near patient = subst (
         let still : transmission.is_late n t ≡ false = (λ i. not (k.0 i) && leb t.timeout (elapsed_time n t.last)) in
         subst (λ b. Goes (cond b grows t)) (sym still)
         (record { last = w.last; first_is = w.first_is; last_is = w.last_is; after = w.after; by = low; short = w.short; grown = inr (k.0, omega arith) }, refl)
+
+-- or, as long, stays as it is
+pub paces-stays : (first most before now : ℕ) (t : Transmission) → Paces first most before t → before ≤ now → now < first + 2 ^ 32
+    → (transmission.is_late (now % 2 ^ 32) t ≡ true → leb most (elapsed_time (now % 2 ^ 32) t.first) ≡ false) → Paces first most now t
+paces-stays first most before now t w up near patient = by w.grown
+  where
+    n : ℕ
+    n = now % 2 ^ 32
+
+    low : w.last ≤ now
+    low = let b = w.by in omega arith
+
+    gone : elapsed_time n t.last ≡ now - w.last
+    gone = ap (elapsed_time n) w.last_is ∙ elapsed-is w.last now low (let x = w.after in omega arith)
+
+    waits-on : (late : Bool) → leb t.timeout (elapsed_time n t.last) ≡ late → t.due ≡ false → t.timeout + first ≤ 5000 + w.last → Paces first most now t
+    waits-on false early waits grown =
+        let x = lt-of t.timeout (elapsed_time n t.last) early in
+        let y = gone in
+        let l = low in
+        record { last = w.last; first_is = w.first_is; last_is = w.last_is; after = w.after; by = low; short = w.short; grown = inl (waits, grown, inl (omega arith)) }
+    waits-on true late waits grown =
+        let brief = late-brief first most before now t w up near (patient (λ i. not (waits i) && late i)) in
+        record { last = w.last; first_is = w.first_is; last_is = w.last_is; after = w.after; by = low; short = w.short; grown = inl (waits, grown, inr (omega arith)) }
+
+    by : ((t.due ≡ false) × (t.timeout + first ≤ 5000 + w.last) × ((before ≤ w.last + t.timeout) ⊎ (before ≤ first + most))) ⊎ ((t.due ≡ true) × (t.timeout + first ≤ 5000 + before)) → Paces first most now t
+    by (inl k) = waits-on (leb t.timeout (elapsed_time n t.last)) refl k.0 k.1
+    by (inr k) = (let grown = k.1 in record { last = w.last; first_is = w.first_is; last_is = w.last_is; after = w.after; by = low; short = w.short; grown = inr (k.0, omega arith) })

@@ -50,6 +50,8 @@ filled-unasking pace o u = by-filling pace o (λ f. Unasking f.outbox.control) (
   drops_unsequenced = λ f x rest t e g. g;
   puts_data = λ f k s n t there due g. g;
   drops_data = λ f k s n t there due kind g. g;
+  keeps_room = λ f i x there wants g. g;
+  gives_room = λ f i x n there due g. g;
 }) u
 
 filled-rests : (pace : Pace) (o : Outbox) → Rests pace o.control → Rests pace (filled pace o).outbox.control
@@ -61,6 +63,8 @@ filled-rests pace o r = by-filling pace o (λ f. Rests pace f.outbox.control) (r
   drops_unsequenced = λ f x rest t e g. g;
   puts_data = λ f k s n t there due g. g;
   drops_data = λ f k s n t there due kind g. g;
+  keeps_room = λ f i x there wants g. g;
+  gives_room = λ f i x n there due g. g;
 }) r
 
 abbrev at_parting : Peering → Peering

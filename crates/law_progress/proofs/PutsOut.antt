@@ -189,6 +189,8 @@ less-kept pace most = record {
       let less = ready-next _ s.sender n due in
       let short = skipped-length n.sender.queued in
       let over = over-set f.outbox.senders k s (record s { sender = with_skipped n.sender }) there in omega arith);
+  keeps_room = λ f i x there wants g. g;
+  gives_room = λ f i x n there due g. g;
 }
 
 pub less-ready : (pace : Pace) (o : Outbox) → AreSome (filled pace o).messages → ready (filled pace o).outbox < ready o

@@ -57,7 +57,7 @@ removed-at p now sent m number told s connected quiet body low there i t place a
     told_is = outbox.told_by p.outbox channel number time
 
     gone : Peering
-    gone = sampled (record p { outbox = outbox.with_growth (record p.outbox { senders = slice_set p.outbox.senders channel after }) told_is }) now time
+    gone = sampled (record p { outbox = outbox.with_growth (record p.outbox { senders = slice_set p.outbox.senders channel after; kept = outbox.still_kept p.outbox.kept channel after.sender }) told_is }) now time
 
     Good : Peering → Type 0
     Good q = IsRemoved p channel number s (answered q m sent true)
@@ -70,7 +70,7 @@ removed-at p now sent m number told s connected quiet body low there i t place a
     good-settled : Good (settled gone)
     good-settled = subst (λ b. Good (cond (b && outbox.is_done gone.outbox) (disconnecting gone gone.info) gone)) (sym (ap is_later connected)) good-gone
 
-    outbox-after : outbox.after_acknowledgement p.outbox channel number ≡ record p.outbox { senders = slice_set p.outbox.senders channel after }
+    outbox-after : outbox.after_acknowledgement p.outbox channel number ≡ record p.outbox { senders = slice_set p.outbox.senders channel after; kept = outbox.still_kept p.outbox.kept channel after.sender }
     outbox-after = ap (λ b. cond b (record p.outbox { control = Rattle.enet_senders.specs.Controlling.after_acknowledgement p.outbox.control number }) (acknowledged_on p.outbox channel number (slice_get p.outbox.senders channel))) apart
         ∙ ap (acknowledged_on p.outbox channel number) there
 

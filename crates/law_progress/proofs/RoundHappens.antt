@@ -1,5 +1,5 @@
 -- From each link there is a round.
-use Rattle.std.proofs.Common.{◌≡◌, ℕ, zero, suc, ◌+◌, ◌≤◌, true, List, [], ◌∷◌, ◌++◌, length, map, refl, sym, ap, subst, ◌∙◌, inl, inr, arith, Option, Some, None}
+use Rattle.std.proofs.Common.{false, ◌≡◌, ℕ, zero, suc, ◌+◌, ◌≤◌, true, List, [], ◌∷◌, ◌++◌, length, map, refl, sym, ap, subst, ◌∙◌, inl, inr, arith, Option, Some, None}
 use Rattle.enet_seq.specs.Numbering.{wire}
 use Rattle.enet_rtt.specs.declared.transmission.Tick.{Tick}
 use Rattle.enet_fragment.specs.declared.data.DataCommand.{DataCommand}
@@ -47,7 +47,7 @@ record PutsOutAll (mtu most limit : ℕ) (start : WireLink) : Type 0 where
 
 -- nothing but what is in transit stands in the way of bodies so long
 abbrev asked : ℕ → WireLink → Occasion
-asked size u = record { now = 0; timeout = 0; transit = bytes_in_transit u.outgoing; most = size; prices = prices_in_transit u.outgoing; dearest = size + 28 }
+asked size u = record { now = 0; timeout = 0; transit = bytes_in_transit u.outgoing; most = size; prices = prices_in_transit u.outgoing; dearest = size + 28; barred = false }
 
 record AreWithin (size : ℕ) (s : Sender) : Type 0 where
   queued : (c : DataCommand) → Has s.queued c → length c.body ≤ size
@@ -61,6 +61,7 @@ rests-spent size u fits none = record {
   occasion = asked size u;
   transit = refl;
   prices = refl;
+  free = refl;
   queued = λ c h. enough size u c (fits.queued c h);
   sent = λ p h. enough size u p.command (fits.sent p h);
   spent = none;

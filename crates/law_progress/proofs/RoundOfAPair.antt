@@ -10,6 +10,8 @@ use Rattle.enet_sender.specs.declared.sent.Sent.{Sent}
 use Rattle.enet_sender.specs.Due.{SendingEnd}
 use Rattle.enet_inbox.specs.Inbox.{is_full_for, given_way_receiver, given_way}
 use Rattle.enet_outbox.specs.Emission.{acknowledgement_of, occasion}
+use Rattle.enet_outbox.specs.Room.{IsSentReliable}
+use Rattle.std.proofs.lemmas.List.Elements.{All-nil}
 use Rattle.enet_peer.specs.declared.parts.PeerState.{PeerState}
 use Rattle.enet_peer.specs.declared.parts.PeerState.TheVariants as state
 use Rattle.enet_peer.specs.Peering.{Peering, joined}
@@ -104,7 +106,7 @@ emitted-rests = record {
   acknowledgements = refl;
   controls = refl;
   unsequenced = refl;
-  channels = λ i s e. one-channel _ (λ (t : SendingEnd). Rattle.enet_sender.specs.Sender.next Rattle.enet_seq.specs.Numbering.wire (occasion (pace_of (peer_of emitted.peer) 0) (peer_of emitted.peer).outbox) t.sender ≡ None) refl i s e;
+  channels = λ i s e. one-channel _ (λ (t : SendingEnd). Rattle.enet_sender.specs.Sender.next Rattle.enet_seq.specs.Numbering.wire (occasion (pace_of (peer_of emitted.peer) 0) i (peer_of emitted.peer).outbox) t.sender ≡ None) refl i s e;
 }
 
 forth : PutsAll 0 0 submitted pair.two emitted arrived
@@ -158,7 +160,7 @@ answered-rests = record {
   acknowledgements = refl;
   controls = refl;
   unsequenced = refl;
-  channels = λ i s e. one-channel _ (λ (t : SendingEnd). Rattle.enet_sender.specs.Sender.next Rattle.enet_seq.specs.Numbering.wire (occasion (pace_of (peer_of answered.peer) 0) (peer_of answered.peer).outbox) t.sender ≡ None) refl i s e;
+  channels = λ i s e. one-channel _ (λ (t : SendingEnd). Rattle.enet_sender.specs.Sender.next Rattle.enet_seq.specs.Numbering.wire (occasion (pace_of (peer_of answered.peer) 0) i (peer_of answered.peer).outbox) t.sender ≡ None) refl i s e;
 }
 
 back : PutsAll 0 0 arrived emitted answered heard
@@ -174,7 +176,7 @@ heard-rests = record {
   acknowledgements = refl;
   controls = refl;
   unsequenced = refl;
-  channels = λ i s e. one-channel _ (λ (t : SendingEnd). Rattle.enet_sender.specs.Sender.next Rattle.enet_seq.specs.Numbering.wire (occasion (pace_of (peer_of heard.peer) 0) (peer_of heard.peer).outbox) t.sender ≡ None) refl i s e;
+  channels = λ i s e. one-channel _ (λ (t : SendingEnd). Rattle.enet_sender.specs.Sender.next Rattle.enet_seq.specs.Numbering.wire (occasion (pace_of (peer_of heard.peer) 0) i (peer_of heard.peer).outbox) t.sender ≡ None) refl i s e;
 }
 
 answers : PutsAll 0 0 heard answered heard answered
@@ -201,6 +203,7 @@ fits when = record {
     unsequenced = λ u h. absurd h;
     queued = λ i s e. one-channel _ (λ (t : SendingEnd). (c : DataCommand) → Has t.sender.queued c → length c.body + 28 ≤ (pace_of sender when).mtu) each i s e;
   };
+  awaited = record { reliable = λ i s e. one-channel _ (λ (t : SendingEnd). IsSentReliable t.sender.sent) (All-nil (λ (p : Sent). p.command.reliable ≡ true)) i s e; awaits = tt };
   sent = λ i s e. one-channel _ (λ (t : SendingEnd). (x : Sent) → Has t.sender.sent x → length x.command.body + 28 ≤ (pace_of sender when).mtu) (λ x h. absurd h) i s e;
 }
   where
@@ -215,6 +218,7 @@ fits-here when = record {
     unsequenced = λ u h. absurd h;
     queued = λ i s e. one-channel _ (λ (t : SendingEnd). (c : DataCommand) → Has t.sender.queued c → length c.body + 28 ≤ (pace_of here when).mtu) (λ c h. absurd h) i s e;
   };
+  awaited = record { reliable = λ i s e. one-channel _ (λ (t : SendingEnd). IsSentReliable t.sender.sent) (All-nil (λ (p : Sent). p.command.reliable ≡ true)) i s e; awaits = tt };
   sent = λ i s e. one-channel _ (λ (t : SendingEnd). (x : Sent) → Has t.sender.sent x → length x.command.body + 28 ≤ (pace_of here when).mtu) (λ x h. absurd h) i s e;
 }
 

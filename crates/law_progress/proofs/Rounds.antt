@@ -165,7 +165,7 @@ progress mtu most tick v w big s up short r = subst (λ z. Progresses mtu tick v
         none-queued [] e = e
         none-queued (c ∷ rest) e =
             let has : Has out.outgoing.queued c = subst (λ (l : List DataCommand). Has l c) (sym e) (inl refl) in
-            let goes = head-due o out.outgoing c rest (none-sent out.outgoing.sent refl) e (room c (r.spent.queued c has)) in
+            let goes = head-due o out.outgoing c rest (none-sent out.outgoing.sent refl) e r.spent.free (room c (r.spent.queued c has)) in
             absurd (let f : None ≡ Some _ = sym r.spent.spent ∙ goes in cc)
 
     fewer : AreOver tick.now v.outgoing.sent → 0 < outstanding v → outstanding last < outstanding v

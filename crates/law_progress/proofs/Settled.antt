@@ -50,7 +50,7 @@ settles from to p q put channel c time pace o low w connected fit answered = rec
     waits = subst (λ (x : Outbox). Has x.acknowledgements a) (sym answered.waits) (Has-push q.outbox.acknowledgements a)
 
     fits : AllFit pace o.after.outbox
-    fits = subst (λ (x : Outbox). AllFit pace x) (sym answered.waits) (record { fit = record { mtu = fit.fit.mtu; unsequenced = fit.fit.unsequenced; queued = fit.fit.queued }; sent = fit.sent })
+    fits = subst (λ (x : Outbox). AllFit pace x) (sym answered.waits) (record { fit = record { mtu = fit.fit.mtu; unsequenced = fit.fit.unsequenced; queued = fit.fit.queued }; awaited = fit.awaited; sent = fit.sent })
 
     all : (n : ℕ) × (n ≤ Rattle.law_progress.specs.Outboxes.ready o.after.outbox + 1) × Rattle.law_progress.specs.Outboxes.IsPutOut pace o.after.outbox n
     all = puts-out-all pace o.after.outbox fits

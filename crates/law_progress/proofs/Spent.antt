@@ -1,5 +1,6 @@
 -- Where a datagram would have nothing in it, nothing may go: no command is due, and no head of a queue may go.
-use Rattle.std.proofs.Common.{◌≡◌, ◌≢◌, ℕ, zero, suc, ◌+◌, ◌-◌, ◌<◌, ◌≤◌, ◌&&◌, leb, ltb, Bool, true, false, cond, List, [], ◌∷◌, ◌++◌, length, refl, sym, ap, subst, ◌∙◌, inl, inr, ◌⊎◌, arith, Option, Some, None}
+use Rattle.std.proofs.Common.{◌≡◌, ◌≢◌, ℕ, zero, suc, ◌+◌, ◌-◌, ◌<◌, ◌≤◌, ◌==◌, ◌&&◌, ◌||◌, not, leb, ltb, Bool, true, false, cond, List, [], ◌∷◌, ◌++◌, length, refl, sym, ap, subst, ◌∙◌, inl, inr, ◌⊎◌, arith, Option, Some, None}
+use Rattle.std.proofs.lemmas.Bool.{and_parts, eqb-true}
 use Rattle.std.proofs.lemmas.Bool.Decides.{nat_tests}
 use Rattle.std.proofs.lemmas.List.Sums.{sum_by-cons}
 use Rattle.std.specs.Prelude.{sum_by, unwrap_or}
@@ -15,15 +16,16 @@ use Rattle.enet_sender.specs.declared.outgoing.Kind.{Kind}
 use Rattle.enet_sender.specs.declared.outgoing.Kind.TheVariants.{Reliable, Begins, More}
 use Rattle.enet_sender.specs.declared.sent.Sent.{Sent}
 use Rattle.enet_sender.specs.declared.outgoing.Occasion.{Occasion}
-use Rattle.enet_sender.specs.Sender.{Sender, Next, next, next_of, next_queued, next_resent, first_sent, resent, again, begun, may_go, has_room, bytes_of, price_of, is_more, skipped, with_skipped, bytes_in_transit, prices_in_transit}
+use Rattle.enet_sender.specs.Sender.{Sender, Next, next, next_of, next_queued, next_resent, first_sent, resent, again, begun, due_lacks, head_lacks, is_in_span, lacks_room, may_go, has_room, wants_room, wants_room_at, bytes_of, price_of, is_more, skipped, with_skipped, bytes_in_transit, prices_in_transit}
 use Rattle.enet_sender.specs.Due.{SendingEnd, due_kind}
 use Rattle.enet_outbox.specs.declared.parts.Acknowledgement.{Acknowledgement}
 use Rattle.enet_outbox.specs.declared.parts.Unsequenced.{Unsequenced}
 use Rattle.enet_outbox.specs.declared.parts.Pace.{Pace}
-use Rattle.enet_outbox.specs.Outbox.{Outbox, transit_of, prices_of}
-use Rattle.enet_outbox.specs.Emission.{Filling, empty_datagram, size_of, fits, with_command, shut, asked, repeated, with_one_acknowledgement, with_acknowledgements, control_step, with_one_control, with_controls, control_turns, unsequenced_of, unsequenced_asked, unsequenced_step, with_one_unsequenced, with_unsequenced, with_sender, data_put, data_step, due_step, channel_step, with_one_data, with_channel, turns_of, channel_turns, with_channels, turn_order, transit_limit, price_limit, occasion, filled}
+use Rattle.enet_outbox.specs.Outbox.{Outbox, released, transit_of, prices_of}
+use Rattle.enet_outbox.specs.Emission.{Filling, empty_datagram, size_of, fits, with_command, shut, asked, repeated, with_one_acknowledgement, with_acknowledgements, control_step, with_one_control, with_controls, control_turns, unsequenced_of, unsequenced_asked, unsequenced_step, with_one_unsequenced, with_unsequenced, with_sender, data_put, data_step, due_step, channel_step, with_one_data, with_channel, turns_of, channel_turns, with_channels, turn_ended, turn_order, transit_limit, price_limit, is_barred, occasion, filled}
 use Rattle.enet_outbox.proofs.Repeats.{by-repeated, repeated-idle}
-use Rattle.enet_outbox.proofs.Filled.{by-filling}
+use Rattle.enet_outbox.proofs.Filled.{by-filling, by-turn_end}
+use Rattle.enet_outbox.proofs.Rooms.{awaited-filled}
 use Rattle.enet_receiver.specs.Members.{Has}
 use Rattle.law_progress.specs.Outboxes.{AreFit, AllFit, NothingMayGo, due_count, ready_at}
 use Rattle.law_progress.proofs.AcknowledgementsGo.{none-waits}
@@ -125,9 +127,17 @@ due-few : (xs : List Sent) → due_count xs ≤ length xs
 due-few [] = omega arith
 due-few (x ∷ xs) = let rest = due-few xs in elim x.transmission.due as (λ b. cond b (due_count xs + 1) (due_count xs) ≤ suc (length xs)) [ true ↦ omega arith | false ↦ omega arith ]
 
+-- what of it is about sizes alone
+record SizesFit (pace : Pace) (o : Outbox) : Type 0 where
+  fit : AreFit pace o
+  sent : (i : ℕ) (s : SendingEnd) → slice_get o.senders i ≡ Some s → (p : Sent) → Has s.sender.sent p → length p.command.body + 28 ≤ pace.mtu
+
+sizes-of : (pace : Pace) (o : Outbox) → AllFit pace o → SizesFit pace o
+sizes-of pace o all = record { fit = all.fit; sent = all.sent }
+
 -- all still fit, where a sender goes on
-sender-fits : (pace : Pace) (o u : Outbox) (k : ℕ) (s new : SendingEnd) → AllFit pace o → slice_get o.senders k ≡ Some s → u.senders ≡ slice_set o.senders k new → u.unsequenced ≡ o.unsequenced
-    → ((c : DataCommand) → Has new.sender.queued c → length c.body + 28 ≤ pace.mtu) → ((t : Sent) → Has new.sender.sent t → length t.command.body + 28 ≤ pace.mtu) → AllFit pace u
+sender-fits : (pace : Pace) (o u : Outbox) (k : ℕ) (s new : SendingEnd) → SizesFit pace o → slice_get o.senders k ≡ Some s → u.senders ≡ slice_set o.senders k new → u.unsequenced ≡ o.unsequenced
+    → ((c : DataCommand) → Has new.sender.queued c → length c.body + 28 ≤ pace.mtu) → ((t : Sent) → Has new.sender.sent t → length t.command.body + 28 ≤ pace.mtu) → SizesFit pace u
 sender-fits pace o u k s new all there is same queued sent = record {
   fit = record {
     mtu = fit.mtu;
@@ -147,8 +157,8 @@ sender-fits pace o u k s new all there is same queued sent = record {
     fit = all.fit
 
 -- and while a datagram is filled
-pub filled-fits : (pace : Pace) (o : Outbox) → AllFit pace o → AllFit pace (filled pace o).outbox
-filled-fits pace o all = by-filling pace o (λ f. AllFit pace f.outbox) (record {
+filled-sizes : (pace : Pace) (o : Outbox) → SizesFit pace o → SizesFit pace (filled pace o).outbox
+filled-sizes pace o all = by-filling pace o (λ f. SizesFit pace f.outbox) (record {
   closes = λ f g. g;
   acknowledges = λ f a rest e g. record { fit = record { mtu = g.fit.mtu; unsequenced = g.fit.unsequenced; queued = g.fit.queued }; sent = g.sent };
   controls = λ f n e g. record { fit = record { mtu = g.fit.mtu; unsequenced = g.fit.unsequenced; queued = g.fit.queued }; sent = g.sent };
@@ -160,15 +170,93 @@ filled-fits pace o all = by-filling pace o (λ f. AllFit pace f.outbox) (record 
   drops_data = λ f k s n t there due kind g. sender-fits pace f.outbox (with_sender (record f.outbox { throttle = t }) k (record s { sender = with_skipped n.sender })) k s (record s { sender = with_skipped n.sender }) g there refl refl
       (λ c h. g.fit.queued k s there c (queued-left _ s.sender n c (goes-of _ s.sender n due) (Has-skipped n.sender.queued c h)))
       (λ x h. sent-left _ s.sender n (λ c. length c.body + 28 ≤ pace.mtu) (goes-of _ s.sender n due) (λ c j. g.fit.queued k s there c j) (λ p j. g.sent k s there p j) x h);
+  keeps_room = λ f i x there wants g. record { fit = record { mtu = g.fit.mtu; unsequenced = g.fit.unsequenced; queued = g.fit.queued }; sent = g.sent };
+  gives_room = λ f i x n there due g. record { fit = record { mtu = g.fit.mtu; unsequenced = g.fit.unsequenced; queued = g.fit.queued }; sent = g.sent };
 }) all
+
+pub filled-fits : (pace : Pace) (o : Outbox) → AllFit pace o → AllFit pace (filled pace o).outbox
+filled-fits pace o all =
+    let sizes = filled-sizes pace o (sizes-of pace o all) in
+    record { fit = sizes.fit; awaited = awaited-filled pace o all.awaited; sent = sizes.sent }
+
+-- what each sender is told, but for whether the room is kept for another channel
+abbrev told_of : Pace → Outbox → Occasion
+told_of pace o = record (occasion pace 0 o) { barred = false }
+
+abbrev told_on : Occasion → Option ℕ → ℕ → Occasion
+told_on told kept k = record told { barred = is_barred kept k }
+
+-- nothing goes either, where the room is kept for another channel by now
+none-barred : (told : Occasion) (s : Sender) (b : Bool) → next wire (record told { barred = false }) s ≡ None → next wire (record told { barred = b }) s ≡ None
+none-barred told s false e = e
+none-barred told s true e = by-place (position (λ (p : Sent). p.transmission.due) s.sent) e
+  where
+    shut : Occasion
+    shut = record told { barred = true }
+
+    open' : Occasion
+    open' = record told { barred = false }
+
+    by-may : (c : DataCommand) (rest : List DataCommand) (reliable span room : Bool) → cond (not reliable || (span && room)) (Some (first_sent told.now told.timeout s c rest)) None ≡ None
+        → cond (not reliable || (span && false)) (Some (first_sent told.now told.timeout s c rest)) None ≡ None
+    by-may c rest false span room e = e
+    by-may c rest true true room e = refl
+    by-may c rest true false room e = refl
+
+    by-queue : (q : List DataCommand) → next_queued wire open' s q ≡ None → next_queued wire shut s q ≡ None
+    by-queue [] e = refl
+    by-queue (c ∷ rest) e = by-may c rest c.reliable (is_in_span wire s.sent c.number) (has_room open' c) e
+
+    by-sent : (i : ℕ) (x : Option Sent) → next_resent open' s i x ≡ None → next_resent shut s i x ≡ None
+    by-sent i None e = refl
+    by-sent i (Some p) e = e
+
+    by-place : (x : Option ℕ) → next_of wire open' s x ≡ None → next_of wire shut s x ≡ None
+    by-place None e = by-queue s.queued e
+    by-place (Some i) e = by-sent i (slice_get s.sent i) e
+
+-- where a channel wants the room, it is kept for no other
+wants-open : (o : Occasion) (s : Sender) → wants_room o s ≡ true → o.barred ≡ false
+wants-open o s e = by-place (position (λ (p : Sent). p.transmission.due) s.sent) e
+  where
+    lacks : (c : DataCommand) → lacks_room o c ≡ true → o.barred ≡ false
+    lacks c e = by o.barred (and_parts (not (has_room o c)) (not o.barred) e).1
+      where
+        by : (b : Bool) → not b ≡ true → b ≡ false
+        by true e = sym e
+        by false e = refl
+
+    by-sent : (x : Option Sent) → due_lacks o x ≡ true → o.barred ≡ false
+    by-sent None e = absurd (cc)
+    by-sent (Some p) e = lacks p.command e
+
+    by-head : (sent : List Sent) (queued : List DataCommand) → head_lacks o sent queued ≡ true → o.barred ≡ false
+    by-head [] [] e = absurd (cc)
+    by-head [] (c ∷ rest) e = lacks c (and_parts c.reliable (lacks_room o c) e).1
+    by-head (p ∷ ps) queued e = absurd (cc)
+
+    by-place : (x : Option ℕ) → wants_room_at o s x ≡ true → o.barred ≡ false
+    by-place None e = by-head s.sent s.queued e
+    by-place (Some i) e = by-sent (slice_get s.sent i) e
+
+-- so it is for another channel just as before, or for none before
+kept-before : (kept : Option ℕ) (i k : ℕ) → is_barred kept i ≡ false → (is_barred kept k ≡ is_barred (Some i) k) ⊎ (is_barred kept k ≡ false)
+kept-before None i k e = inr refl
+kept-before (Some c) i k e =
+    let same : c ≡ i = eqb-true c i (by (c == i) e) in
+    inl (ap (λ n. is_barred (Some n) k) same)
+  where
+    by : (b : Bool) → not b ≡ false → b ≡ true
+    by true e = refl
+    by false e = absurd (cc)
 
 -- a datagram that is still empty, of an outbox whose senders are told this, with at most so many unsequenced packets
 record Blank (pace : Pace) (told : Occasion) (most : ℕ) (f : Filling) : Type 0 where
   closed : f.closed ≡ false
   bytes : f.bytes ≡ pace.mtu - 4
   commands : f.commands ≡ 32
-  fit : AllFit pace f.outbox
-  told_is : occasion pace f.outbox ≡ told
+  fit : SizesFit pace f.outbox
+  told_is : told_of pace f.outbox ≡ told
   few : length f.outbox.unsequenced ≤ most
 
 -- into it each of them fits
@@ -186,7 +274,7 @@ room pace told most f m e big small =
 unsequenced-once : (pace : Pace) (told : Occasion) (most : ℕ) (f : Filling) → Blank pace told (suc most) f → Filled (with_one_unsequenced f) ⊎ Blank pace told most (with_one_unsequenced f)
 unsequenced-once pace told most f e = by f.outbox.unsequenced refl
   where
-    all : AllFit pace f.outbox
+    all : SizesFit pace f.outbox
     all = e.fit
 
     fit : AreFit pace f.outbox
@@ -229,7 +317,7 @@ unsequenced-all pace told (suc n) f e =
 
 -- of a channel nothing may go
 abbrev Done : Pace → Occasion → ℕ → Filling → Type 0
-Done pace told k f = (s : SendingEnd) → slice_get f.outbox.senders k ≡ Some s → next wire told s.sender ≡ None
+Done pace told k f = (s : SendingEnd) → slice_get f.outbox.senders k ≡ Some s → next wire (told_on told f.outbox.kept k) s.sender ≡ None
 
 -- a command of channel i was due, and was dropped: less is ready there, and the other channels are as before
 record Dropped (pace : Pace) (told : Occasion) (i : ℕ) (f g : Filling) : Type 0 where
@@ -237,7 +325,8 @@ record Dropped (pace : Pace) (told : Occasion) (i : ℕ) (f g : Filling) : Type 
   end : SendingEnd
   there : slice_get f.outbox.senders i ≡ Some end
   due : Next
-  is_due : next wire told end.sender ≡ Some due
+  is_due : next wire (told_on told f.outbox.kept i) end.sender ≡ Some due
+  kept : g.outbox.kept ≡ f.outbox.kept
   less : (t : SendingEnd) → slice_get g.outbox.senders i ≡ Some t → ready_at t.sender + 1 ≤ ready_at end.sender
   others : (j : ℕ) → i ≢ j → (t : SendingEnd) → slice_get g.outbox.senders j ≡ Some t → slice_get f.outbox.senders j ≡ Some t
 
@@ -247,7 +336,7 @@ After pace told i f g = Filled g ⊎ (((g ≡ f) × Done pace told i f) ⊎ Drop
 data-after : (pace : Pace) (told : Occasion) (i : ℕ) (f : Filling) → Blank pace told 0 f → After pace told i f (with_one_data pace i f)
 data-after pace told i f e = at (slice_get f.outbox.senders i) refl
   where
-    all : AllFit pace f.outbox
+    all : SizesFit pace f.outbox
     all = e.fit
 
     fit : AreFit pace f.outbox
@@ -255,10 +344,10 @@ data-after pace told i f e = at (slice_get f.outbox.senders i) refl
 
     at : (o : Option SendingEnd) → slice_get f.outbox.senders i ≡ o → After pace told i f (channel_step pace i f o)
     at None t = inr (inl (refl, λ s there. absurd (let x : Some s ≡ None = sym there ∙ t in cc)))
-    at (Some s) t = subst (λ (o : Occasion). After pace told i f (due_step f i s (next wire o s.sender))) (sym e.told_is) (due (next wire told s.sender) refl)
+    at (Some s) t = subst (λ (x : Occasion). After pace told i f (due_step f i s (next wire x s.sender))) (sym (ap (λ (x : Occasion). told_on x f.outbox.kept i) e.told_is)) (due (next wire o s.sender) refl)
       where
         o : Occasion
-        o = told
+        o = told_on told f.outbox.kept i
 
         due : (x : Option Next) → next wire o s.sender ≡ x → After pace told i f (due_step f i s x)
         due None is = inr (inl (refl, λ x there. (let one : Some s ≡ Some x = sym t ∙ there in let it : s ≡ x = cc in subst (λ (y : SendingEnd). next wire o y.sender ≡ None) it is)))
@@ -273,7 +362,7 @@ data-after pace told i f e = at (slice_get f.outbox.senders i) refl
             g = goes-of o s.sender n is
 
             kind : (d : Kind) → due_kind n.command ≡ d → After pace told i f (data_step f i s n d)
-            kind Reliable x = inl (filled-with f (message_of s.channel n.command) (record (with_sender f.outbox i (record s { sender = n.sender })) { last = Some i }))
+            kind Reliable x = inl (filled-with f (message_of s.channel n.command) (record (with_sender (record f.outbox { kept = released f.outbox.kept i }) i (record s { sender = n.sender })) { last = Some i }))
             kind More x = inl (filled-with f (message_of s.channel n.command) (record (with_sender f.outbox i (record s { sender = n.sender })) { last = Some i }))
             kind Begins x = elim (is_admitted f.outbox.throttle) as (λ b. After pace told i f (cond b (data_put f i s n (asked f.outbox)) dropped)) [
               | true ↦ inl (filled-with f (message_of s.channel n.command) (record (with_sender (asked f.outbox) i (record s { sender = n.sender })) { last = Some i }))
@@ -299,8 +388,8 @@ data-after pace told i f e = at (slice_get f.outbox.senders i) refl
                 prices_same : prices_of dropped.outbox ≡ prices_of f.outbox
                 prices_same = sum-set (λ (z : SendingEnd). prices_in_transit z.sender) f.outbox.senders i s after t (prices-left o s.sender n g unreliable)
 
-                same_told : occasion pace dropped.outbox ≡ occasion pace f.outbox
-                same_told = λ j. record { now = pace.now; timeout = pace.timeout; transit = transit_same j; most = transit_limit pace f.outbox; prices = prices_same j; dearest = price_limit pace f.outbox }
+                same_told : told_of pace dropped.outbox ≡ told_of pace f.outbox
+                same_told = λ j. record { now = pace.now; timeout = pace.timeout; transit = transit_same j; most = transit_limit pace f.outbox; prices = prices_same j; dearest = price_limit pace f.outbox; barred = false }
 
                 blank : Blank pace told 0 dropped
                 blank = record {
@@ -321,6 +410,7 @@ data-after pace told i f e = at (slice_get f.outbox.senders i) refl
                   there = t;
                   due = n;
                   is_due = is;
+                  kept = refl;
                   less = λ y there. (
                       let now : Some after ≡ Some y = sym (set-same f.outbox.senders i after s t) ∙ there in
                       let it : after ≡ y = cc in
@@ -334,7 +424,7 @@ data-after pace told i f e = at (slice_get f.outbox.senders i) refl
 -- asked often enough, a channel puts something in, or nothing of it may go
 drains : (pace : Pace) (told : Occasion) (k n : ℕ) (f : Filling) → Blank pace told 0 f → ((s : SendingEnd) → slice_get f.outbox.senders k ≡ Some s → ready_at s.sender ≤ n)
     → Filled (repeated n (with_one_data pace k) f) ⊎ (Blank pace told 0 (repeated n (with_one_data pace k) f) × Done pace told k (repeated n (with_one_data pace k) f))
-drains pace told k zero f e few = inr (e, λ s there. none-ready told s.sender (few s there))
+drains pace told k zero f e few = inr (e, λ s there. none-ready (told_on told f.outbox.kept k) s.sender (few s there))
 drains pace told k (suc n) f e few =
     subst (λ (g : Filling). Rests (repeated n (with_one_data pace k) g)) (sym (ap (λ b. cond b f (with_one_data pace k f)) e.closed))
     (elim (data-after pace told k f e) [
@@ -367,23 +457,62 @@ gone-step pace told k i f (inr (e, none)) = elim (data-after pace told i f e) [
   | inl h ↦ inl h
   | inr (inl idle) ↦ inr (subst (λ (g : Filling). Blank pace told 0 g × Done pace told k g) (sym idle.0) (e, none))
   | inr (inr d) ↦ elim (same-number i k) [
-    | inl same ↦ absurd (let z : Some d.due ≡ None = sym d.is_due ∙ none d.end (subst (λ j. slice_get f.outbox.senders j ≡ Some d.end) same d.there) in cc)
-    | inr apart ↦ inr (d.blank, λ s there. none s (d.others k apart s there))
+    | inl same ↦ absurd (
+        let due : next wire (told_on told f.outbox.kept k) d.end.sender ≡ Some d.due = ap (λ j. next wire (told_on told f.outbox.kept j) d.end.sender) (sym same) ∙ d.is_due in
+        let z : Some d.due ≡ None = sym due ∙ none d.end (subst (λ j. slice_get f.outbox.senders j ≡ Some d.end) same d.there) in cc)
+    | inr apart ↦ inr (d.blank, λ s there. ap (λ (c : Option ℕ). next wire (told_on told c k) s.sender) d.kept ∙ none s (d.others k apart s there))
   ]
 ]
+
+-- the end of a turn
+blank-kept : (pace : Pace) (told : Occasion) (f : Filling) (c : Option ℕ) → Blank pace told 0 f → Blank pace told 0 (record f { outbox = record f.outbox { kept = c } })
+blank-kept pace told f c e = record {
+  closed = e.closed;
+  bytes = e.bytes;
+  commands = e.commands;
+  fit = (let g = e.fit in record { fit = record { mtu = g.fit.mtu; unsequenced = g.fit.unsequenced; queued = g.fit.queued }; sent = g.sent });
+  told_is = e.told_is;
+  few = e.few;
+}
+
+going-turn : (pace : Pace) (told : Occasion) (i : ℕ) (f : Filling) → Going pace told f → Going pace told (with_channel pace f i)
+going-turn pace told i f g =
+    let h : Filling = repeated (channel_turns f.outbox i) (with_one_data pace i) f in
+    let a : Going pace told h = by-repeated (Going pace told) (channel_turns f.outbox i) (with_one_data pace i) (going-step pace told i) f g in
+    by-turn_end pace i (Going pace told) f h (λ s there wants. elim a [ inl some ↦ inl some | inr e ↦ inr (blank-kept pace told h (Some i) e) ]) a
+
+gone-end : (pace : Pace) (told : Occasion) (k i : ℕ) (f h : Filling) → Gone pace told k h → Gone pace told k (turn_ended pace i f h)
+gone-end pace told k i f h a = by-turn_end pace i (Gone pace told k) f h (λ s there wants. elim a [
+  | inl some ↦ inl some
+  | inr w ↦ inr (
+    blank-kept pace told h (Some i) w.0,
+    λ t at. (
+        let e = w.0 in
+        let told_is = e.told_is in
+        elim (kept-before h.outbox.kept i k (wants-open (occasion pace i h.outbox) s.sender wants)) [
+          | inl same ↦ ap (λ (b : Bool). next wire (record told { barred = b }) t.sender) (sym same) ∙ w.1 t at
+          | inr open' ↦ none-barred told t.sender (is_barred (Some i) k) (ap (λ (b : Bool). next wire (record told { barred = b }) t.sender) (sym open') ∙ w.1 t at)
+        ]),
+  )
+]) a
+
+gone-turn : (pace : Pace) (told : Occasion) (k i : ℕ) (f : Filling) → Gone pace told k f → Gone pace told k (with_channel pace f i)
+gone-turn pace told k i f g =
+    gone-end pace told k i f (repeated (channel_turns f.outbox i) (with_one_data pace i) f) (by-repeated (Gone pace told k) (channel_turns f.outbox i) (with_one_data pace i) (gone-step pace told k i) f g)
 
 order-gone : (pace : Pace) (told : Occasion) (k : ℕ) (order : List ℕ) (f : Filling) → Gone pace told k f → Gone pace told k (with_channels pace order f)
 order-gone pace told k [] f g = g
 order-gone pace told k (i ∷ rest) f g =
-    order-gone pace told k rest (with_channel pace f i) (by-repeated (Gone pace told k) (channel_turns f.outbox i) (with_one_data pace i) (gone-step pace told k i) f g)
+    order-gone pace told k rest (with_channel pace f i) (gone-turn pace told k i f g)
 
 order-reaches : (pace : Pace) (told : Occasion) (k : ℕ) (order : List ℕ) (f : Filling) → Has order k → Going pace told f → Gone pace told k (with_channels pace order f)
 order-reaches pace told k [] f h g = absurd h
 order-reaches pace told k (i ∷ rest) f h (inl filled') = inl (order-filled pace (i ∷ rest) f filled')
 order-reaches pace told k (i ∷ rest) f (inr h) (inr e) =
-    order-reaches pace told k rest (with_channel pace f i) h (by-repeated (Going pace told) (channel_turns f.outbox i) (with_one_data pace i) (going-step pace told i) f (inr e))
+    order-reaches pace told k rest (with_channel pace f i) h (going-turn pace told i f (inr e))
 order-reaches pace told k (i ∷ rest) f (inl same) (inr e) =
-    order-gone pace told k rest (with_channel pace f i) (subst (λ j. Gone pace told k (with_channel pace f j)) (sym same) (drains pace told k (channel_turns f.outbox k) f e turns))
+    order-gone pace told k rest (with_channel pace f i)
+    (subst (λ j. Gone pace told k (with_channel pace f j)) (sym same) (gone-end pace told k k f (repeated (channel_turns f.outbox k) (with_one_data pace k) f) (drains pace told k (channel_turns f.outbox k) f e turns)))
   where
     turns : (s : SendingEnd) → slice_get f.outbox.senders k ≡ Some s → ready_at s.sender ≤ channel_turns f.outbox k
     turns s there =
@@ -421,6 +550,8 @@ nothing-may-go pace o fit none = record {
       drops_unsequenced = λ f u rest t e g. g;
       puts_data = λ f k s n t there due g. g;
       drops_data = λ f k s n t there due kind g. g;
+      keeps_room = λ f i x there wants g. g;
+      gives_room = λ f i x n there due g. g;
     }) (no-answers, no-controls)
 
     -- the first two stages put nothing in
@@ -432,8 +563,8 @@ nothing-may-go pace o fit none = record {
     f3 : Filling
     f3 = with_unsequenced f0
 
-    going : Going pace (occasion pace o) f3
-    going = unsequenced-all pace (occasion pace o) (length o.unsequenced) f0 (record { closed = refl; bytes = refl; commands = refl; fit = fit; told_is = refl; few = omega arith })
+    going : Going pace (told_of pace o) f3
+    going = unsequenced-all pace (told_of pace o) (length o.unsequenced) f0 (record { closed = refl; bytes = refl; commands = refl; fit = sizes-of pace o fit; told_is = refl; few = omega arith })
 
     is : filled pace o ≡ with_channels pace (turn_order o) f3
     is = ap (λ (f : Filling). with_channels pace (turn_order o) (with_unsequenced f)) begins
@@ -441,11 +572,11 @@ nothing-may-go pace o fit none = record {
     empty : Filled (with_channels pace (turn_order o) f3) → ⊥
     empty h = subst (λ (l : List Message). Has l h.0) (ap (λ (f : Filling). f.messages) (sym is) ∙ none) h.1
 
-    gone : (k : ℕ) → k < length o.senders → Blank pace (occasion pace o) 0 (filled pace o) × Done pace (occasion pace o) k (filled pace o)
-    gone k low = subst (λ (f : Filling). Blank pace (occasion pace o) 0 f × Done pace (occasion pace o) k f) (sym is)
-        (by (order-reaches pace (occasion pace o) k (turn_order o) f3 (in-order (unwrap_or (option_map (λ channel. channel + 1) o.last) 0) (length o.senders) k low) going))
+    gone : (k : ℕ) → k < length o.senders → Blank pace (told_of pace o) 0 (filled pace o) × Done pace (told_of pace o) k (filled pace o)
+    gone k low = subst (λ (f : Filling). Blank pace (told_of pace o) 0 f × Done pace (told_of pace o) k f) (sym is)
+        (by (order-reaches pace (told_of pace o) k (turn_order o) f3 (in-order (unwrap_or (option_map (λ channel. channel + 1) o.last) 0) (length o.senders) k low) going))
       where
-        by : Gone pace (occasion pace o) k (with_channels pace (turn_order o) f3) → Blank pace (occasion pace o) 0 (with_channels pace (turn_order o) f3) × Done pace (occasion pace o) k (with_channels pace (turn_order o) f3)
+        by : Gone pace (told_of pace o) k (with_channels pace (turn_order o) f3) → Blank pace (told_of pace o) 0 (with_channels pace (turn_order o) f3) × Done pace (told_of pace o) k (with_channels pace (turn_order o) f3)
         by (inl h) = absurd (empty h)
         by (inr h) = h
 
@@ -459,7 +590,7 @@ nothing-may-go pace o fit none = record {
         alone : filled pace o ≡ f3
         alone = is ∙ ap (λ (l : List SendingEnd). with_channels pace (turn_order (record o { senders = l })) f3) e
 
-        left : Going pace (occasion pace o) f3 → f3.outbox.unsequenced ≡ []
+        left : Going pace (told_of pace o) f3 → f3.outbox.unsequenced ≡ []
         left (inl h) = absurd (empty (order-filled pace (turn_order o) f3 h))
         left (inr b) = nil f3.outbox.unsequenced b.few
     no-unsequenced (x ∷ xs) e = (let g = gone 0 (let z : length o.senders ≡ suc (length xs) = ap (λ (l : List SendingEnd). length l) e in omega arith) in nil (filled pace o).outbox.unsequenced g.0.few)
@@ -473,10 +604,12 @@ nothing-may-go pace o fit none = record {
       drops_unsequenced = λ f u rest t e g. g;
       puts_data = λ f i y n t there due g x h. elim (get-set f.outbox.senders i k (record y { sender = n.sender }) x h) [ inl w ↦ g y (subst (λ j. slice_get f.outbox.senders j ≡ Some y) w.0 there) | inr w ↦ g x w.1 ];
       drops_data = λ f i y n t there due kind g x h. elim (get-set f.outbox.senders i k (record y { sender = with_skipped n.sender }) x h) [ inl w ↦ g y (subst (λ j. slice_get f.outbox.senders j ≡ Some y) w.0 there) | inr w ↦ g x w.1 ];
+      keeps_room = λ f i y there wants g. g;
+      gives_room = λ f i y n there due g. g;
     }) (λ x h. below-length o.senders k x h) s
 
-    channels : (k : ℕ) (s : SendingEnd) → slice_get (filled pace o).outbox.senders k ≡ Some s → next wire (occasion pace (filled pace o).outbox) s.sender ≡ None
+    channels : (k : ℕ) (s : SendingEnd) → slice_get (filled pace o).outbox.senders k ≡ Some s → next wire (occasion pace k (filled pace o).outbox) s.sender ≡ None
     channels k s there =
         let g = gone k (below k s there) in
         let b = g.0 in
-        ap (λ (x : Occasion). next wire x s.sender) b.told_is ∙ g.1 s there
+        ap (λ (x : Occasion). next wire (told_on x (filled pace o).outbox.kept k) s.sender) b.told_is ∙ g.1 s there

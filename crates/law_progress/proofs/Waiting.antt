@@ -202,6 +202,8 @@ each-filled R pace o g all = by-filling pace o (λ f. Each R f.outbox.control.se
   drops_unsequenced = λ f u rest t e h. h;
   puts_data = λ f k s n t there due h. (h.0, each-set R f.outbox.senders k s n.sender there (each-due R _ s.sender n g due (h.1 s (Has-at f.outbox.senders k s there))) h.1);
   drops_data = λ f k s n t there due kind h. (h.0, each-set R f.outbox.senders k s (with_skipped n.sender) there (each-due R _ s.sender n g due (h.1 s (Has-at f.outbox.senders k s there))) h.1);
+  keeps_room = λ f i x there wants h. h;
+  gives_room = λ f i x n there due h. h;
 }) all
 
 -- what a peer keeps of it, with an estimate that stays within 16 bits, and the patience that was set
@@ -407,17 +409,14 @@ fair-left R most p Asks info h = fair-disconnecting R most p info h
 fair-left R most p AsksLater info h = fair-settled R most (record p { state = state.DisconnectLater; info = info }) h
 fair-left R most p Refused info h = h
 
--- by now each goes on as it should, and first went at such a moment
-abbrev pub GoesFrom : (ℕ → Type 0) → ℕ → ℕ → Transmission → Type 0
-GoesFrom Q most now t = (first : ℕ) × Timed first 5000 most now t × Q first
-
+-- by now each goes on as it should
 abbrev pub Goes : ℕ → ℕ → Transmission → Type 0
-Goes = GoesFrom (λ first. Unit {0})
+Goes most now t = (first : ℕ) × Timed first 5000 most now t
 
 sends-on : (most now wait : ℕ) → wait ≤ 5000 → Sends (Goes most now) (now % 2 ^ 32) wait
 sends-on most now wait low = record {
-  first = (now, timed-begun now 5000 wait most low, tt);
-  again = λ t g due. (g.0, timed-again g.0 5000 most now t g.1 due, tt);
+  first = (now, timed-begun now 5000 wait most low);
+  again = λ t g due. (g.0, timed-again g.0 5000 most now t g.1 due);
 }
 
 pub timeout-low : (e : Estimate) → timeout e ≤ 5000
@@ -426,19 +425,20 @@ timeout-low e = least (e.round_trip + 4 * e.variance)
     least : (n : ℕ) → min n 5000 ≤ 5000
     least n = grind arith
 
-fair-deed : (most now : ℕ) (p : Peering) (deed : Deed) → Fair (Goes most now) most p → Fair (Goes most now) most (after_deed (now % 2 ^ 32) p deed)
-fair-deed most now p (Lives (Hears sent m)) h = fair-obeyed (Goes most now) most p (now % 2 ^ 32) sent m h
-fair-deed most now p (Lives PutsOut) h =
+-- what is so of what goes first and of what goes again is so of all that is sent, whatever happens at a peer
+pub fair-deed : (R : Transmission → Type 0) (most now : ℕ) (p : Peering) (deed : Deed) → ((wait : ℕ) → wait ≤ 5000 → Sends R (now % 2 ^ 32) wait) → Fair R most p → Fair R most (after_deed (now % 2 ^ 32) p deed)
+fair-deed R most now p (Lives (Hears sent m)) sends h = fair-obeyed R most p (now % 2 ^ 32) sent m h
+fair-deed R most now p (Lives PutsOut) sends h =
     let f = filled (pace_of p (now % 2 ^ 32)) p.outbox in
-    let all = each-filled (Goes most now) (pace_of p (now % 2 ^ 32)) p.outbox (sends-on most now (timeout p.estimate) (timeout-low p.estimate)) h.0 in
-    fair-went (Goes most now) most (record p { outbox = f.outbox }) p.state (all, h.1, h.2)
-fair-deed most now p (Lives Takes) h = fair-takes (Goes most now) most p h
-fair-deed most now p (Submits channel packet) h = fair-submitted (Goes most now) most p channel packet h
-fair-deed most now p (Leaves leave info) h = fair-left (Goes most now) most p leave info h
+    let all = each-filled R (pace_of p (now % 2 ^ 32)) p.outbox (sends (timeout p.estimate) (timeout-low p.estimate)) h.0 in
+    fair-went R most (record p { outbox = f.outbox }) p.state (all, h.1, h.2)
+fair-deed R most now p (Lives Takes) sends h = fair-takes R most p h
+fair-deed R most now p (Submits channel packet) sends h = fair-submitted R most p channel packet h
+fair-deed R most now p (Leaves leave info) sends h = fair-left R most p leave info h
 
-fair-deeds : (most now : ℕ) (p : Peering) (deeds : List Deed) → Fair (Goes most now) most p → Fair (Goes most now) most (after_deeds (now % 2 ^ 32) p deeds)
-fair-deeds most now p [] h = h
-fair-deeds most now p (deed ∷ deeds) h = fair-deeds most now (after_deed (now % 2 ^ 32) p deed) deeds (fair-deed most now p deed h)
+pub fair-deeds : (R : Transmission → Type 0) (most now : ℕ) (p : Peering) (deeds : List Deed) → ((wait : ℕ) → wait ≤ 5000 → Sends R (now % 2 ^ 32) wait) → Fair R most p → Fair R most (after_deeds (now % 2 ^ 32) p deeds)
+fair-deeds R most now p [] sends h = h
+fair-deeds R most now p (deed ∷ deeds) sends h = fair-deeds R most now (after_deed (now % 2 ^ 32) p deed) deeds sends (fair-deed R most now p deed sends h)
 
 -- a moment comes, nothing being due to go again
 abbrev pub Rests : Transmission → Type 0
@@ -460,22 +460,17 @@ pub patient : (most n heard : ℕ) (pt : Patience) (t : Transmission) → pt.max
 patient most n heard pt t same e late =
     ap (λ m. leb m (elapsed_time n t.first)) (sym same) ∙ (or-both (leb pt.maximum (elapsed_time n t.first)) _ (ap (λ b. b && gives_up pt n heard t) (sym late) ∙ e)).0
 
-pub tick-fair : (Q : ℕ → Type 0) (most before now gap : ℕ) (short : Bool) (p : Peering) → Fair (GoesFrom Q most before) most p → Each Rests p.outbox.control.sent p.outbox.senders → before ≤ now → now ≤ before + gap → 5000 + 2 * most + gap < 2 ^ 32
-    → Fair (GoesFrom Q most now) most (moved short p (now % 2 ^ 32))
-tick-fair Q most before now gap short p h rests up down near = by-moved (λ (x : Peering). Fair (GoesFrom Q most now) most x) short p n tick held
-  where
-    n : ℕ
-    n = now % 2 ^ 32
+-- what was so of what is sent, and what is so of it then, where no command has ended the peer
+pub record Passes (B N : Transmission → Type 0) (p : Peering) (n : ℕ) : Type 0 where
+  pub marks : (t : Transmission) → B t → transmission.ends n p.patience p.heard t ≡ false → N (transmission.marked (tick_of p n) t)
+  pub stays : (t : Transmission) → B t → transmission.ends n p.patience p.heard t ≡ false → N t  -- late or not
+  pub tries : (t : Transmission) → N t → t.due ≡ true → N (transmission.again n t)
 
+pub tick-passes : (B N : Transmission → Type 0) (most : ℕ) (short : Bool) (p : Peering) (n : ℕ) → Passes B N p n → Fair B most p → Fair N most (moved short p n)
+tick-passes B N most short p n g h = by-moved (λ (x : Peering). Fair N most x) short p n tick held
+  where
     tick_is : Tick
     tick_is = tick_of p n
-
-    goes : (t : Transmission) → GoesFrom Q most before t → t.due ≡ false → transmission.ends n p.patience p.heard t ≡ false → GoesFrom Q most now (transmission.marked tick_is t)
-    goes t g waits e = (g.0, timed-marked g.0 5000 most before now tick_is t refl (timeout-low p.estimate) g.1 waits up (let x = g.1 in let y = x.in_time in omega arith) (λ late. patient most n p.heard p.patience t h.2 e late), g.2)
-
-    -- it stays as it is, late or not
-    keeps : (t : Transmission) → GoesFrom Q most before t → t.due ≡ false → transmission.ends n p.patience p.heard t ≡ false → GoesFrom Q most now t
-    keeps t g waits e = (g.0, timed-stays g.0 5000 most before now t g.1 waits up (let x = g.1 in let y = x.in_time in omega arith) (λ late. patient most n p.heard p.patience t h.2 e late), g.2)
 
     ends-controls : Lasting p n → (t : SentControl) → Has p.outbox.control.sent t → transmission.ends n p.patience p.heard t.transmission ≡ false
     ends-controls e t k = none-of (controlling.ends n p.patience p.heard) p.outbox.control.sent t (or-both (list_any (controlling.ends n p.patience p.heard) p.outbox.control.sent) _ e.0).0 k
@@ -485,64 +480,84 @@ tick-fair Q most before now gap short p h rests up down near = by-moved (λ (x :
         none-of (sender.ends n p.patience p.heard) s.sender.sent t
         (none-of (λ (x : SendingEnd). list_any (sender.ends n p.patience p.heard) x.sender.sent) p.outbox.senders s (or-both (list_any (controlling.ends n p.patience p.heard) p.outbox.control.sent) _ e.0).1 k) j
 
-    marks : Lasting p n → Fair (GoesFrom Q most now) most (record p { outbox = outbox.marked p.outbox tick_is })
+    marks : Lasting p n → Fair N most (record p { outbox = outbox.marked p.outbox tick_is })
     marks e = (
       (
         (λ t k. (let c = Has-mapped (controlling.marked tick_is) p.outbox.control.sent t k in
-            subst (λ (x : SentControl). GoesFrom Q most now x.transmission) c.2 (goes c.0.transmission (h.0.0 c.0 c.1) (rests.0 c.0 c.1) (ends-controls e c.0 c.1)))),
+            subst (λ (x : SentControl). N x.transmission) c.2 (g.marks c.0.transmission (h.0.0 c.0 c.1) (ends-controls e c.0 c.1)))),
         (λ s k t j. (let d = Has-mapped (marked_sender tick_is) p.outbox.senders s k in
             let c = Has-mapped (sender.marked tick_is) d.0.sender.sent t (subst (λ (x : SendingEnd). Has x.sender.sent t) (sym d.2) j) in
-            subst (λ (x : Sent). GoesFrom Q most now x.transmission) c.2 (goes c.0.transmission (h.0.1 d.0 d.1 c.0 c.1) (rests.1 d.0 d.1 c.0 c.1) (ends-channels e d.0 d.1 c.0 c.1)))),
+            subst (λ (x : Sent). N x.transmission) c.2 (g.marks c.0.transmission (h.0.1 d.0 d.1 c.0 c.1) (ends-channels e d.0 d.1 c.0 c.1)))),
       ),
       h.1,
       h.2,
     )
 
     -- nothing is marked: all stays as it was
-    still : Lasting p n → Fair (GoesFrom Q most now) most p
-    still e = (((λ t k. keeps t.transmission (h.0.0 t k) (rests.0 t k) (ends-controls e t k)), (λ s k t j. keeps t.transmission (h.0.1 s k t j) (rests.1 s k t j) (ends-channels e s k t j))), h.1, h.2)
+    still : Lasting p n → Fair N most p
+    still e = (((λ t k. g.stays t.transmission (h.0.0 t k) (ends-controls e t k)), (λ s k t j. g.stays t.transmission (h.0.1 s k t j) (ends-channels e s k t j))), h.1, h.2)
 
     -- an answer that is late counts as tried
-    one-held : (t : SentControl) (b : Bool) → transmission.is_late n t.transmission ≡ b → GoesFrom Q most before t.transmission → t.transmission.due ≡ false → transmission.ends n p.patience p.heard t.transmission ≡ false
-        → GoesFrom Q most now (cond b (record t { transmission = transmission.again n (transmission.marked tick_is t.transmission) }) t).transmission
-    one-held t false late g waits e = keeps t.transmission g waits e
-    one-held t true late g waits e =
-        let k = goes t.transmission g waits e in
-        (k.0, timed-again k.0 5000 most now (transmission.marked tick_is t.transmission) k.1 (ap (λ b. (cond b (record t.transmission { timeout = transmission.next_time tick_is t.transmission; due = true }) t.transmission).due) late), k.2)
+    one-held : (t : SentControl) (b : Bool) → transmission.is_late n t.transmission ≡ b → B t.transmission → transmission.ends n p.patience p.heard t.transmission ≡ false
+        → N (cond b (record t { transmission = transmission.again n (transmission.marked tick_is t.transmission) }) t).transmission
+    one-held t false late b e = g.stays t.transmission b e
+    one-held t true late b e = g.tries (transmission.marked tick_is t.transmission) (g.marks t.transmission b e)
+        (ap (λ b. (cond b (record t.transmission { timeout = transmission.next_time tick_is t.transmission; due = true }) t.transmission).due) late)
 
-    held : p.state ≡ state.Answering → Lasting p n → Fair (GoesFrom Q most now) most (held_back p n)
+    held : p.state ≡ state.Answering → Lasting p n → Fair N most (held_back p n)
     held answers e = (
       (
         (λ t k. (let c = Has-mapped (controlling.held_back tick_is) p.outbox.control.sent t k in
-            subst (λ (x : SentControl). GoesFrom Q most now x.transmission) c.2 (one-held c.0 (transmission.is_late n c.0.transmission) refl (h.0.0 c.0 c.1) (rests.0 c.0 c.1) (ends-controls e c.0 c.1)))),
+            subst (λ (x : SentControl). N x.transmission) c.2 (one-held c.0 (transmission.is_late n c.0.transmission) refl (h.0.0 c.0 c.1) (ends-controls e c.0 c.1)))),
         (still e).0.1,
       ),
       h.1,
       h.2,
     )
 
-    cut : (s : PeerState) → Fair (GoesFrom Q most now) most (cut_off_in s p)
-    cut state.Answering = (((λ t k. absurd k), none-cleared (GoesFrom Q most now) p.outbox.senders), h.1, h.2)
-    cut s = (((λ t k. absurd k), none-cleared (GoesFrom Q most now) p.outbox.senders), h.1, h.2)
+    cut : (s : PeerState) → Fair N most (cut_off_in s p)
+    cut state.Answering = (((λ t k. absurd k), none-cleared N p.outbox.senders), h.1, h.2)
+    cut s = (((λ t k. absurd k), none-cleared N p.outbox.senders), h.1, h.2)
 
-    pings : (q : Peering) → Fair (GoesFrom Q most now) most q → Fair (GoesFrom Q most now) most (pinged q n)
+    pings : (q : Peering) → Fair N most q → Fair N most (pinged q n)
     pings q k = by (is_pinged q n)
       where
-        by : (b : Bool) → Fair (GoesFrom Q most now) most (cond b (record q { outbox = outbox.with_control q.outbox control.Ping }) q)
+        by : (b : Bool) → Fair N most (cond b (record q { outbox = outbox.with_control q.outbox control.Ping }) q)
         by true = k
         by false = k
 
-    tick : Fair (GoesFrom Q most now) most (ticked p n)
-    tick = by-expiry (λ (e : Expiry). Fair (GoesFrom Q most now) most (pinged (after_timeouts_by e p n) n)) p n
+    tick : Fair N most (ticked p n)
+    tick = by-expiry (λ (e : Expiry). Fair N most (pinged (after_timeouts_by e p n) n)) p n
         (pings (cut_off_in p.state p) (cut p.state)) (λ e f. pings (record p { outbox = outbox.marked p.outbox tick_is }) (marks e)) (λ e f. pings p (still e))
+
+tick-fair : (most before now gap : ℕ) (short : Bool) (p : Peering) → Fair (Goes most before) most p → Each Rests p.outbox.control.sent p.outbox.senders → before ≤ now → now ≤ before + gap → 5000 + 2 * most + gap < 2 ^ 32
+    → Fair (Goes most now) most (moved short p (now % 2 ^ 32))
+tick-fair most before now gap short p h rests up down near = tick-passes Waited (Goes most now) most short p n passes
+    (((λ t k. (h.0.0 t k, rests.0 t k)), (λ s k t j. (h.0.1 s k t j, rests.1 s k t j))), h.1, h.2)
+  where
+    n : ℕ
+    n = now % 2 ^ 32
+
+    Waited : Transmission → Type 0
+    Waited t = (g : Goes most before t) × Rests t
+
+    soon : (t : Transmission) → (g : Goes most before t) → now < g.0 + 2 ^ 32
+    soon t g = let x = g.1 in let y = x.in_time in omega arith
+
+    passes : Passes Waited (Goes most now) p n
+    passes = record {
+      marks = λ t b e. (b.0.0, timed-marked b.0.0 5000 most before now (tick_of p n) t refl (timeout-low p.estimate) b.0.1 b.1 up (soon t b.0) (λ late. patient most n p.heard p.patience t h.2 e late));
+      stays = λ t b e. (b.0.0, timed-stays b.0.0 5000 most before now t b.0.1 b.1 up (soon t b.0) (λ late. patient most n p.heard p.patience t h.2 e late));
+      tries = λ t b due. (b.0, timed-again b.0 5000 most now t b.1 due);
+    }
 
 -- moment after moment
 abbrev pub Ready : ℕ → ℕ → Peering → Type 0
 Ready most now q = Fair (Goes most now) most q × Each Rests q.outbox.control.sent q.outbox.senders
 
-moment-ready : (most before now gap : ℕ) (p q : Peering) → Ready most before p → before ≤ now → now ≤ before + gap → 5000 + 2 * most + gap < 2 ^ 32 → RoomyMoment now p q → Ready most now q
+pub moment-ready : (most before now gap : ℕ) (p q : Peering) → Ready most before p → before ≤ now → now ≤ before + gap → 5000 + 2 * most + gap < 2 ^ 32 → RoomyMoment now p q → Ready most now q
 moment-ready most before now gap p q r up down near m = (
-  (let one = m.moment in subst (λ (x : Peering). Fair (Goes most now) most x) (sym one.after) (fair-deeds most now (moved one.short p (now % 2 ^ 32)) one.deeds (tick-fair (λ first. Unit {0}) most before now gap one.short p r.0 r.1 up down near))),
+  (let one = m.moment in subst (λ (x : Peering). Fair (Goes most now) most x) (sym one.after) (fair-deeds (Goes most now) most now (moved one.short p (now % 2 ^ 32)) one.deeds (sends-on most now) (tick-fair most before now gap one.short p r.0 r.1 up down near))),
   rest-of q.outbox m.resent,
 )
 

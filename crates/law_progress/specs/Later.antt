@@ -6,7 +6,7 @@ use Rattle.enet_peer.specs.declared.parts.PeerState.TheVariants as state
 use Rattle.enet_peer.specs.Peering.{Peering}
 use Rattle.enet_peer.specs.Calls.{moved}
 use Rattle.law_progress.specs.Attempts.{Step, after_step, Turns, last_of, IsTold}
-use Rattle.law_progress.specs.Waits.{RoomyMoments}
+use Rattle.law_progress.specs.Waits.{RoomyBefore}
 
 -- how many commands wait to go for the first time
 abbrev pub queued_over : List SendingEnd → ℕ
@@ -32,13 +32,14 @@ still_to_do o = 2 * still_to_go o + still_to_come o
 abbrev pub longest_wait : Peering → ℕ
 longest_wait p = 5000 + 2 * p.patience.maximum
 
--- where this peer has come, after any moments at whose end nothing was due, to be one that is to disconnect later, it stays so for at most the longest wait and the gap,
--- for each command that is still to go, for each that is still to be acknowledged, and once more; if all that is less than some 49 days,
--- with once more: what stays due for longer, since others take its room, looks as if it first went later
+-- where this peer has come, after any moments, to be one that is to disconnect later, it stays so for at most the longest wait and the gap, for
+-- each command that is still to go, for each that is still to be acknowledged, and once more. All that, with once more, is over less than some
+-- 49 days after a moment `since`, and nothing was due at the end of a moment before that: of what is due for longer the 32 bits of a clock may
+-- not tell how long ago it first went
 abbrev pub DisconnectsLater : Peering → Type 0
-DisconnectsLater p = (gap now : ℕ) (moments : List ℕ) (q : Peering) (next : ℕ) (later : List ℕ) (r : Peering) → (still_to_do q.outbox + 2) * (longest_wait p + gap) < 2 ^ 32 → RoomyMoments gap now p moments q
-    → last_of now moments ≤ next → next ≤ last_of now moments + gap → Turns state.DisconnectLater gap next q later r
-    → last_of next later ≤ next + (still_to_do q.outbox + 1) * (longest_wait p + gap)
+DisconnectsLater p = (since gap now : ℕ) (moments : List ℕ) (q : Peering) (next : ℕ) (later : List ℕ) (r : Peering) → RoomyBefore since gap now p moments q
+    → last_of now moments ≤ next → next ≤ last_of now moments + gap → since ≤ next → next + (still_to_do q.outbox + 2) * (longest_wait p + gap) < since + 2 ^ 32
+    → Turns state.DisconnectLater gap next q later r → last_of next later ≤ next + (still_to_do q.outbox + 1) * (longest_wait p + gap)
 
 -- it has asked for the end, or has the other end's request for it to acknowledge
 abbrev pub IsLeaving : Peering → Type 0

@@ -15,6 +15,7 @@ use Rattle.enet_outbox.specs.declared.parts.Acknowledgement.{Acknowledgement}
 use Rattle.enet_outbox.specs.declared.parts.Pace.{Pace}
 use Rattle.enet_outbox.specs.declared.parts.Unsequenced.{Unsequenced}
 use Rattle.enet_outbox.specs.Outbox.{Outbox}
+use Rattle.enet_outbox.specs.Room.{RoomIsAwaited}
 use Rattle.enet_outbox.specs.Emission.{Filling, acknowledgement_of, filled, occasion}
 use Rattle.enet_receiver.specs.Members.{Has}
 
@@ -24,9 +25,10 @@ pub record AreFit (pace : Pace) (o : Outbox) : Type 0 where
   pub unsequenced : (u : Unsequenced) → Has o.unsequenced u → length u.body + 28 ≤ pace.mtu
   pub queued : (i : ℕ) (s : SendingEnd) → slice_get o.senders i ≡ Some s → (c : DataCommand) → Has s.sender.queued c → length c.body + 28 ≤ pace.mtu
 
--- so does each command that was sent and may have to go again
+-- so does each command that was sent and may have to go again; and the room in transit is kept for no channel of which nothing may wait for it
 pub record AllFit (pace : Pace) (o : Outbox) : Type 0 where
   pub fit : AreFit pace o
+  pub awaited : RoomIsAwaited o
   pub sent : (i : ℕ) (s : SendingEnd) → slice_get o.senders i ≡ Some s → (p : Sent) → Has s.sender.sent p → length p.command.body + 28 ≤ pace.mtu
 
 -- nothing waits for its acknowledgement on any channel
@@ -56,7 +58,7 @@ pub record NothingMayGo (pace : Pace) (o : Outbox) : Type 0 where
   pub acknowledgements : o.acknowledgements ≡ []
   pub controls : controlling.next pace.now pace.timeout o.control ≡ None
   pub unsequenced : o.unsequenced ≡ []
-  pub channels : (i : ℕ) (s : SendingEnd) → slice_get o.senders i ≡ Some s → next wire (occasion pace o) s.sender ≡ None
+  pub channels : (i : ℕ) (s : SendingEnd) → slice_get o.senders i ≡ Some s → next wire (occasion pace i o) s.sender ≡ None
 
 -- a data command is in transit: it was sent, and waits for its acknowledgement, and isn't due to go again
 abbrev pub IsInTransit : List SendingEnd → Type 0

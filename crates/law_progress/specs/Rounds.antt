@@ -51,6 +51,7 @@ pub record IsSpent (v : WireLink) : Type 0 where
   pub occasion : Occasion
   pub transit : occasion.transit ≡ bytes_in_transit v.outgoing
   pub prices : occasion.prices ≡ prices_in_transit v.outgoing
+  pub free : occasion.barred ≡ false
   pub queued : (c : DataCommand) → Has v.outgoing.queued c → IsEnoughFor occasion c
   pub sent : (p : Sent) → Has v.outgoing.sent p → IsEnoughFor occasion p.command
   pub spent : next wire occasion v.outgoing ≡ None

@@ -1,6 +1,6 @@
 -- How long a command waits for its acknowledgement, whatever comes and whatever the user does, settings apart. Times are in milliseconds,
 -- as in Attempts.
-use Rattle.std.specs.Prelude.{◌≡◌, ℕ, ◌+◌, ◌*◌, ◌%◌, ◌^◌, ◌<◌, ◌≤◌, ◌||◌, Bool, false, List, [], ◌∷◌, Option, Some, None}
+use Rattle.std.specs.Prelude.{◌≡◌, ℕ, ◌+◌, ◌*◌, ◌%◌, ◌^◌, ◌<◌, ◌≤◌, ◌||◌, ◌⊎◌, Bool, false, List, [], ◌∷◌, Option, Some, None}
 use Rattle.std.specs.List.{list_any}
 use Rattle.enet_rtt.specs.Clock.{elapsed_time}
 use Rattle.enet_senders.specs.declared.control.SentControl.{SentControl}
@@ -55,6 +55,11 @@ pub record RoomyMoment (now : ℕ) (p q : Peering) : Type 0 where
 abbrev pub RoomyMoments : ℕ → ℕ → Peering → List ℕ → Peering → Type 0
 RoomyMoments gap now p [] q = RoomyMoment now p q
 RoomyMoments gap now p (next ∷ later) q = (r : Peering) × RoomyMoment now p r × (now ≤ next) × (next ≤ now + gap) × RoomyMoments gap next r later q
+
+-- moments, of which this is so at those before `since`
+abbrev pub RoomyBefore : (since gap now : ℕ) → Peering → List ℕ → Peering → Type 0
+RoomyBefore since gap now p [] q = Moment now p q × ((since ≤ now) ⊎ (has_due q.outbox ≡ false))
+RoomyBefore since gap now p (next ∷ later) q = (r : Peering) × Moment now p r × ((since ≤ now) ⊎ (has_due r.outbox ≡ false)) × (now ≤ next) × (next ≤ now + gap) × RoomyBefore since gap next r later q
 
 -- each command that waits for its acknowledgement first went no longer ago than its timeout and `most` together
 pub record WaitAtMost (most now : ℕ) (o : Outbox) : Type 0 where

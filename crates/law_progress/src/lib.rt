@@ -53,7 +53,7 @@ ghost use Rattle.law_connection.specs.WireLink.{WireLink};
 ghost use Rattle.law_connection.specs.Connection.{Put, End, Connection};
 ghost use Rattle.law_connection.specs.Invariant.{Invariant};
 ghost use Rattle.law_progress.specs.Links.{Waits, AreShort, AllDispatched, IsUp, AreTimed, GetsThrough, outstanding};
-ghost use Rattle.law_progress.specs.Outboxes.{AreFit, AllFit, NothingMayGo, WaitsForSome, GoOrStay, IsPutOut, AreQuiet, HasNew, AreSome, IsSpent, ready};
+ghost use Rattle.law_progress.specs.Outboxes.{AllFit, NothingMayGo, WaitsForSome, GoOrStay, IsPutOut, AreQuiet, HasNew, AreSome, IsSpent, ready};
 ghost use Rattle.law_progress.specs.Peers.{Awaits, Comes, IsAnswered, IsRemoved, IsHeard, IsTakenAway, TakesIn, WentThen, ControlWentThen};
 ghost use Rattle.law_progress.specs.Counts.{LastCounts, CountsAsBefore};
 ghost use Rattle.law_progress.specs.Settled.{IsSettled};
@@ -107,7 +107,8 @@ pub fn rounds_get_through()
 /// All that a peer sends, whatever its throttle, windows and transit limit are.
 ///
 /// `data`: where a reliable command is queued on some channel and nothing waits for its acknowledgement on any, the next datagram has a
-/// command, if each that is queued fits a datagram. `acknowledgements`: the one that has waited longest goes with the next datagram, and no
+/// command, if each that is queued fits a datagram, and the room in transit is kept for no channel of which nothing may wait for it, as
+/// `all_that_waits_fits` has it of each peer. `acknowledgements`: the one that has waited longest goes with the next datagram, and no
 /// new one comes to wait. `ends`: a datagram with a command leaves less that is ready to go, so putting out all at one moment comes to an
 /// end. `spent`: then no acknowledgement waits, and no command of channel 0xFF is due or may go. `rests`: nor on any channel, once the
 /// datagram was asked for that had no command, which may drop unreliable packets, and no unsequenced packet waits, if all fits datagrams.
@@ -117,7 +118,7 @@ pub fn rounds_get_through()
 /// acknowledgements that waited and reliable commands that were due to go again were put out; but a data command may be due still, as it
 /// was, while others are in transit.
 pub fn nothing_is_held_back()
-    ensures data { (pace : Pace) (o : Outbox) (channel : ℕ) → AreFit pace o → AreQuiet o.senders → HasNew o.senders channel → AreSome (filled pace o).messages }
+    ensures data { (pace : Pace) (o : Outbox) (channel : ℕ) → AllFit pace o → AreQuiet o.senders → HasNew o.senders channel → AreSome (filled pace o).messages }
     ensures acknowledgements { (pace : Pace) (o : Outbox) (a : Acknowledgement) (rest : List Acknowledgement) → 576 ≤ pace.mtu → o.acknowledgements ≡ a ∷ rest
         → Has (filled pace o).messages (acknowledgement_of a) × (length (filled pace o).outbox.acknowledgements ≤ length rest) }
     ensures ends { (pace : Pace) (o : Outbox) → AreSome (filled pace o).messages → ready (filled pace o).outbox < ready o }
@@ -243,11 +244,12 @@ pub fn all_that_waits_fits()
 ///
 /// It stays so for no longer than its timeouts, the greatest patience and the gap between two moments of its clock allow: 5 seconds, twice
 /// that patience and the gap, for each command that was still to go for the first time, for each that was still to be acknowledged, of
-/// these and of those that were sent, and once more; if all that and once more is less than some 49 days. (What is due to go again waits
-/// for room, in which others may be acknowledged: each time that one goes or is acknowledged it may wait as long.) Then it was done and asked
-/// for the end, which `every_attempt_ends` bounds, or the other end did, or its patience was over. So of a peer that was connected from the
-/// start (`joined`), of a client that asked (`connecting`), each with an mtu of at most 4,096, and of a server that answered
-/// (`answering`), whatever came and whatever its user did before, settings apart, if nothing was due at the end of a moment by then.
+/// these and of those that were sent, and once more. (What is due to go again waits for room, in which others may be acknowledged: each time
+/// that one goes or is acknowledged it may wait as long.) Then it was done and asked for the end, which `every_attempt_ends` bounds, or the
+/// other end did, or its patience was over. So of a peer that was connected from the start (`joined`), of a client that asked
+/// (`connecting`), each with an mtu of at most 4,096, and of a server that answered (`answering`), whatever came and whatever its user did
+/// before, settings apart, and however long what was due waited for room: if all that, and once more, is over less than some 49 days after
+/// the peer's first moment, or after any before which nothing was ever due at the end of a moment (`RoomyBefore`).
 /// `told`: it ceases to be so only where it has asked for the end, or has to acknowledge that the other end did, or its user has an event to
 /// take, or it is free.
 pub fn no_leave_is_put_off()

@@ -1,15 +1,14 @@
-use Rattle.law_progress.proofs.SomethingGoes as going
 use Rattle.law_progress.proofs.AcknowledgementsGo as acknowledging
 use Rattle.law_progress.proofs.PutsOut.{less-ready}
 use Rattle.law_progress.proofs.NothingLeft.{nothing-left}
 use Rattle.law_progress.proofs.Spent.{nothing-may-go}
-use Rattle.law_progress.proofs.Blocked.{done-or-waits}
+use Rattle.law_progress.proofs.Blocked.{done-or-waits, something-goes}
 use Rattle.law_progress.proofs.Kept.{go-or-stay}
 use Rattle.law_progress.proofs.AllOut.{puts-out-all}
 use Rattle.law_progress.proofs.nothing_is_held_back.Goals as goal
 
 pub returns-clause-data : goal.returns-clause-data
-returns-clause-data c = going.something-goes
+returns-clause-data c = something-goes
 
 pub returns-clause-acknowledgements : goal.returns-clause-acknowledgements
 returns-clause-acknowledgements c = acknowledging.acknowledgement-goes
