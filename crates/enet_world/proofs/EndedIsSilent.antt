@@ -100,6 +100,8 @@ fills-none pace o h = by-filling pace o (λ f. FillsNone f.messages f.outbox) (r
   drops_unsequenced = λ f u rest t e k. absurd (let z : u ∷ rest ≡ [] = sym e ∙ k.left.unsequenced in cc);
   puts_data = λ f i s n t there due k. absurd (let x = empty-at f.outbox.senders i s k.left.senders there in let y = none-due _ s.sender x.1 x.0 in let z : Some n ≡ None = sym due ∙ y in cc);
   drops_data = λ f i s n t there due kind k. absurd (let x = empty-at f.outbox.senders i s k.left.senders there in let y = none-due _ s.sender x.1 x.0 in let z : Some n ≡ None = sym due ∙ y in cc);
+  keeps_room = λ f i x there wants k. record { none = k.none; left = record { acknowledgements = k.left.acknowledgements; unsequenced = k.left.unsequenced; queued = k.left.queued; sent = k.left.sent; senders = k.left.senders } };
+  gives_room = λ f i x n there due k. record { none = k.none; left = record { acknowledgements = k.left.acknowledgements; unsequenced = k.left.unsequenced; queued = k.left.queued; sent = k.left.sent; senders = k.left.senders } };
 }) (record { none = refl; left = h })
 
 -- ---- so it is of a peer, where it has ended

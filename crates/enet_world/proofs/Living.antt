@@ -7,6 +7,7 @@ use Rattle.enet_codec.specs.Config.{is_in_range}
 use Rattle.enet_codec.specs.declared.event.PeerRef.{PeerRef}
 use Rattle.enet_senders.specs.declared.control.Control.TheVariants as control
 use Rattle.enet_outbox.specs.Outbox.{with_control}
+use Rattle.enet_outbox.proofs.Rooms.{awaited-filled}
 use Rattle.enet_outbox.specs.Emission.{filled}
 use Rattle.enet_peer.specs.Peering.{Peering}
 use Rattle.enet_peer.specs.Peering as peers
@@ -104,7 +105,7 @@ fits-lasts : Lasts Fits
 fits-lasts = record {
   submits = λ p channel q free f. fits-submitted p channel q f;
   emits = λ p now f. (let o = (filled (pace_of p now) p.outbox).outbox in
-      fits-went (record p { outbox = o }) p.state (record { mtu = f.mtu; small = small-filled (room_of p.terms.mtu) (pace_of p now) p.outbox f.small }));
+      fits-went (record p { outbox = o }) p.state (record { mtu = f.mtu; small = small-filled (room_of p.terms.mtu) (pace_of p now) p.outbox f.small; awaited = awaited-filled (pace_of p now) p.outbox f.awaited }));
   comes = λ p now sent m f. fits-obeyed p now sent m f;
   ticks = λ short p now f. fits-moved short p now f;
   takes = λ p q e next f. subst (λ t. Fits (after_take p t)) next (fits-takes p f);
@@ -119,12 +120,12 @@ fits-lasts = record {
         after b = record p { limits = record p.limits { incoming = incoming; outgoing = outgoing }; outbox = cond b (with_control p.outbox (control.BandwidthLimit incoming outgoing)) p.outbox }
 
         told : (b : Bool) → Fits (after b)
-        told true = fits-same p (after true) f refl refl refl
-        told false = fits-same p (after false) f refl refl refl
-    set p (event.Throttle interval acceleration deceleration) f = fits-same p (event.with_setting (event.Throttle interval acceleration deceleration) p) f refl refl refl
-    set p (event.ThrottleLimit limit) f = fits-same p (event.with_setting (event.ThrottleLimit limit) p) f refl refl refl
-    set p (event.PingInterval ms) f = fits-same p (event.with_setting (event.PingInterval ms) p) f refl refl refl
-    set p (event.Timeout limit minimum maximum) f = fits-same p (event.with_setting (event.Timeout limit minimum maximum) p) f refl refl refl
+        told true = fits-same p (after true) f refl refl refl refl
+        told false = fits-same p (after false) f refl refl refl refl
+    set p (event.Throttle interval acceleration deceleration) f = fits-same p (event.with_setting (event.Throttle interval acceleration deceleration) p) f refl refl refl refl
+    set p (event.ThrottleLimit limit) f = fits-same p (event.with_setting (event.ThrottleLimit limit) p) f refl refl refl refl
+    set p (event.PingInterval ms) f = fits-same p (event.with_setting (event.PingInterval ms) p) f refl refl refl refl
+    set p (event.Timeout limit minimum maximum) f = fits-same p (event.with_setting (event.Timeout limit minimum maximum) p) f refl refl refl refl
 
 pub named-fits : (joined : Bool) (w : World) → IsReached joined w → (side : Side) (name : PeerRef) (p : Peering) → named (site_of w side).host.slots name ≡ Some p → Fits p
 named-fits = named-has Fits fits-lasts (record {

@@ -207,6 +207,8 @@ filled-all C P pace b goes acknowledges unsequenced data' begins = let a = all i
       drops_unsequenced = λ f u rest t e a. record { control = a.control; messages = a.messages };
       puts_data = λ f k s n t there due a. record { control = a.control; messages = one-more P f.messages (fragment.message_of s.channel n.command) a.messages (data' s.channel n.command) };
       drops_data = λ f k s n t there due kind a. record { control = a.control; messages = a.messages };
+      keeps_room = λ f i x there wants a. record { control = a.control; messages = a.messages };
+      gives_room = λ f i x n there due a. record { control = a.control; messages = a.messages };
     }) (record { control = begins; messages = λ m h. absurd h })
 
 -- so no datagram of it has a CONNECT

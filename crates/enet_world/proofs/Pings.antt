@@ -189,6 +189,8 @@ filled-lone f pace o h = by-filling pace o (λ x. IsLone f x.outbox.control) (re
   drops_unsequenced = λ x u rest t e k. k;
   puts_data = λ x j s n t there due k. k;
   drops_data = λ x j s n t there due kind k. k;
+  keeps_room = λ x j s there wants k. k;
+  gives_room = λ x j s n there due k. k;
 }) h
 
 -- ---- a command that came is acknowledged, perhaps

@@ -125,6 +125,8 @@ still-filled R pace o again some = by-filling pace o (λ f. StillWaits R f.outbo
   drops_unsequenced = λ f u rest t e h. h;
   puts_data = λ f k s n t there due h. elim h [ inl c ↦ inl c | inr d ↦ inr (end-set R f.outbox.senders k s n.sender there (data-next R _ s.sender n again due) d) ];
   drops_data = λ f k s n t there due kind h. elim h [ inl c ↦ inl c | inr d ↦ inr (end-set R f.outbox.senders k s (with_skipped n.sender) there (data-next R _ s.sender n again due) d) ];
+  keeps_room = λ f i x there wants h. h;
+  gives_room = λ f i x n there due h. h;
 }) some
 
 -- time goes on
@@ -200,6 +202,8 @@ controlled-filled pace o has = by-filling pace o (λ f. HasControl f.outbox.cont
   drops_unsequenced = λ f u rest t e h. h;
   puts_data = λ f k s n t there due h. h;
   drops_data = λ f k s n t there due kind h. h;
+  keeps_room = λ f i x there wants h. h;
+  gives_room = λ f i x n there due h. h;
 }) has
 
 none-of : {X : Type 0} (xs : List X) (x : X) → (length xs == 0) ≡ true → Has xs x → ⊥

@@ -73,6 +73,8 @@ pinged-from pace o t h = (let all = made in all.from t h)
       drops_unsequenced = λ f u rest t' e k. record { from = k.from };
       puts_data = λ f i s n t' there due k. record { from = λ x j. later f _ x (k.from x j) };
       drops_data = λ f i s n t' there due kind k. record { from = k.from };
+      keeps_room = λ f i x there wants k. record { from = k.from };
+      gives_room = λ f i x n there due k. record { from = k.from };
     }) (record { from = λ x j. inl j })
 
 sent-lone : (f : Control → Bool) (c : controlling.Commands) → IsLone f c → (t : SentControl) → Has c.sent t → f t.command.control ≡ true
@@ -112,6 +114,8 @@ controls-filled R pace o sends all = by-filling pace o (λ (f : Filling). (t : S
   drops_unsequenced = λ f u rest t' e k. k;
   puts_data = λ f i s n t' there due k. k;
   drops_data = λ f i s n t' there due kind k. k;
+  keeps_room = λ f i x there wants k. k;
+  gives_room = λ f i x n there due k. k;
 }) all
 
 pub puts-controls : (R : Transmission → Type 0) (now there n : ℕ) (from to from' to' : End) (p : Peering) → PutsMany now there n from to from' to' → from.peer ≡ Some p → p.state ≡ state.Connected → ((wait : ℕ) → Sends R now wait)
@@ -133,8 +137,10 @@ channels-filled R pace o sends all = by-filling pace o (λ (f : Filling). OnChan
   controls = λ f n e k. k;
   puts_unsequenced = λ f u rest t' e k. k;
   drops_unsequenced = λ f u rest t' e k. k;
-  puts_data = λ f i s n t' there due k. each-set R f.outbox.senders i s n.sender there (each-due R (occasion pace f.outbox) s.sender n sends due (k s (Has-at f.outbox.senders i s there))) k;
-  drops_data = λ f i s n t' there due kind k. each-set R f.outbox.senders i s (with_skipped n.sender) there (each-due R (occasion pace f.outbox) s.sender n sends due (k s (Has-at f.outbox.senders i s there))) k;
+  puts_data = λ f i s n t' there due k. each-set R f.outbox.senders i s n.sender there (each-due R (occasion pace i f.outbox) s.sender n sends due (k s (Has-at f.outbox.senders i s there))) k;
+  drops_data = λ f i s n t' there due kind k. each-set R f.outbox.senders i s (with_skipped n.sender) there (each-due R (occasion pace i f.outbox) s.sender n sends due (k s (Has-at f.outbox.senders i s there))) k;
+  keeps_room = λ f i x there wants k. k;
+  gives_room = λ f i x n there due k. k;
 }) all
 
 pub puts-channels : (R : Transmission → Type 0) (now there n : ℕ) (from to from' to' : End) (p : Peering) → PutsMany now there n from to from' to' → from.peer ≡ Some p → p.state ≡ state.Connected → ((wait : ℕ) → Sends R now wait)

@@ -418,9 +418,11 @@ few-filled most pace o few = by-filling pace o (λ (f : Filling). Fewer most f.o
   controls = λ f n e h. h;
   puts_unsequenced = λ f u rest t e h. h;
   drops_unsequenced = λ f u rest t e h. h;
-  puts_data = λ f k s n t there due h. few-set most f.outbox.senders k s n.sender there (queue-next (occasion pace f.outbox) s.sender n (goes-of (occasion pace f.outbox) s.sender n due)) h;
+  puts_data = λ f k s n t there due h. few-set most f.outbox.senders k s n.sender there (queue-next (occasion pace k f.outbox) s.sender n (goes-of (occasion pace k f.outbox) s.sender n due)) h;
   drops_data = λ f k s n t there due kind h. few-set most f.outbox.senders k s (with_skipped n.sender) there
-      (let a = queue-next (occasion pace f.outbox) s.sender n (goes-of (occasion pace f.outbox) s.sender n due) in let b = skipped-length n.sender.queued in omega arith) h;
+      (let a = queue-next (occasion pace k f.outbox) s.sender n (goes-of (occasion pace k f.outbox) s.sender n due) in let b = skipped-length n.sender.queued in omega arith) h;
+  keeps_room = λ f i x there wants h. h;
+  gives_room = λ f i x n there due h. h;
 }) few
 
 -- ---- a datagram is filled while nothing comes: all that was sent first went by a moment, or less is queued than then
@@ -450,9 +452,11 @@ so-far since now time left pace o same low some = by-filling pace o (λ (f : Fil
   controls = λ f n e h. told f n h (goes-control pace.now pace.timeout f.outbox.control n e);
   puts_unsequenced = λ f u rest t e h. record { controls = h.controls; all = h.all; either = h.either };
   drops_unsequenced = λ f u rest t e h. record { controls = h.controls; all = h.all; either = h.either };
-  puts_data = λ f k s n t there due h. (let y = put f k s n n.sender there h (goes-of (occasion pace f.outbox) s.sender n due) (omega arith) (λ x j. j) in record { controls = y.controls; all = y.all; either = y.either });
-  drops_data = λ f k s n t there due kind h. (let y = put f k s n (with_skipped n.sender) there h (goes-of (occasion pace f.outbox) s.sender n due) (skipped-length n.sender.queued) (λ x j. j) in
+  puts_data = λ f k s n t there due h. (let y = put f k s n n.sender there h (goes-of (occasion pace k f.outbox) s.sender n due) (omega arith) (λ x j. j) in record { controls = y.controls; all = y.all; either = y.either });
+  drops_data = λ f k s n t there due kind h. (let y = put f k s n (with_skipped n.sender) there h (goes-of (occasion pace k f.outbox) s.sender n due) (skipped-length n.sender.queued) (λ x j. j) in
       record { controls = y.controls; all = y.all; either = y.either });
+  keeps_room = λ f i x there wants h. record { controls = h.controls; all = h.all; either = h.either };
+  gives_room = λ f i x n there due h. record { controls = h.controls; all = h.all; either = h.either };
 }) some
   where
     sends : Sends (Aged now time) pace.now pace.timeout
@@ -476,7 +480,7 @@ so-far since now time left pace o same low some = by-filling pace o (λ (f : Fil
     })
 
     -- the sender of a channel after it, perhaps without the rest of an unreliable packet
-    put : (f : Filling) (k : ℕ) (s : SendingEnd) (n : Next) (new : Sender) → slice_get f.outbox.senders k ≡ Some s → SoFar since now time left f.outbox → SpentGoes (occasion pace f.outbox) s.sender n → length new.queued ≤ length n.sender.queued
+    put : (f : Filling) (k : ℕ) (s : SendingEnd) (n : Next) (new : Sender) → slice_get f.outbox.senders k ≡ Some s → SoFar since now time left f.outbox → SpentGoes (occasion pace k f.outbox) s.sender n → length new.queued ≤ length n.sender.queued
         → ((x : Sent) → Has new.sent x → Has n.sender.sent x) → SoFar since now time left (record f.outbox { senders = slice_set f.outbox.senders k (record s { sender = new }) })
     put f k s n new there h goes less sent = record {
       controls = h.controls;
@@ -487,7 +491,7 @@ so-far since now time left pace o same low some = by-filling pace o (λ (f : Fil
         out : List SendingEnd
         out = slice_set f.outbox.senders k (record s { sender = new })
 
-        each-due' : SpentGoes (occasion pace f.outbox) s.sender n → (x : Sent) → Has n.sender.sent x → Aged now time x.transmission
+        each-due' : SpentGoes (occasion pace k f.outbox) s.sender n → (x : Sent) → Has n.sender.sent x → Aged now time x.transmission
         each-due' (First c rest q may is) x j = first c.reliable (subst (λ (y : Next). Has y.sender.sent x) (sym is) j)
           where
             first : (b : Bool) → Has (cond b (s.sender.sent ++ sender.begun pace.now pace.timeout c ∷ []) s.sender.sent) x → Aged now time x.transmission
@@ -502,7 +506,7 @@ so-far since now time left pace o same low some = by-filling pace o (λ (f : Fil
         count : queued_over out + length s.sender.queued ≡ queued_over f.outbox.senders + length new.queued
         count = queued-set f.outbox.senders k s (record s { sender = new }) there
 
-        by : SpentGoes (occasion pace f.outbox) s.sender n → (Each (Early since now time) f.outbox.control.sent f.outbox.senders × (queued_over f.outbox.senders ≤ left)) ⊎ (queued_over f.outbox.senders + 1 ≤ left)
+        by : SpentGoes (occasion pace k f.outbox) s.sender n → (Each (Early since now time) f.outbox.control.sent f.outbox.senders × (queued_over f.outbox.senders ≤ left)) ⊎ (queued_over f.outbox.senders + 1 ≤ left)
             → (Each (Early since now time) f.outbox.control.sent out × (queued_over out ≤ left)) ⊎ (queued_over out + 1 ≤ left)
         by (First c rest q may is) e =
             let shorter : length n.sender.queued ≡ length rest = ap (λ (x : Next). length x.sender.queued) (sym is) in

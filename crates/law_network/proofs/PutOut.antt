@@ -37,4 +37,6 @@ plain-filled pace o = let a = all in a.messages
       drops_unsequenced = λ f u rest t e a. record { messages = a.messages };
       puts_data = λ f k s n t there due a. record { messages = more f.messages (message_of s.channel n.command) a.messages (λ t. absurd (no-control n.command.reliable n.command.fragment n.command.unreliable n.command.body t)) };
       drops_data = λ f k s n t there due kind a. record { messages = a.messages };
+      keeps_room = λ f i x there wants a. record { messages = a.messages };
+      gives_room = λ f i x n there due a. record { messages = a.messages };
     }) (record { messages = λ m h. absurd h })

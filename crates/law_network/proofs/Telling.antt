@@ -39,9 +39,9 @@ use Rattle.law_network.specs.Falling.{deeds_if}
 use Rattle.law_network.specs.Lateness.{has_late}
 use Rattle.law_network.specs.Log.{Logged, greatest_at}
 use Rattle.law_network.specs.Network.{HostEnd, Site, is_same_name, with_end, numbers_in, numbers_of, is_earlier, is_late}
-use Rattle.law_network.specs.Shown.{IsLogged, Shows, ShowsPeer, ShowsFar, RunsAt}
+use Rattle.law_network.specs.Shown.{Shows, ShowsPeer, RunsAt}
 use Rattle.law_network.specs.Steps.{Logs, LogsIf, Brought, after_event, with_event, begun}
-use Rattle.law_network.specs.Telling.{IsShownAs, HasNothingNew, IsPassedBy, Gave, AllObeyed, Ticks, IsLive, IsEnd, Turns, Rests, Brings, PassesOver, Times, TakesOne}
+use Rattle.law_network.specs.Telling.{IsShownAs, HasNothingNew, IsPassedBy, Gave, AllObeyed, Ticks, Turns, Rests, Brings, PassesOver, Times, TakesOne}
 use Rattle.law_network.proofs.Delivering.{IsHeard, in-time, later, heard-peer, end-there, received-by, same-connection, heard-at-address}
 use Rattle.law_network.proofs.Lists.{get-set, get-within}
 use Rattle.law_network.proofs.Marked.{behind}

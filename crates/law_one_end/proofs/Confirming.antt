@@ -263,6 +263,8 @@ awaits-filled S answer pace o k = made.awaits
       drops_unsequenced = λ f u rest t e x. record { awaits = x.awaits };
       puts_data = λ f i s n t there due x. record { awaits = put-more S answer pace.now f.messages _ f.outbox.control x.awaits };
       drops_data = λ f i s n t there due kind x. record { awaits = x.awaits };
+      keeps_room = λ f i s there wants x. record { awaits = x.awaits };
+      gives_room = λ f i s n there due x. record { awaits = x.awaits };
     }) (record { awaits = awaits-more S (SoFar S answer pace.now []) answer o.control (λ time h. inl h) k })
 
 -- ---- a server's peer that awaits its client

@@ -209,6 +209,8 @@ fills mtu qs pace o h =
                 (sender-fewer mtu (of_channel mtu k qs) s.sender (with_skipped n.sender) (fewer-then s.sender n.sender (with_skipped n.sender) next.1 (skipped-fewer n.sender))) a.senders;
             puts = a.puts;
           };
+      keeps_room = λ f i x there wants a. record { senders = a.senders; puts = a.puts };
+      gives_room = λ f i x n there due a. record { senders = a.senders; puts = a.puts };
     }) (record { senders = h; puts = λ m c there is. absurd there })
 
 if-peer : (P : Peering → Type 0) (b : Bool) (p q : Peering) → P p → P q → P (cond b p q)
