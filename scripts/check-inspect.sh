@@ -2,7 +2,8 @@
 # Runs the built program `enet_relay inspect`: on the datagrams of the files in trials/captured, of which it must tell what
 # inspected.awk derives from the remarks that stand beside them; on lines that are cut short, compressed, unreadable or passed over; and on
 # captures in pcap format that are made here, byte by byte. With `--timeline` it must tell and draw of captures what timeline.py finds in
-# them, and mark what stands in the rows of marks.rows. The last line is 'N passed, M failed'; the status is 1 where one fails. The
+# them, and mark what stands in the rows of marks.rows. Of captures in pcapng that pcapng.py makes it must tell and draw what it does of
+# classic ones with their packets. The last line is 'N passed, M failed'; the status is 1 where one fails. The
 # program is the one that `rt ci`, or `rt run` in crates/enet_relay, leaves; another can be named as argument.
 cd "$(dirname "$0")/.." || exit 1
 . scripts/tally.sh
@@ -187,12 +188,50 @@ marks() {
         || fail marks "$wrong"
 }
 
-# The picture that README shows is drawn of the script beside it.
-picture_of_readme() {
-    local kept=docs/figures/lost-packet
-    timeout 60 "$program" lab < $kept.lab | python3 scripts/timeline.py lab $kept.lab "$room/made" || { fail "picture of README" "$kept.lab"; return; }
-    timeline lost-packet "$room/made" '' 0
-    cmp -s "$room/picture" $kept.svg && passed=$((passed + 1)) || fail "picture of README" "$kept.svg isn't what is drawn of $kept.lab"
+# The picture of each lesson is drawn of the script beside it.
+pictures_of_lessons() {
+    local lab kept
+    for lab in docs/lessons/*.lab; do
+        kept=${lab%.lab}
+        timeout 60 "$program" lab < "$lab" | python3 scripts/timeline.py lab "$lab" "$room/made" || { fail "picture of $lab" "$lab"; continue; }
+        timeline "$(basename "$kept")" "$room/made" '' 0
+        cmp -s "$room/picture" "$kept.svg" && passed=$((passed + 1)) || fail "picture of $lab" "$kept.svg isn't what is drawn of it"
+    done
+}
+
+# What `inspect` writes of the file $1, to $2 and $2.err, with its status in the last line of that.
+inspected() {
+    timeout 60 "$program" inspect "$1" > "$2" 2> "$2.err" < /dev/null
+    echo "status $?" >> "$2.err"
+}
+
+# A capture in pcapng is told and drawn as the classic one with its packets, with times to the billionth of a second; so is a damaged one.
+pcapng() {
+    local file seed
+    for file in "$captures"/*.txt; do
+        python3 scripts/timeline.py capture "$file" "$room/made"
+        python3 scripts/pcapng.py same "$room/made" "$room/blocks"
+        inspected "$room/made" "$room/of-made"
+        inspected "$room/blocks" "$room/of-blocks"
+        sed -i -E 's/^(datagram .* at [0-9]+\.[0-9]{6})$/\1000/' "$room/of-made"
+        cmp -s "$room/of-made" "$room/of-blocks" && cmp -s "$room/of-made.err" "$room/of-blocks.err" && passed=$((passed + 1)) \
+            || differ "pcapng: $file" 'what is told' "$room/of-made" "$room/of-blocks"
+        timeout 60 "$program" inspect "$room/made" --timeline "$room/picture" > "$room/of-made"
+        timeout 60 "$program" inspect - --timeline "$room/blocks.svg" < "$room/blocks" > "$room/of-blocks"
+        cmp -s "$room/of-made" "$room/of-blocks" && cmp -s "$room/picture" "$room/blocks.svg" && passed=$((passed + 1)) \
+            || differ "pcapng: timeline of $file" 'what is told' "$room/of-made" "$room/of-blocks"
+    done
+    for seed in {1..100}; do
+        python3 scripts/pcapng.py random "$seed" "$room/blocks" "$room/made"
+        inspected "$room/made" "$room/of-made"
+        inspected "$room/blocks" "$room/of-blocks"
+        cmp -s "$room/of-made" "$room/of-blocks" && cmp -s "$room/of-made.err" "$room/of-blocks.err" && passed=$((passed + 1)) \
+            || differ "pcapng: random $seed" 'what is told' "$room/of-made" "$room/of-blocks"
+    done
+    python3 scripts/pcapng.py long 1000000 "$room/blocks"
+    inspected "$room/blocks" "$room/of-blocks"
+    [ "$(<"$room/of-blocks")$(<"$room/of-blocks.err")" = '1000000 other packetsstatus 0' ] && passed=$((passed + 1)) \
+        || fail 'pcapng: a million blocks' "$(head -c 200 "$room/of-blocks" "$room/of-blocks.err")"
 }
 
 # What has no timeline: its name here, its file, what is wanted on standard error, and the status.
@@ -235,7 +274,8 @@ else
     captures
     timelines
     marks
-    picture_of_readme
+    pictures_of_lessons
+    pcapng
     refused_timelines
     files
 fi

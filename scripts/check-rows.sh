@@ -4,10 +4,10 @@
 # (no such file: 0). A long script and its output are made by NAME.awk. A script that is listed and missing fails. Each line of
 # unreadable-lines.txt and of unreadable-lines-of-a-fleet.txt, whose escapes are printf's, is the second of a script for a pair or a
 # fleet, and the first that can't be read. Each short script that makes two hosts, without `calm`, and the first of a fleet, is also run by
-# out/probe (build-probe.sh) as one list of events, in one call. The lines that README shows are a script, too, with their answers. Command lines are
-# tried too; those of `demo` take port 47100, which no other socket may have. The last line is
-# 'N passed, M failed'; the status is 1 where one fails. The program is the one that `rt ci`, or `rt run` in crates/enet_relay,
-# leaves; another can be named as argument.
+# out/probe (build-probe.sh) as one list of events, in one call. The lines that README shows are a script, too, with their answers, and so
+# are the lessons of docs/lessons, of whose pages each shown line must stand there. Command lines are tried too; those of `demo` take port
+# 47100, which no other socket may have. The last line is 'N passed, M failed'; the status is 1 where one fails. The program is the one that
+# `rt ci`, or `rt run` in crates/enet_relay, leaves; another can be named as argument.
 cd "$(dirname "$0")/.." || exit 1
 program=${1:-crates/enet_relay/out/enet_relay}
 lists=out/probe
@@ -29,6 +29,7 @@ script() {
 
 row() {
     local row=$rows/$1 wanted=0 err=/dev/null
+    first_comment "$1"
     if [ -r "$row.awk" ]; then
         rm -f "$room/row.lab" "$room/row.out"
         awk -v lab="$room/row.lab" -v out="$room/row.out" -f "$rows/says.awk" -f "$row.awk"
@@ -40,10 +41,29 @@ row() {
     script "$1" "$row.lab" "$row.out" "$err" "$wanted"
 }
 
+# A script that isn't empty says in its first line what it shows.
+first_comment() {
+    local file=$rows/$1.lab
+    [ -r "$file" ] || file=$rows/$1.awk
+    [ ! -s "$file" ] || head -n 1 "$file" | grep -aq '^# ' && passed=$((passed + 1)) || fail "$1" 'its first line is no comment'
+}
+
 # The lines of the lab that README shows, each with its answer and a remark.
 readme_lines() {
     awk -F '  +' -v lab="$room/readme.lab" -v out="$room/readme.out" '/^    / && NF == 4 { print $2 > lab; print $3 > out }' README.md
     script README.md "$room/readme.lab" "$room/readme.out" /dev/null 0
+}
+
+# Each lesson's script with its answers. The lines that its page shows stand there in this order, each with its answer; `..` ends one that goes
+# on.
+lessons() {
+    local lab wrong
+    for lab in docs/lessons/*.lab; do
+        script "$lab" "$lab" "${lab%.lab}.out" /dev/null 0
+        grep -v '^#' "$lab" | grep . | paste - "${lab%.lab}.out" > "$room/lesson"
+        wrong=$(awk -F '\t' -v shown="${lab%.lab}.md" -f "$rows/lesson.awk" "$room/lesson") && [ -z "$wrong" ] && passed=$((passed + 1)) \
+            || fail "${lab%.lab}.md" "not in the script from there on: $wrong"
+    done
 }
 
 # A script as one list of events, without its comments. The row of a fleet stands in the program itself.
@@ -51,7 +71,7 @@ at_once() {
     local row=$rows/$1
     if [ "$1" = fleet-and-strangers ]; then
         printf 'run\nfleet\n' > "$room/list"
-    elif [ -r "$row.lab" ] && [ ! -e "$row.status" ] && grep -Eq '^(pair|open) ' < <(head -n 1 "$row.lab") && ! grep -q '^calm ' "$row.lab"; then
+    elif [ -r "$row.lab" ] && [ ! -e "$row.status" ] && grep -a -m 1 -v '^#' "$row.lab" | grep -Eq '^(pair|open) ' && ! grep -q '^calm ' "$row.lab"; then
         { echo run; grep -v '^#' "$row.lab"; echo =; cat "$row.out"; } > "$room/list"
     else
         return
@@ -307,31 +327,34 @@ counts_unread() {
     [ "$status" -eq 0 ] && [ "$(<"$room/out")" = $'2 more\nstopping' ] && passed=$((passed + 1)) || fail "$name" "status $status, it answered: $(head -c 200 "$room/out")"
 }
 
-# What `demo` prints with $1 clients of which each got $2 packets, and the last word $3.
+# What `demo` prints with $1 clients of which each got $2 packets, and the last word $3, at the port $4 of $5.
 demo_prints() {
     local client
+    echo "$1 clients connect to 127.0.0.1:$4, $5"
+    echo 'each sends 3 packets reliably on channel 0, which a chat relay passes on to the others'
     for ((client = 0; client < $1; client++)); do
-        echo "client $client got $2"
+        echo "client $client got $2 packets, the others sent $((3 * ($1 - 1)))"
     done
     echo "demo $3"
 }
 
 # Each client chats once the server has all of them for peers, so each gets three packets of each other one, whichever came first.
 demonstrations() {
-    local clients
+    local clients own='a server in this process' there='a server that is there'
     for clients in 1 2 8; do
-        service_line "demo-$clients" 0 '' "$(demo_prints "$clients" $((3 * (clients - 1))) done)" demo --clients "$clients" --turns 1000
+        service_line "demo-$clients" 0 '' "$(demo_prints "$clients" $((3 * (clients - 1))) done 47100 "$own")" demo --clients "$clients" --turns 1000
     done
-    service_line demo-no-turn 3 '' "$(demo_prints 2 0 late)" demo --turns 0
+    service_line demo-no-turn 3 '' "$(demo_prints 2 0 late 47100 "$own")" demo --turns 0
     port=47100
     start_service --turns 1000000
-    service_line demo-server-port-taken 1 'E14 WireFault' '' demo
+    service_line demo-server-port-taken 1 'E14 WireFault' "$(demo_prints 2 0 '' 47100 "$own" | head -n 2)" demo
     end_service
     port=47101
     start_service --turns 1000000
-    service_line demo-beside-a-server 0 '' "$(demo_prints 2 3 done)" demo
+    service_line demo-beside-a-server 0 '' "$(demo_prints 2 3 done 47100 "$own")" demo
     for clients in 1 2 8; do
-        service_line "demo-$clients-at-a-server" 0 '' "$(demo_prints "$clients" $((3 * (clients - 1))) done)" demo --clients "$clients" --port "$port"
+        service_line "demo-$clients-at-a-server" 0 '' "$(demo_prints "$clients" $((3 * (clients - 1))) done "$port" "$there")" \
+            demo --clients "$clients" --port "$port"
     done
     end_service
 }
@@ -367,6 +390,7 @@ else
         case $name in '' | '#'*) ;; *) row "$name"; at_once "$name" ;; esac
     done < "$rows/list.txt"
     readme_lines
+    lessons
     unreadable_lines 'pair 1' 'turn A' unreadable-lines.txt
     unreadable_lines 'fleet 2 2 2' 'turn S' unreadable-lines-of-a-fleet.txt
     command_lines

@@ -2,8 +2,8 @@
 """For scripts/check-inspect.sh: captures for `enet_relay inspect --timeline`, and what it must tell of them.
 
     timeline.py capture FILE OUT        makes a capture in pcap format of a file of trials/captured: its datagrams, at its times
-    timeline.py lab SCRIPT OUT          makes one of a lab's script for two hosts and of its answers on standard input: what each puts out, by
-                                        its clock
+    timeline.py lab SCRIPT OUT          makes one of a lab's script and of its answers on standard input: what each host puts out, by its clock,
+                                        and in a fleet what strangers send to the server, by the server's clock
     timeline.py crowd OUT               makes one of 30 connections, and 600 datagrams of one of them
     timeline.py random SEED OUT         makes one of random datagrams at random times, between few addresses
     timeline.py check CAPTURE WORDS SVG reads a capture by itself, and compares the summary and the picture with what it finds
@@ -24,6 +24,7 @@ REACH = 4096
 CONNECTIONS = 24
 DATAGRAMS = 500
 KEPT = 256
+LAB_ENDS = {'A': '10.0.0.1:4660', 'B': '10.0.0.2:47001', 'S': '10.0.0.2:47001'}
 SVG = '{http://www.w3.org/2000/svg}'
 NEVER = 1 << 60
 OTHER = {'right': 'left', 'left': 'right'}
@@ -66,16 +67,26 @@ def captured(path):
         yield (1000000000 + 1000 * int(time[2:]), *ends, bytes.fromhex(payload))
 
 
+def end_of(name):
+    """The address of a host of the lab: that of A and B, or of a fleet's server and clients."""
+    if name in LAB_ENDS:
+        return LAB_ENDS[name]
+    return f'10.0.1.{name[1:]}:7000'
+
+
 def put_out(path, answers):
-    ends = {'A': '10.0.0.1:4660', 'B': '10.0.0.2:47001'}
-    clocks = {'A': 0, 'B': 0}
+    clocks = {}
     lines = [line.split() for line in open(path) if line.strip() and not line.startswith('#')]
     for words, answer in zip(lines, answers, strict=True):
+        name, answer = words[1], answer.split()
+        at = 1000000000 + 1000 * clocks.get(name, 0)
         if words[0] == 'tick':
-            clocks[words[1]] += int(words[2])
-        elif words[0] == 'turn' and answer.strip() != 'none':
-            side, other = ('A', 'B') if words[1] == 'A' else ('B', 'A')
-            yield (1000000000 + 1000 * clocks[side], ends[side], ends[other], bytes.fromhex(answer.split()[1]))
+            clocks[name] = clocks.get(name, 0) + int(words[2])
+        elif words[0] == 'turn' and answer != ['none']:
+            target = answer[2] if len(answer) == 4 else 'B' if name == 'A' else 'A'
+            yield (at, end_of(name), target if ':' in target else end_of(target), bytes.fromhex(answer[-1]))
+        elif words[0] == 'stranger':
+            yield (at, f'{words[2]}:{words[3]}', end_of(name), bytes.fromhex(words[4]))
 
 
 def connect(identifier):

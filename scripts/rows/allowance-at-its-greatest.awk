@@ -18,17 +18,19 @@ BEGIN {
     is_acknowledged(200, 200, acknowledgement(1, 1, 0), 1)
     says("tick A 3", "ok")
     nothing_goes()
-    # Now it loses 2 * 30 * 1,392 = 83,520 and is 47,552. All 30 go again, and four more, 47,328 in price, and there is room for 196
-    # bytes, 224, and not for 197.
+    # Now it loses 2 * 30 * 1,392 = 83,520 and is 47,552. All 30 go again, four more and an empty one, 47,356 in price, and there is room
+    # for 168 bytes, 196, and not for 169.
     says("tick A 1", "ok")
     for (n = 201; n <= 230; n++) goes(30 + n, 5, reliable(0, n, 1364))
     for (n = 231; n <= 234; n++) {
         submits(0, 1, 1364)
         goes(30 + n, 5, reliable(0, n, 1364))
     }
-    submits(1, 1, 197)
+    submits(1, 1, 0)
+    goes(265, 5, reliable(1, 2, 0))
+    submits(1, 1, 169)
     nothing_goes()
-    submits(2, 1, 196)
-    goes(265, 5, reliable(2, 1, 196))
+    submits(2, 1, 168)
+    goes(266, 5, reliable(2, 1, 168))
     nothing_goes()
 }

@@ -1,5 +1,5 @@
-# What is due to go again waits for room like what goes first, and holds back all else of its channel, and nothing of another. The
-# allowance has fallen to 2,800 (`falls` in says.awk): 2,760 are in transit, and the third packet of channel 0 is due.
+# What is due to go again waits for room like what goes first, and holds back all else of its channel. Then room is kept for that channel.
+# The allowance has fallen to 2,800 (`falls` in says.awk): 2,760 are in transit, and the third packet of channel 0 is due.
 BEGIN {
     says("pair 3", "ok")
     falls()
@@ -7,16 +7,17 @@ BEGIN {
     submits(0, 1, 0)
     submits(0, 0, 1)
     nothing_goes()
+    # An unreliable packet of another channel goes, and no reliable one, though it would find room.
     submits(1, 0, 1)
-    says("turn A", "A#28 00000701000200010001" "00")
+    says("turn A", "A#28 00000701000300010001" "00")
     submits(2, 1, 0)
-    goes(29, 500, reliable(2, 1, 0))
     nothing_goes()
-    # The first is acknowledged, which makes the allowance 4,154 (2,800 + 345 + 1,009). With the third that is due 2,788 are in transit
-    # then, and the fourth waits.
+    # The first is acknowledged, which makes the allowance 4,140 (2,800 + 341 + 999). The third goes, with which 2,760 are in transit, and
+    # then the empty one: the fourth finds no room behind it.
     says("tick A 100", "ok")
     is_acknowledged(26, 2, acknowledgement(0, 1, 500), 1)
-    goes(30, 600, reliable(0, 3, 1352))
+    goes(29, 600, reliable(0, 3, 1338))
+    goes(30, 600, reliable(2, 1, 0))
     nothing_goes()
     # All from the fourth on are acknowledged by their first sends. So nothing is due on the channel, and what waited behind them goes.
     for (n = 4; n <= 24; n++) {

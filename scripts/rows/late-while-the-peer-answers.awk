@@ -14,26 +14,24 @@ BEGIN {
     says("tick A 99", "ok")
     nothing_goes()
     says("tick A 1", "ok")
-    # Seven go again, 9,744 in price. Then there is room for 119, so for 91 bytes and not for 92.
-    for (n = 1; n <= 7; n++) goes(20 + n, 500, reliable(0, n, 1364))
-    nothing_goes()
-    submits(1, 1, 92)
-    nothing_goes()
-    submits(2, 1, 91)
-    goes(28, 500, reliable(2, 1, 91))
+    # Seven go again, 9,744 in price, and an empty packet, 28. Then there is room for 91, so for 63 bytes and not for 64.
+    submits(1, 1, 0)
+    goes(21, 500, reliable(1, 2, 0) reliable(0, 1, 1364))
+    for (n = 2; n <= 7; n++) goes(20 + n, 500, reliable(0, n, 1364))
+    submits(1, 1, 64)
+    submits(2, 1, 63)
+    goes(28, 500, reliable(2, 1, 63))
     nothing_goes()
     # The round trip is 400 and its variance 200, so these timeouts are 1,200. They are over at 1,700 in silence, so the allowance stays
-    # 9,863. Now the one of 92 bytes finds room, 120 in price, and then six of channel 0: with the 119 that is 8,591.
+    # 9,863. Now the one of 64 bytes finds room, 92 in price, and six of channel 0: with the 28 and the 91 that is 8,563.
     says("tick A 1199", "ok")
     nothing_goes()
     says("tick A 1", "ok")
     goes(29, 1700, reliable(0, 1, 1364))
-    goes(30, 1700, reliable(1, 2, 92) reliable(2, 1, 91))
+    goes(30, 1700, reliable(1, 2, 0) reliable(1, 3, 64) reliable(2, 1, 63))
     for (n = 2; n <= 6; n++) goes(29 + n, 1700, reliable(0, n, 1364))
-    nothing_goes()
-    submits(1, 1, 1245)
-    nothing_goes()
-    submits(2, 1, 1244)
-    goes(36, 1700, reliable(2, 2, 1244))
+    submits(1, 1, 1273)
+    submits(2, 1, 1272)
+    goes(36, 1700, reliable(2, 2, 1272))
     nothing_goes()
 }

@@ -62,15 +62,26 @@ function is_answered(n, acknowledgements, count) {
     says("deliver A " n, "handled " count)
 }
 
-# Brings A's allowance to its floor, 2,800 bytes, at 500 ms. 24 packets of 1,352 bytes on channel 0, the price of each 1,380, are lost
+# Puts so many bytes of payload in transit on channel 0 at a time, in packets of 1,364 and a last one, from A's datagram k on.
+function fills(bytes, k, time,    n, count) {
+    for (n = 1; bytes > 0; n++) {
+        count = bytes < 1364 ? bytes : 1364
+        submits(0, 1, count)
+        goes(k++, time, reliable(0, n, count))
+        bytes -= count
+    }
+}
+
+# Brings A's allowance to its floor, 2,800 bytes, at 500 ms. 24 packets of 1,338 bytes on channel 0, the price of each 1,366, are lost
 # while two of a byte on channel 1 are acknowledged, in 1 ms and in 400. For each of these it grows by 29 / 4 = 7, as 2,048 * 29 is less
-# than the allowance, to 65,550. It loses 2 * 24 * 1,380 = 66,240 once the timeouts of 500 are over. The round trip, 1 and then 1 + 399 /
+# than the allowance, to 65,550. It loses 2 * 24 * 1,366 = 65,568 once the timeouts of 500 are over. The round trip, 1 and then 1 + 399 /
 # 8 = 50, is above the least one, 1, by more than 4, so A isn't calm. The variance is 1 and then 1 + 399 / 4 = 100, so the next timeouts
-# are 450. Two of the 24 go again, in A's datagrams 26 and 27.
+# are 450. Two of the 24 go again, in A's datagrams 26 and 27, with an empty packet of channel 1: 2,760 in price are in transit. The third
+# is stopped only where the second went, so the room is kept for no channel yet.
 function falls(    n) {
     for (n = 1; n <= 24; n++) {
-        submits(0, 1, 1352)
-        goes(n - 1, 0, reliable(0, n, 1352))
+        submits(0, 1, 1338)
+        goes(n - 1, 0, reliable(0, n, 1338))
     }
     for (n = 1; n <= 2; n++) {
         submits(1, 1, 1)
@@ -83,7 +94,7 @@ function falls(    n) {
     says("tick A 99", "ok")
     nothing_goes()
     says("tick A 1", "ok")
-    goes(26, 500, reliable(0, 1, 1352))
-    goes(27, 500, reliable(0, 2, 1352))
-    nothing_goes()
+    submits(1, 1, 0)
+    goes(26, 500, reliable(0, 1, 1338))
+    goes(27, 500, reliable(1, 3, 0) reliable(0, 2, 1338))
 }

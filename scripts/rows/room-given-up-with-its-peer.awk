@@ -1,0 +1,28 @@
+# The room in transit is kept for a channel. Its peer ends, and the next one in its slot keeps it for none. 65,536 bytes of payload are in
+# transit, as many as may be.
+BEGIN {
+    says("open 1 3 1 3", "ok")
+    says("connect A 3 0 01020304", "peer 0.0")
+    says("turn A", "A#0 8fff000082ff00010000ffff0000057000010000000000030000000000000000000013880000000200000002" "0102030400000000")
+    says("deliver B 0", "handled 1")
+    says("turn B", "B#0 8000000083ff0001000000000000057000010000000000030000000000000000000013880000000200000002" "01020304")
+    says("deliver A 0", "handled 1")
+    says("turn A", "A#1 000001ff000100010000")
+    says("deliver B 1", "handled 1")
+    says("take B", "connect 0.0 data 0")
+    fills(65536, 2, 0)
+    submits(1, 1, 1)
+    nothing_goes()
+    says("now A 0.0 0", "ok")
+    says("turn A", "A#51 000044ff000200000000")
+    says("deliver B 51", "handled 1")
+    says("take B", "disconnect 0.0 data 0")
+    says("connect A 3 0 0000000a", "peer 0.1")
+    says("turn A", "A#52 8fff000082ff0001000000000000057000010000000000030000000000000000000013880000000200000002" "0000000a00000000")
+    says("deliver B 52", "handled 1")
+    says("turn B", "B#1 9000000083ff0001000001010000057000010000000000030000000000000000000013880000000200000002" "0000000a")
+    says("deliver A 1", "handled 1")
+    says("turn A", "A#53 100001ff000100010000")
+    says("submit A 0.1 2 1 00", "ok")
+    says("turn A", "A#54 90000000" reliable(2, 1, 1))
+}
