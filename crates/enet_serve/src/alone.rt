@@ -5,6 +5,7 @@ use enet_codec::Refusal;
 use enet_guard::Guarded;
 use enet_service::{
     Bell, BoundService, Fault, MioWire, Report, RunLength, TURNS_AT_ONCE, Watch, is_over,
+    turns_from,
 };
 use std::alloc::Global;
 use std::rt::Clock;
@@ -75,12 +76,15 @@ impl Alone<'_> {
     {
         let start = Instant::now(rt);
         let mut total = Report::nothing();
+        let mut turns = TURNS_AT_ONCE;
         for _ in rt.forever() {
-            let report = self.run_for_turns(rt, bound, TURNS_AT_ONCE, watch)?;
+            let begun = Instant::now(rt);
+            let report = self.run_for_turns(rt, bound, turns, watch)?;
             total = total.and(report);
             if watch.wants_end() || is_over(rt, total, &start, time) {
                 return Ok(total);
             }
+            turns = turns_from(rt, turns, &begun);
         }
         unreachable!()
     }

@@ -109,10 +109,10 @@ further a b c xs ys t u w one two sum = record {
 }
 
 -- turns of a run for a time, and then those that the wire cut off
-pub cut_after : (a b c : Standing) (time : Duration) (xs : List Round) (times : ℕ) (t : Report) → length xs ≡ 64 * times → AreFew t → Spell a xs b t → IsCut (Turns 64) b c → IsCut (Time time) a c
-cut_after a b c time xs times t whole few one two = record {
+pub cut_after : (a b c : Standing) (time : Duration) (turns : ℕ) (xs : List Round) (t : Report) → turns ≤ 64 → AreFew t → Spell a xs b t → IsCut (Turns turns) b c → IsCut (Time time) a c
+cut_after a b c time turns xs t low few one two = record {
   rounds = xs ++ two.rounds;
-  within = record { before = xs; last = two.rounds; all = refl; times = times; before_are = whole; last_are = two.within; few = subst AreFew one.totals few };
+  within = record { before = xs; last = two.rounds; all = refl; most = let z = two.within in omega arith; few = subst AreFew one.totals few };
   advances = advances_on a b c xs two.rounds one.advances one.faults two.advances;
   cut = cut_later xs two.rounds one.sound two.cut;
   faults = two.faults ∙ ap (λ (n : ℕ). n + 1) one.faults;

@@ -1,5 +1,5 @@
 -- What a service's thread does in a run.
-use Rattle.std.specs.Prelude.{◌≡◌, ◌⊎◌, ℕ, ◌+◌, ◌*◌, ◌≤◌, ◌<◌, List, [], ◌∷◌, ◌++◌, Option, length, None}
+use Rattle.std.specs.Prelude.{◌≡◌, ◌⊎◌, ℕ, ◌+◌, ◌*◌, ◌≤◌, ◌<◌, nat_lt, if◌then◌else◌, min, List, [], ◌∷◌, ◌++◌, Option, length, None}
 use Rattle.std.specs.List.{All}
 use Rattle.enet_codec.specs.declared.config.Config.{Config}
 use Rattle.enet_codec.specs.declared.event.DisconnectMode.{DisconnectMode}
@@ -63,14 +63,17 @@ beginning config = record { host = opened config; waiting = None }
 abbrev pub AreFew : Report → Type 0
 AreFew sums = (sums.orders < 2147483648) × (sums.events < 2147483648)
 
--- the turns of a run for a time: 64 by 64, and no further 64 once there were many orders or events
+-- how many turns a run for a time takes at once, after so many took so many milliseconds
+abbrev pub next_turns : ℕ → ℕ → ℕ
+next_turns turns ms = if nat_lt 400 ms then 1 else min (2 * turns) 64
+
+-- the turns of a run for a time: some at once, 64 at most, and no more once there were many orders or events
 pub record LastsForTime (rounds : List Round) : Type 0 where
   pub before : List Round
   pub last : List Round
   pub all : rounds ≡ before ++ last
-  pub times : ℕ
-  pub before_are : length before ≡ 64 * times
-  pub last_are : length last ≡ 64
+  pub some : 1 ≤ length last
+  pub most : length last ≤ 64
   pub few : AreFew (total before)
 
 -- how many turns a run has: as many as it was told, or those of a time
@@ -78,14 +81,12 @@ abbrev pub Lasts : RunLength → List Round → Type 0
 Lasts (Turns n) rounds = length rounds ≡ n
 Lasts (Time length_of_time) rounds = LastsForTime rounds
 
--- no more turns than a run for a time has: 64 by 64, then 64 at most, and none of these once there were many orders or events
+-- no more turns than a run for a time has: then 64 at most, and none of these once there were many orders or events
 pub record LastsForTimeAtMost (rounds : List Round) : Type 0 where
   pub before : List Round
   pub last : List Round
   pub all : rounds ≡ before ++ last
-  pub times : ℕ
-  pub before_are : length before ≡ 64 * times
-  pub last_are : length last ≤ 64
+  pub most : length last ≤ 64
   pub few : AreFew (total before)
 
 -- how many turns a run has at most

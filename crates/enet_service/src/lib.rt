@@ -55,7 +55,7 @@ pub use enet_wire::{
     Unopened, Wire, system_secret, system_word,
 };
 pub use queues::{Ends, Queues};
-pub use run_length::{RunLength, TURNS_AT_ONCE, is_over};
+pub use run_length::{RunLength, TURNS_AT_ONCE, is_over, turns_from};
 pub use settling::{Returned, settle};
 pub use turning::{Shared, Signals, beside_turns};
 pub use watch::{Unwatched, Watch};

@@ -1,9 +1,9 @@
 //! How long a service takes turns.
-ghost use Rattle.std.specs.Prelude.{◌≡◌, ◌+◌, true, false, List, length, IfOk, IfErr, is_err};
+ghost use Rattle.std.specs.Prelude.{◌≡◌, ◌+◌, ◌≤◌, true, false, List, length, IfOk, IfErr, is_err};
 ghost use Rattle.enet_turn.specs.Turn.{Round as OneTurn};
 ghost use Rattle.enet_bridge.specs.Serving.{queue_of, poster_of};
 ghost use Rattle.enet_turn.specs.Counts.{count_of};
-ghost use Rattle.enet_service.specs.ServiceRuns.{Lasts, LastsForTime, AreFew, Spell, IsCut, standing};
+ghost use Rattle.enet_service.specs.ServiceRuns.{Lasts, LastsForTime, AreFew, Spell, IsCut, next_turns, standing};
 ghost use Rattle.enet_service.specs.declared.run_length.RunLength.TheVariants as lengths;
 
 use crate::turning::Signals;
@@ -16,8 +16,11 @@ use std::rt::Clock;
 use std::sync::Wait;
 use std::time::{Duration, Instant};
 
-/// Between two looks at the clock a service takes so many turns.
+/// A run for a time takes so many turns at once at most; then whoever watches looks ([`Watch::look`]).
 pub const TURNS_AT_ONCE: u64 = 64;
+
+/// If turns that were taken at once took longer, in milliseconds, the next one is taken alone.
+const LONG: u64 = 400;
 
 /// After so many orders or events a run for a time ends: its queues count 4,294,967,295 of each at most.
 const MANY: u32 = 2_147_483_648;
@@ -116,14 +119,49 @@ fn turns_for<R: Wait + Clock, N: Wire, W: Watch>(
 {
     let start = Instant::now(rt);
     let mut total = Report::nothing();
+    let mut turns = TURNS_AT_ONCE;
     for _ in rt.forever() {
-        let report = turns_of(rt, service, wire, source, sink, TURNS_AT_ONCE, watch)?;
+        let begun = Instant::now(rt);
+        let report = turns_of(rt, service, wire, source, sink, turns, watch)?;
         total = total.and(report);
         if signals.has_left() || watch.wants_end() || is_over(rt, total, &start, time) {
             return Ok(total);
         }
+        turns = turns_from(rt, turns, &begun);
     }
     unreachable!()
+}
+
+/// How many turns a run for a time takes at once, after the last so many were begun then: twice as many, 64 at most, or one if they took over
+/// 400 ms. So whoever watches looks often enough to tell a service that is slow from one that hangs. Where the clock can't be read, they took
+/// no time.
+pub fn turns_from<R: Clock>(rt: &R, turns: u64, begun: &io::Result<Instant>) -> u64
+    ensures some { 1 ≤ turns → 1 ≤ result }
+    ensures most { result ≤ 64 }
+    ensures no_clock { IfErr begun.now (λ e. result ≡ next_turns turns 0) }
+{
+    let Ok(begun) = begun else {
+        return next_turns(turns, 0);
+    };
+    match begun.elapsed(rt) {
+        Ok(elapsed) => next_turns(
+            turns,
+            u64::try_from(elapsed.as_millis()).unwrap_or(u64::MAX),
+        ),
+        Err(_) => next_turns(turns, 0),
+    }
+}
+
+fn next_turns(turns: u64, ms: u64) -> u64
+    ensures next { result ≡ next_turns turns ms }
+    ensures some { 1 ≤ turns → 1 ≤ result }
+    ensures most { result ≤ 64 }
+{
+    if ms > LONG {
+        1
+    } else {
+        turns.saturating_mul(2).min(TURNS_AT_ONCE)
+    }
 }
 
 /// Whether a run for this time that began at `start`, with these sums so far, is over: 2,147,483,648 orders were taken or events told, or the

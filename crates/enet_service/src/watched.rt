@@ -11,7 +11,8 @@ use enet_submit::Order;
 use std::alloc::Global;
 use std::marker::Model;
 
-/// So many notes are kept at most until they are looked at.
+/// So many notes of refused orders are kept at most until they are looked at, and so many others: so that refused orders never take the place
+/// of who comes and goes.
 const MOST_NOTES: usize = 4_096;
 
 /// What happened at a host, as its operator is told; the `Note` of `enet_wire` is of one call of a wire.
@@ -44,7 +45,10 @@ pub struct WatchedHost {
     // The peer of each slot whose connection was told and whose end wasn't.
     met: Vec<Option<Met>>,
     notes: Vec<Note>,
-    // How many notes found no place.
+    // How many of them are of refused orders, and how many others.
+    noted_refusals: usize,
+    noted_others: usize,
+    // How many notes found no place, those of refused orders apart.
     missed: u64,
     refused: u64,
     // How many datagrams were stopped so far, and how many orders refused, by the number of the reason.
@@ -90,6 +94,8 @@ impl WatchedHost {
             host: HostCore::open(alloc, config)?,
             met,
             notes: Vec::new(alloc),
+            noted_refusals: 0,
+            noted_others: 0,
             missed: 0,
             refused: 0,
             stops: [0; 14],
@@ -109,7 +115,8 @@ impl WatchedHost {
         self.notes.as_slice()
     }
 
-    /// How many notes since then weren't kept: 4,096 are, where there is memory.
+    /// How many notes since then weren't kept, those of refused orders apart: 4,096 are, if there is memory. So many of refused orders are
+    /// kept beside them; [`WatchedHost::refused`] counts all.
     pub fn missed(&self) -> u64 {
         self.missed
     }
@@ -139,6 +146,8 @@ impl WatchedHost {
         ensures { self.new ≡ self.old }
     {
         self.notes.clear();
+        self.noted_refusals = 0;
+        self.noted_others = 0;
         self.missed = 0;
         self.refused = 0;
     }
@@ -181,8 +190,20 @@ impl WatchedHost {
     fn note(&mut self, note: Note)
         ensures { self.new ≡ self.old }
     {
-        if self.notes.len() >= MOST_NOTES || self.notes.push(note).is_err() {
+        let is_kept = self.noted_others < MOST_NOTES && self.notes.push(note).is_ok();
+        if is_kept {
+            self.noted_others += 1;
+        } else {
             self.missed = self.missed.saturating_add(1);
+        }
+    }
+
+    fn note_refusal(&mut self, peer: Option<PeerRef>, why: Refusal)
+        ensures { self.new ≡ self.old }
+    {
+        let note = Note::Refused { peer, why };
+        if self.noted_refusals < MOST_NOTES && self.notes.push(note).is_ok() {
+            self.noted_refusals += 1;
         }
     }
 
@@ -273,7 +294,7 @@ impl Core for WatchedHost {
         };
         if let Err(why) = applied {
             self.count_refusal(why);
-            self.note(Note::Refused { peer, why });
+            self.note_refusal(peer, why);
         }
         applied
     }

@@ -1,5 +1,4 @@
-use Rattle.std.proofs.Common.{◌≡◌, ℕ, ◌*◌, List}
-use Rattle.std.specs.Prelude.{length}
+use Rattle.std.proofs.Common.{◌≡◌, ◌≤◌, List}
 use Rattle.enet_wire.specs.Socket.{failures_of}
 use Rattle.enet_guard.specs.Journals.{told_of}
 use Rattle.enet_turn.specs.Turn.{Round}
@@ -12,8 +11,7 @@ abbrev pub invariant-loop : goal.invariant-loop
 invariant-loop g l =
     (failures_of l.bound.wire.wire ≡ failures_of l.fn.bound.wire.wire)
     × AreFew l.total
+    × ((1 ≤ l.turns) × (l.turns ≤ 64))
     × (rounds : List Round)
-    × (times : ℕ)
-    × (length rounds ≡ 64 * times)
     × Goes (pair l.fn.bound.service l.fn.self.relay (told_of l.fn.bound.wire) (failures_of l.fn.bound.wire.wire)) rounds (pair l.bound.service l.self.relay (told_of l.bound.wire) (failures_of l.bound.wire.wire))
     × (l.total ≡ total rounds)
