@@ -25,7 +25,7 @@ same() {
 
 begin() {
     free_port
-    "$program" serve --port "$port" --forever --peers 64 --queue-capacity 1024 --metrics "127.0.0.1:$port" --threads "$threads" > "$room/out" 2> "$room/err" &
+    "$program" serve --port "$port" --forever --peers 64 --queue-capacity 1024 --metrics "127.0.0.1:$port" --threads "$threads" --log > "$room/out" 2> "$room/err" &
     relay=$!
     for _ in {1..100}; do
         [ -n "$(ask 'GET /healthz' 2> /dev/null)" ] && return
@@ -154,7 +154,7 @@ in_transit() {
 
 # Figures while clients talk, and once they have gone.
 figures() {
-    local told
+    local told logged
     "$room/tally" "$port" 32 6 > "$room/tally.out" 2>&1 &
     local tally=$!
     for _ in {1..300}; do
@@ -190,6 +190,9 @@ figures() {
     same passed-over "$(figure enet_connects_passed_over_total "$told")" 0
     same in-transit "$(figure enet_in_transit_bytes "$told")" 0
     same refused "$(figure 'enet_orders_refused_total{reason="E4"}' "$told")" 20
+    logged=$(awk '/^orders refused [0-9]+, the last to .*: E4 NoSuchChannel$/ { lines++; refused += $3 } /^connect / { came++ } /^disconnect / { went++ }
+        END { print came, went, refused, (lines < 10 ? "few" : lines) }' "$room/err")
+    same logged "$logged" '32 32 20 few'
     same short "$(figure 'enet_datagrams_stopped_total{reason="S1"}' "$told")" 5
     same unknown "$(figure 'enet_datagrams_stopped_total{reason="S3"}' "$told")" 3
     same waiting "$(figure 'enet_waiting{what="orders"}' "$told") $(figure 'enet_waiting{what="events"}' "$told")" '0 0'

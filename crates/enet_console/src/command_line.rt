@@ -32,7 +32,7 @@ pub struct ServeOptions {
     pub queue_capacity: u32,
     /// How long it serves.
     pub length: Length,
-    /// Whether each connection, each end of one and each refused order is told.
+    /// Whether each connection and each end of one is told and, once a second, how many orders were refused.
     pub logs: bool,
     /// Which threads serve.
     pub threads: ServerThreads,
@@ -163,7 +163,9 @@ fn command<'a>(alloc: Global) -> Result<Command<'a>, AllocError> {
 
 fn inspect_command<'a>(alloc: Global) -> Result<Command<'a>, AllocError> {
     Command::new(alloc, "inspect")
-        .about("Tells in words what datagrams say: a line of hex each, or a capture in pcap format")
+        .about(
+            "Tells in words what datagrams say: a line of hex each, or a capture in pcap or pcapng format",
+        )
         .arg(file(alloc))?
         .arg(picture(alloc))?
         .arg(at(alloc))
@@ -196,7 +198,9 @@ fn demo_command<'a>(alloc: Global) -> Result<Command<'a>, AllocError> {
 }
 
 fn file<'a>(alloc: Global) -> Arg<'a> {
-    Arg::new(alloc, "file").help("The file to read; without it standard input is read")
+    Arg::new(alloc, "file").help(
+        "The file to read; without it, or if it is -, standard input is read",
+    )
 }
 
 fn picture<'a>(alloc: Global) -> Arg<'a> {
@@ -269,7 +273,9 @@ fn forever<'a>(alloc: Global) -> Result<Arg<'a>, AllocError> {
 fn logs<'a>(alloc: Global) -> Arg<'a> {
     Arg::new(alloc, "log")
         .long("log")
-        .help("Tell each connection, each end of one and each refused order on standard error")
+        .help(
+            "Tell each connection, each end of one and, once a second, refused orders on standard error",
+        )
         .action(ArgAction::SetTrue)
 }
 
@@ -355,7 +361,7 @@ fn inspect_options(
         return Ok(None);
     };
     Ok(Some(InspectOptions {
-        file: word_named(alloc, found, "file")?,
+        file: file_named(alloc, found)?,
         picture: word_named(alloc, found, "timeline")?,
         at,
     }))
@@ -368,6 +374,14 @@ fn end_of(word: Option<&str>) -> Option<Option<End>> {
         Some("LEFT" | "left") => Some(Some(End::Left)),
         Some("RIGHT" | "right") => Some(Some(End::Right)),
         Some(_) => None,
+    }
+}
+
+// None, too, for `-`, which means standard input.
+fn file_named(alloc: Global, found: &ArgMatches<'_>) -> Result<Option<String>, AllocError> {
+    match found.get_str("file") {
+        None | Some("-") => Ok(None),
+        Some(path) => Ok(Some(String::from_str(alloc, path)?)),
     }
 }
 

@@ -1,11 +1,12 @@
 //! What `inspect --timeline` draws.
 
 use crate::failure::Failure;
+use crate::reading::read_input;
 use enet_captured::{Way, read_timeline};
 use enet_console::End;
 use enet_text::InspectFault;
 use enet_timeline::{draw, summarize};
-use std::io::{ErrorKind, Read, Write};
+use std::io::Write;
 use std::rt::Files;
 use std::{fs, io};
 
@@ -39,28 +40,6 @@ fn way_to(end: End) -> Way {
     match end {
         End::Left => Way::Left,
         End::Right => Way::Right,
-    }
-}
-
-fn read_input<R>(rt: &R, file: Option<String>) -> Result<Vec<u8>, Failure>
-where
-    R: Files + Input + AllocGlobal,
-{
-    match file {
-        Some(path) => {
-            let mut file = fs::open(rt, path.as_str()).map_err(Failure::File)?;
-            read_whole(rt, &mut file)
-        }
-        None => read_whole(rt, &mut rt.reader()),
-    }
-}
-
-fn read_whole<R: AllocGlobal, S: Read>(rt: &R, reader: &mut S) -> Result<Vec<u8>, Failure> {
-    let mut input = Vec::new(rt.alloc());
-    match reader.read_to_end(&mut input) {
-        Ok(_) => Ok(input),
-        Err(error) if error.kind() == ErrorKind::OutOfMemory => Err(Failure::Memory),
-        Err(_) => Err(Failure::Io),
     }
 }
 

@@ -1,22 +1,17 @@
-//! What `inspect` reads.
+//! What `inspect` tells.
 
 use crate::failure::Failure;
+use crate::reading::read_input;
 use enet_text::inspect;
+use std::io;
 use std::rt::Files;
-use std::{fs, io};
 
 /// Tells the datagrams of a file, or of standard input.
 pub fn inspect_input<R>(rt: &R, file: Option<String>) -> Result<(), Failure>
 where
     R: Files + Input + Print + AllocGlobal,
 {
-    let mut writer = io::writer(rt);
-    let outcome = match file {
-        Some(path) => {
-            let mut file = fs::open(rt, path.as_str()).map_err(Failure::File)?;
-            inspect(rt.alloc(), &mut file, &mut writer)
-        }
-        None => inspect(rt.alloc(), &mut rt.reader(), &mut writer),
-    };
-    outcome.map_err(Failure::Inspect)
+    let input = read_input(rt, file)?;
+    let mut rest = input.as_slice();
+    inspect(rt.alloc(), &mut rest, &mut io::writer(rt)).map_err(Failure::Inspect)
 }

@@ -23,6 +23,7 @@ mod drawing;
 mod failure;
 mod inspecting;
 mod monitor;
+mod reading;
 mod serving;
 mod watching;
 

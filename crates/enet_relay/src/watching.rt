@@ -2,7 +2,7 @@
 
 use crate::desk::Desk;
 use crate::monitor::{Counted, Monitor};
-use enet_codec::Refusal;
+use enet_codec::{PeerRef, Refusal};
 use enet_console::{Outlet, Stream, Word};
 use enet_serve::{ChatServer, Gauge, Met, Note, Watch, WatchedHost};
 use enet_service::Report;
@@ -15,11 +15,14 @@ use std::time::{Duration, Instant};
 /// Totals are told once in so many seconds.
 const BETWEEN_TOTALS: u64 = 60;
 
+/// Refused orders are told once in so many seconds.
+const BETWEEN_REFUSALS: u64 = 1;
+
 /// At one look so many lines of the operator are obeyed at most.
 const MOST_LINES: u32 = 16;
 
-/// Tells the server's operator on standard error: its totals each minute and, where that is asked, each connection, each end of one and
-/// each refused order; and does what the operator says. A line that can't be written, or not at once, ends nothing and holds up nothing.
+/// Tells the server's operator on standard error: its totals each minute and, if that is asked, each connection, each end of one and, once a
+/// second, how many orders were refused; and does what the operator says. A line that can't be written, or not at once, ends nothing and holds up nothing.
 #[derive(Drop)]
 pub struct Operator<'a, R> {
     rt: &'a R,
@@ -32,6 +35,11 @@ pub struct Operator<'a, R> {
     told_at: Option<Instant>,
     lost: u64,
     refused: u64,
+    // How many refused orders the log has still to tell, and to whom the last one was and why it was refused.
+    untold: u64,
+    last_refused: Option<(Option<PeerRef>, Refusal)>,
+    // When it last told some.
+    refusals_at: Option<Instant>,
     // Orders taken and events told by the service.
     orders: u64,
     events: u64,
@@ -58,6 +66,9 @@ impl<'a, R> Operator<'a, R> {
             told_at: None,
             lost: 0,
             refused: 0,
+            untold: 0,
+            last_refused: None,
+            refusals_at: None,
             orders: 0,
             events: 0,
         })
@@ -116,6 +127,18 @@ impl<R: Clock + Print + Eprint> Operator<'_, R> {
             return false;
         }
         self.told_at = Some(now);
+        true
+    }
+
+    // Whether a second has passed since refused orders were last told. True if none were, or the clock can't be read.
+    fn is_time_for_refusals(&mut self) -> bool {
+        let now = Instant::now(self.rt).ok();
+        if let (Some(now), Some(told_at)) = (now, self.refusals_at) {
+            if now.saturating_duration_since(told_at) < Duration::from_secs(BETWEEN_REFUSALS) {
+                return false;
+            }
+        }
+        self.refusals_at = now;
         true
     }
 
@@ -187,34 +210,55 @@ impl<R: Clock + Print + Eprint> Operator<'_, R> {
         }
     }
 
+    // Who came and went first, so that no line of refused orders takes the place of one of these.
     fn log_all(&mut self, host: &WatchedHost) {
         for note in host.notes() {
+            if let Note::Refused { peer, why } = note {
+                self.last_refused = Some((*peer, *why));
+            }
             if let Some(line) = logged(self.alloc, note) {
                 self.errors.line(self.rt, line);
             }
         }
         self.errors.miss(host.missed());
+        self.untold = self.untold.saturating_add(host.refused());
+        self.log_refusals();
+    }
+
+    fn log_refusals(&mut self) {
+        let Some((peer, why)) = self.last_refused else {
+            return;
+        };
+        if self.untold > 0 && self.is_time_for_refusals() {
+            let line = logged_refusals(self.alloc, self.untold, peer, why);
+            self.errors.line(self.rt, line);
+            self.untold = 0;
+        }
     }
 }
 
-// A server that only relays gives no order to connect: of such a one nothing is told.
+// A server that only relays gives no order to connect: of such a one nothing is told. Refused orders are counted.
 fn logged(alloc: Global, note: &Note) -> Option<Result<String, AllocError>> {
     match note {
-        Note::Asked { .. } => None,
+        Note::Asked { .. } | Note::Refused { .. } => None,
         Note::Came { met, info } => Some(logged_met(alloc, "connect", met, *info)),
         Note::Went { met, info } => Some(logged_met(alloc, "disconnect", met, *info)),
-        Note::Refused {
-            peer: Some(peer),
-            why,
-        } => {
-            let slot = peer.slot;
-            let generation = peer.generation;
-            Some(format!(in alloc; "order to {slot}.{generation} refused: {why}\n"))
-        }
-        Note::Refused { peer: None, why } => {
-            Some(format!(in alloc; "order to connect refused: {why}\n"))
-        }
     }
+}
+
+// So many orders were refused, the last one to this peer, or to connect.
+fn logged_refusals(
+    alloc: Global,
+    count: u64,
+    peer: Option<PeerRef>,
+    why: Refusal,
+) -> Result<String, AllocError> {
+    let Some(peer) = peer else {
+        return format!(in alloc; "orders refused {count}, the last to connect: {why}\n");
+    };
+    let slot = peer.slot;
+    let generation = peer.generation;
+    format!(in alloc; "orders refused {count}, the last to {slot}.{generation}: {why}\n")
 }
 
 fn logged_met(alloc: Global, what: &str, met: &Met, info: u32) -> Result<String, AllocError> {
