@@ -102,6 +102,7 @@ typedef struct {
     bool has_failed;           /* the socket failed to send since the service began */
     Slot *slots;
     uint64_t clock, refreshed; /* milliseconds */
+    bool is_stale;             /* the peers' fields are to be renewed, once what is due was sent */
     uint64_t full_at;          /* when no slot was free for a peer that came; UINT64_MAX where one may be */
     Marks *marks;              /* by slots; each one's links stand */
     Given *sent;               /* packets that the program gave away since the last service */

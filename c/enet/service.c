@@ -27,8 +27,7 @@ void layer_go_on(Layer *layer) {
     if (now - layer->refreshed < REFRESH_MS) return;
     layer->refreshed = now;
     count_anew(&layer->host);
-    for (size_t i = 0; i < layer->config.peers; i++)
-        if (layer->slots[i].known) layer_show_peer(layer, &layer->host.peers[i]);
+    layer->is_stale = true;
 }
 
 /* For how many milliseconds of the caller's time nothing is due, once all was sent that the core gives. */

@@ -214,6 +214,13 @@ static void send_gathered(Layer *layer) {
     layer->parcel_count = layer->gathered_bytes = 0;
 }
 
+/* The peers' fields, once what was due was sent: what is due isn't in transit. */
+static void show_peers(Layer *layer) {
+    layer->is_stale = false;
+    for (size_t i = 0; i < layer->config.peers; i++)
+        if (layer->slots[i].known) layer_show_peer(layer, &layer->host.peers[i]);
+}
+
 /* Sends all that the core gives. Where a callback of the program's asks for it in the middle, the rest goes once that has returned. */
 void layer_put_out(Layer *layer) {
     gofnjerta_datagram gave;
@@ -226,6 +233,7 @@ void layer_put_out(Layer *layer) {
     }
     send_gathered(layer);
     layer->puts_out = false;
+    if (layer->is_stale) show_peers(layer);
 }
 
 /* Whether another peer may come from an address: there are fewer than duplicatePeers, those that connect there from here apart, and with those

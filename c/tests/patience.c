@@ -1,7 +1,8 @@
 /* How long a dead peer takes to be noticed, on a clock in memory (memory_net.h): for each of some settings of enet_peer_timeout and round trips
  * the other end falls silent, and the milliseconds from the first command that it leaves unanswered to the DISCONNECT event are those
- * that the rule gives (docs/PROTOCOL.md, "Clock and round trips"), worked out here by the rule's words alone. Prints the table. With -DREFERENCE, over the
- * reference library, it tests its rule: timeouts double without an end, and one try after the minimum is enough. */
+ * that the rule gives (docs/PROTOCOL.md, "Clock and round trips"), worked out here by the rule's words alone. Prints the table. Until then
+ * what isn't acknowledged is in transit, by the peer's fields. With -DREFERENCE, over the reference library, it tests its rule: timeouts
+ * double without an end, and one try after the minimum is enough. */
 #include "../gofnjerta.h"
 #include "memory_net.h"
 #include <enet/enet.h>
@@ -62,8 +63,8 @@ static void step(unsigned trip) {
     net_go_on(1);
 }
 
-/* How long it takes from the first command that is never answered, which gets this timeout. */
-static uint64_t notice(unsigned trip, enet_uint32 limit, enet_uint32 minimum, enet_uint32 maximum, uint64_t *timeout) {
+/* Two hosts that are connected, so long after each other's datagrams. */
+static void meet(unsigned trip) {
     ENetAddress at = {.port = ENET_PORT_ANY};
     enet_address_set_host_ip(&at, "127.0.0.1");
     net_begin(5000, true);
@@ -76,6 +77,16 @@ static uint64_t notice(unsigned trip, enet_uint32 limit, enet_uint32 minimum, en
     CHECK(enet_host_connect(client, &at, 1, 0) != NULL);
     for (unsigned i = 0; i < SETTLE_MS; i++) step(trip);
     CHECK(guest && guest->state == ENET_PEER_STATE_CONNECTED);
+}
+
+static void part(void) {
+    enet_host_destroy(client);
+    enet_host_destroy(server);
+}
+
+/* How long it takes from the first command that is never answered, which gets this timeout. */
+static uint64_t notice(unsigned trip, enet_uint32 limit, enet_uint32 minimum, enet_uint32 maximum, uint64_t *timeout) {
+    meet(trip);
     enet_peer_timeout(guest, limit, minimum, maximum);
     while (net_clock() < last + trip + 5) step(trip); /* all that was sent is answered */
     is_cut = true;
@@ -84,9 +95,24 @@ static uint64_t notice(unsigned trip, enet_uint32 limit, enet_uint32 minimum, en
         step(trip);
     }
     CHECK(is_gone && first);
-    enet_host_destroy(client);
-    enet_host_destroy(server);
+    part();
     return gone_at - first;
+}
+
+/* A packet that nobody acknowledges is in transit until its peer is gone: where time goes on by 100 ms at once, it is sent again in the same
+ * service in which it is late, and in which the fields are renewed. */
+static void in_transit(void) {
+    ENetEvent event;
+    meet(trips[0]);
+    is_cut = true;
+    CHECK(enet_peer_send(guest, 0, enet_packet_create("unheard", 7, ENET_PACKET_FLAG_RELIABLE)) == 0);
+    for (unsigned i = 0; i < 30; i++) {
+        int told = enet_host_service(server, &event, 0);
+        CHECK(told == 0 && guest->reliableDataInTransit == 7);
+        while (net_flying()) pass_one();
+        net_go_on(100);
+    }
+    part();
 }
 
 int main(void) {
@@ -101,6 +127,7 @@ int main(void) {
         }
         printf("\n");
     }
+    in_transit();
     net_begin(0, true);
     return ended("patience");
 }
