@@ -1,7 +1,7 @@
 #!/usr/bin/env bash
-# Builds out/probe, the program of trials/probe, for check-memory.sh, check-strangers.sh and check-rows.sh: it becomes a crate in a copy of the
-# repository, `rt try` compiles it, and the system's linker links it. It isn't proved, since its proofs would promise nothing; it stops at each
-# overflow and each index out of range. Takes a minute of a processor.
+# Builds out/probe, the program of trials/probe, for check-memory.sh, check-strangers.sh, check-prices.sh and check-rows.sh: it becomes a crate in a
+# copy of the repository, `rt try` compiles it, and the system's linker links it. It isn't proved, since its proofs would promise nothing; it
+# stops at each overflow and each index out of range. Takes a minute of a processor. MODULE=FILE also leaves its LLVM module there, as text.
 set -eu
 cd "$(dirname "$0")/.."
 . bench/unproved.sh
@@ -19,4 +19,5 @@ text_of "$room"
 # What serves the address sanitizer goes, which counts no growth that a program loaded with it counts.
 sed -i 's/ sanitize_address//' "$room/module.ll"
 compile "$room/module.ll" "$room/program"
+[ -z "${MODULE:-}" ] || cp "$room/module.ll" "$MODULE"
 mv "$room/program" out/probe

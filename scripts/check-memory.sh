@@ -60,7 +60,7 @@ row() {
 
 # The same of a script of the lab.
 lab_row() {
-    { echo 0; cat "scripts/rows/$1.lab"; echo =; cat "scripts/rows/$1.out"; } > "$room/input"
+    { echo 0; grep -v "^#" "scripts/rows/$1.lab"; echo =; cat "scripts/rows/$1.out"; } > "$room/input"
     row "$1"
 }
 
