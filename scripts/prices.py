@@ -437,7 +437,7 @@ def faults_by_rules(row, before):
     rows = [row, *before]
     count, came, came_bytes = (sum(getattr(each, part) for each in rows) for part in ("count", "came", "came_bytes"))
     most = 2000 * came + 1000 * came_bytes
-    if row.kind != "call" and count > most:
+    if row.kind not in ("call", "wait") and count > most:  # what time alone brings isn't a datagram's
         yield f"{count} instructions for {came} datagrams of {came_bytes} bytes, above {most}"
     if row.kind in ("stranger", "unproved") and row.each() > 25000:
         yield f"{row.each():.0f} instructions for a datagram of an address that isn't proved, above 25000"
