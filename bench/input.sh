@@ -1,4 +1,4 @@
-# What bench/run and scripts/check-speed.sh share.
+# What bench/run and scripts/check/check-speed.sh share.
 bench=$(cd "$(dirname "${BASH_SOURCE[0]}")" && pwd)
 
 # The words behind $2, for a program: `SEED` is the seed $1, and `<NAME.awk,SIZE` is no word but the standard input that bench/NAME.awk

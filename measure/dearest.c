@@ -1,9 +1,10 @@
 /* A fuzzer that looks for cost: an input says which datagrams strangers, half-open and connected clients send a host, in which order, when
  * its events and datagrams are taken and what its user sends. Of it a script of `probe prices` is made (trials/probe/prices.rt.in), which
  * runs here, in memory: the program's `main`, `read`, `write` and clock are renamed, and it is compiled so that each edge that it takes
- * calls `cost_edge` (scripts/fuzz-cost.sh). Sought are datagrams that take most beside what they may, 2,000 instructions each and 1,000 a
- * byte: one by itself, and all of an input in sum. An edge counts as twelve instructions. What time alone brings, and what the user's own
- * calls take, isn't counted. With libFuzzer it is built with -DFUZZER. Alone: `dearest play FILE..` says of each input what took most,
+ * calls `cost_edge` (scripts/by-hand/fuzz-cost.sh). Sought are datagrams that take most beside what they may, 2,000 instructions each and
+ * 1,000 a byte: one by itself, and all of an input in sum. An edge counts as twelve instructions. What time alone brings, and what the
+ * user's own calls take, isn't counted. With libFuzzer it is built with -DFUZZER. Alone: `dearest play FILE..` says of each input what took
+ * most,
  * `dearest tell FILE` prints its script with what each row took, and `dearest rows FILE` runs a script and prints the edges of each row. */
 #include <stdarg.h>
 #include <stdbool.h>

@@ -1,5 +1,5 @@
 /* A clock that counts what calls cost: `cc -O2 -shared -fPIC -o priced.so priced.c`, with Valgrind's headers, and then `valgrind
-   --tool=callgrind --instr-atstart=no --callgrind-out-file=FILE .. PROGRAM` with LD_PRELOAD=./priced.so (scripts/prices.py). Between each
+   --tool=callgrind --instr-atstart=no --callgrind-out-file=FILE .. PROGRAM` with LD_PRELOAD=./priced.so (scripts/check/prices.py). Between each
    two readings of the clock, the first and the second, the third and the fourth, Callgrind counts instructions, and leaves what it counted
    in FILE.1, FILE.2 and so on; PRICED names a file that gets a line for each such pair: by how many bytes more memory was taken then and
    not given back. Outside of them nothing is counted, which takes a fifth of the time. For programs of one thread, without the C library's

@@ -31,17 +31,17 @@ show() {
 }
 
 library() {
-    if bash scripts/archive-c.sh > /dev/null; then bash scripts/check-c.sh; else echo '0 passed, 1 failed'; false; fi
+    if bash scripts/lib/archive-c.sh > /dev/null; then bash scripts/check/check-c.sh; else echo '0 passed, 1 failed'; false; fi
 }
 
 # What the crates' folders have of built libraries goes first, so that those that stand there afterwards are the gate's; out/probe, too.
 rm -rf crates/*/out/rlib crates/enet_c/out/libenet_c.a out/probe out/tests.txt
 row texts << 'END'
-bash scripts/build-probe.sh
-bash scripts/check-edits.sh --read
-python3 scripts/quotes.py
-python3 scripts/check-documents.py
-bash scripts/check-trials.sh
+bash scripts/lib/build-probe.sh
+bash scripts/check/check-edits.sh --read
+python3 scripts/check/quotes.py
+python3 scripts/check/check-documents.py
+bash scripts/check/check-trials.sh
 END
 # The gate, with one check a processor: several processors on one check take twice the processor time for the same proof. Sets `gate` to its status,
 # and `was_full` to 1 where it says that the disk was full.
@@ -75,22 +75,22 @@ if [ "$gate" != 0 ]; then
     exit 1
 fi
 row counts << 'END'
-bash scripts/check-rows.sh
-bash scripts/check-inspect.sh
-bash scripts/check-memory.sh
-bash scripts/check-strangers.sh
-bash scripts/check-prices.sh
-bash scripts/check-speed.sh
+bash scripts/check/check-rows.sh
+bash scripts/check/check-inspect.sh
+bash scripts/check/check-memory.sh
+bash scripts/check/check-strangers.sh
+bash scripts/check/check-prices.sh
+bash scripts/check/check-speed.sh
 library
 END
 row talks << 'END'
-bash scripts/check-clients.sh
-bash scripts/check-operator.sh
-bash scripts/check-admission.sh
-python3 scripts/check-hostile-server.py
-bash scripts/check-metrics.sh
-bash scripts/check-deploy.sh
-python3 scripts/check-dissector.py
+bash scripts/check/check-clients.sh
+bash scripts/check/check-operator.sh
+bash scripts/check/check-admission.sh
+python3 scripts/check/check-hostile-server.py
+bash scripts/check/check-metrics.sh
+bash scripts/check/check-deploy.sh
+python3 scripts/check/check-dissector.py
 END
 # What out/tests.txt says: of a test that counts nothing whether it ended well.
 tell_counts() {

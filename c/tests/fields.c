@@ -1,6 +1,6 @@
 /* Prints each field of a host and of a peer that programs may read, at four moments of one conversation: the hosts are made, connected, have
- * talked, and are apart. What the clock or chance makes is told in words. Compiled against either library's header: scripts/check-c.sh
- * compares what both print, and c/tests/fields.differ names each field that differs, with the reason. */
+ * talked, and are apart. What the clock or chance makes is told in words. Compiled against either library's header:
+ * scripts/check/check-c.sh compares what both print, and c/tests/fields.differ names each field that differs, with the reason. */
 #include <enet/enet.h>
 #include <stdbool.h>
 #include <stdio.h>

@@ -5,8 +5,9 @@
  * - the host's number of connected peers is that of those that are;
  * - while no datagram was changed, forged or of an earlier connection: each packet that carries its number comes whole, once, in the order
  *   of its channel, and no reliable one is missing before it.
- * With libFuzzer it is built with -DFUZZER (scripts/fuzz-c.sh). Alone: `fuzz play FILE` plays the inputs of a file, a line of hexadecimal digits
- * each; `fuzz draw SEED COUNT` draws so many and prints them in such lines. An input that shows a fault ends it by a signal. */
+ * With libFuzzer it is built with -DFUZZER (scripts/by-hand/fuzz-c.sh). Alone: `fuzz play FILE` plays the inputs of a file, a line of
+ * hexadecimal digits each; `fuzz draw SEED COUNT` draws so many and prints them in such lines. An input that shows a fault ends it by a
+ * signal. */
 #include "memory_net.h"
 #include <enet/enet.h>
 #include <errno.h>

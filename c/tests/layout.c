@@ -1,4 +1,4 @@
-/* Prints where the fields of libenet's public structures lie, and their sizes: scripts/check-c.sh compares what it prints when it is
+/* Prints where the fields of libenet's public structures lie, and their sizes: scripts/check/check-c.sh compares what it prints when it is
  * compiled against c/enet/enet.h with what it prints when it is compiled against the reference library's header. */
 #include <enet/enet.h>
 #include <stddef.h>

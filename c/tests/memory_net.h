@@ -1,6 +1,6 @@
 /* Sockets, a network, a clock and memory as a test wants them: the layer calls `net_socket` in socket's place and so on, since its objects'
- * names are changed (scripts/in-memory.sh). All sockets are of 127.0.0.1. What is sent is in flight until the test brings or drops it; time
- * goes on where the test says so, and where a host waits. */
+ * names are changed (scripts/lib/in-memory.sh). All sockets are of 127.0.0.1. What is sent is in flight until the test brings or drops it;
+ * time goes on where the test says so, and where a host waits. */
 #ifndef MEMORY_NET_H
 #define MEMORY_NET_H
 #include <stdbool.h>

@@ -9,8 +9,8 @@
 //! (`sent_in`); what is kept of a command (`told_of`), and that those of a datagram stand behind one another (`push_marks`); when it was
 //! captured (`moment_of`); between which connections' ends it goes, which is the last such connection, and whether it goes on with that
 //! (`way_in`, `last_between`, `goes_on`).
-//! Only tested, by scripts/check-inspect.sh over 446 captured datagrams, crowds, random datagrams, captures that are cut short, and the rows of
-//! trials/captured/marks.rows: that a datagram is put into the connection that was found (`connection_for`, `note`).
+//! Only tested, by scripts/check/check-inspect.sh over 446 captured datagrams, crowds, random datagrams, captures that are cut short, and
+//! the rows of trials/captured/marks.rows: that a datagram is put into the connection that was found (`connection_for`, `note`).
 #![tactic(auto)]
 
 mod connections;

@@ -6,8 +6,8 @@
 //! had no end of one (`Control::next`, by `Reads`), and that a read which fails isn't its end (`what_came`); that the count of lines which
 //! weren't written grows by one, or is told and begins anew (`Outlet::line` by `TakesLine`, `settle` by `Settles`, `miss`), by what the system
 //! answers (`counted`, `takes_lines`); what [`version`] tells (`told`); of the rest that it is safe, and that each call returns.
-//! Only tested, by scripts/check-rows.sh: command lines and what each is answered; the lines of `serve --control`; that an output which takes
-//! nothing holds up nothing. By scripts/check-operator.sh: the same of standard error, and what the lines do to clients.
+//! Only tested, by scripts/check/check-rows.sh: command lines and what each is answered; the lines of `serve --control`; that an output
+//! which takes nothing holds up nothing. By scripts/check/check-operator.sh: the same of standard error, and what the lines do to clients.
 //! Neither: which bytes the system gives, and what it is given: so nor that a line was written where the count says so.
 #![tactic(auto)]
 

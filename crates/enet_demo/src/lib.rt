@@ -13,8 +13,8 @@
 //!
 //! # Only tested, or neither
 //!
-//! - By scripts/check-rows.sh and scripts/check-clients.sh: that each client gets all packets of the others, also of a relay that was there
-//!   before, that a port that is taken is a refusal, and that the threads end.
+//! - By scripts/check/check-rows.sh and scripts/check/check-clients.sh: that each client gets all packets of the others, also of a relay
+//!   that was there before, that a port that is taken is a refusal, and that the threads end.
 //! - Neither: whose refusal is told of several; when a client sees that the others are there; that a client hands over what it asks for (one
 //!   that never does keeps `Visits`, with all of it left).
 #![tactic(auto)]

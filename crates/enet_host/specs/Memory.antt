@@ -1,7 +1,7 @@
 -- How many bytes a host holds, and how many at most: for what others sent, and for what is queued or unacknowledged. What one of each kind
--- takes is at least what the allocator gave for it, as scripts/check-memory.sh counts it. Lists keep the room that they had, which counts
--- only as far as the bound has it for what others sent: of commands until none is queued or unacknowledged, and of unsequenced packets (up
--- to 160 bytes each) until none waits.
+-- takes is at least what the allocator gave for it, as scripts/check/check-memory.sh counts it. Lists keep the room that they had, which
+-- counts only as far as the bound has it for what others sent: of commands until none is queued or unacknowledged, and of unsequenced
+-- packets (up to 160 bytes each) until none waits.
 use Rattle.std.specs.Prelude.{ℕ, ◌+◌, ◌*◌, ◌==◌, ◌&&◌, Bool, false, not, if◌then◌else◌, Option, Some, None, List, [], ◌∷◌, length, map, sum_by}
 use Rattle.enet_codec.specs.declared.command.Fragment.{Fragment}
 use Rattle.enet_codec.specs.declared.config.Config.{Config}

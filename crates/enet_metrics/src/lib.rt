@@ -7,10 +7,10 @@
 //! `with_stops`, `with_refusals`, `with_trip`), in which bucket (`bucket_of`), and which of the numbers that are stored is which figure
 //! (`standing_in`); which of those that haven't asked yet gives way where there is no more room (`gives_way`); of the rest that it is safe, and
 //! that each call but the two that wait returns.
-//! Only tested, by scripts/check-metrics.sh: what the page says, beside what clients counted; that a client which says nothing, or reads
-//! nothing, holds up neither another one nor the server, nor do many at another address; that `/healthz` tells of a service that doesn't look.
-//! Neither: that what is read (`Figures::read`) was stored (`Figures::look`), and in its place: cells that threads share say nothing of what
-//! is in them. Nor that the numbers of one page are of one moment.
+//! Only tested, by scripts/check/check-metrics.sh: what the page says, beside what clients counted; that a client which says nothing, or
+//! reads nothing, holds up neither another one nor the server, nor do many at another address; that `/healthz` tells of a service that
+//! doesn't look. Neither: that what is read (`Figures::read`) was stored (`Figures::look`), and in its place: cells that threads share say
+//! nothing of what is in them. Nor that the numbers of one page are of one moment.
 #![tactic(auto)]
 
 mod answering;

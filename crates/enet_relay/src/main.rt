@@ -4,15 +4,15 @@
 //!
 //! Proved: that it is safe; what a run of the server did is said by `enet_serve`, what came of each client of the demonstration by
 //! `enet_demo`, how a script of the lab is answered by `enet_lab`, and what is told of a datagram by `enet_text`.
-//! Only tested, by scripts/check-inspect.sh: what `inspect` writes and its status. By scripts/check-rows.sh: the scripts of scripts/rows;
-//! the command lines `--help`, `--version`, no subcommand, an unknown one, a word too many, and those of `serve` and `demo` with numbers
-//! out of range; what both print; the answers to the lines of `serve --control`, and that a standard output that takes nothing holds up
-//! nothing; an input that can't be read, an output that can't be written, a port that is taken, an address that isn't there, a system that
-//! makes no threads. By scripts/check-clients.sh: what clients of the reference library get from `serve`, and those of `demo`
-//! from a server of that library, the log, and how a server ends whose relay finds no memory. By scripts/check-operator.sh: what each
-//! line of `serve --control` does to clients, and that a standard error which nobody reads disturbs none. By
-//! scripts/check-admission.sh: whom `serve` lets in, by scripts/check-metrics.sh: what it tells a monitor. By scripts/check-deploy.sh:
-//! that clients are told where the server is told to stop. By hand alone: want of memory elsewhere
+//! Only tested, by scripts/check/check-inspect.sh: what `inspect` writes and its status. By scripts/check/check-rows.sh: the scripts of
+//! scripts/rows; the command lines `--help`, `--version`, no subcommand, an unknown one, a word too many, and those of `serve` and `demo`
+//! with numbers out of range; what both print; the answers to the lines of `serve --control`, and that a standard output that takes nothing
+//! holds up nothing; an input that can't be read, an output that can't be written, a port that is taken, an address that isn't there, a
+//! system that makes no threads. By scripts/check/check-clients.sh: what clients of the reference library get from `serve`, and those of
+//! `demo` from a server of that library, the log, and how a server ends whose relay finds no memory. By scripts/check/check-operator.sh:
+//! what each line of `serve --control` does to clients, and that a standard error which nobody reads disturbs none. By
+//! scripts/check/check-admission.sh: whom `serve` lets in, by scripts/check/check-metrics.sh: what it tells a monitor. By
+//! scripts/check/check-deploy.sh: that clients are told where the server is told to stop. By hand alone: want of memory elsewhere
 //! (`E1 Memory`, status 1), and the line of totals of `serve --forever`.
 //! Neither: that `serve` ends, since threads may wait.
 #![tactic(auto)]

@@ -29,10 +29,10 @@
 //!
 //! # Only tested, or neither
 //!
-//! - By scripts/check-admission.sh: whom the guard of a server lets in.
-//! - By scripts/check-rows.sh and scripts/check-clients.sh: what real clients get, that a call ends, at which address a server listens, what
-//!   the system says where it can't, that the queues settle (no E16), that the server ends once its relay has, that its clients are told of
-//!   its end, and that the threads end.
+//! - By scripts/check/check-admission.sh: whom the guard of a server lets in.
+//! - By scripts/check/check-rows.sh and scripts/check/check-clients.sh: what real clients get, that a call ends, at which address a server
+//!   listens, what the system says where it can't, that the queues settle (no E16), that the server ends once its relay has, that its
+//!   clients are told of its end, and that the threads end.
 //! - Neither: what a network gives, and when; when E1, E10 and E16 come; that in one thread the service doesn't sleep while orders wait; what
 //!   `gauge` shows and `watch` is told; when the guard is told who is connected.
 //! - Of leave-taking: from which clients leave is taken, and when it gives them up. That the clock alone does that can't be said: the kit ties

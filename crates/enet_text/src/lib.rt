@@ -9,8 +9,8 @@
 //! the text of each datagram, in order, numbered from 0 on, and which line is the first that can't be read; of a capture the packets that
 //! stand in it, one after another, each told as a datagram whose bytes stand in it, with its time, or counted in the last line, and where it
 //! is cut short. Where memory is wanting, what was written is a part of that from its beginning.
-//! Only tested, by scripts/rows and scripts/check-inspect.sh: that the texts find memory; that the lines tell of 446 captured datagrams what
-//! their remarks say; which packets of a capture are datagrams, which of their bytes, and between which addresses.
+//! Only tested, by scripts/rows and scripts/check/check-inspect.sh: that the texts find memory; that the lines tell of 446 captured
+//! datagrams what their remarks say; which packets of a capture are datagrams, which of their bytes, and between which addresses.
 //! Neither: what was written before reading or writing failed.
 #![tactic(auto)]
 

@@ -9,7 +9,7 @@
 //! fault, and else only with the word that memory was wanting ([`MemoryWire::starved`]).
 //! Only tested, by `check_queues`: that datagrams pass through the socket, which stands at the address that was asked for, that its
 //! milliseconds add up, and that an address that is taken is E14, with what the system says; by `check_service`, that a wire in memory isn't
-//! starved where there is memory; by scripts/check-clients.sh: a reception that fails once.
+//! starved where there is memory; by scripts/check/check-clients.sh: a reception that fails once.
 //! Neither: that a bell wakes a thread, whether the service is idle or expects orders, how long a wait takes, when a datagram comes, how
 //! many datagrams the system keeps, which of its errors are faults, that `reason` is that of the last fault, and that nobody else knows what
 //! [`system_secret`] and [`system_word`] got of the system.

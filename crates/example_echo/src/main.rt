@@ -4,7 +4,7 @@
 //! packets of 0 to 20,000 bytes sent back by a server at that port, ours or the reference library's; `example_echo both PORT` does both
 //! in one process. All at 127.0.0.1.
 //!
-//! Proved: that it is safe. Only tested, by its stored run and scripts/check-clients.sh: what is said and comes back. Neither: that a
+//! Proved: that it is safe. Only tested, by its stored run and scripts/check/check-clients.sh: what is said and comes back. Neither: that a
 //! visit ends sooner than after its 20,000 turns.
 #![tactic(auto)]
 

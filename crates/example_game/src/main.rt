@@ -6,7 +6,7 @@
 //!
 //! Proved: that it is safe, which number is to be guessed for a drawn word (`secret_of`), and the text that answers a guess, for the
 //! secret and the count of the player that it is made for (`IsAnswer`, by `text`). Only tested, by its stored run and
-//! scripts/check-clients.sh: that guesses are counted and answered to the players who made them, and that it ends. Neither: when the
+//! scripts/check/check-clients.sh: that guesses are counted and answered to the players who made them, and that it ends. Neither: when the
 //! threads run.
 #![tactic(auto)]
 

@@ -1,0 +1,183 @@
+#!/usr/bin/env bash
+# Tries the edits of edits/CRATE/, which the gate leaves alone, and those of crates/CRATE/must-fail/: `check-edits.sh [--read] [CRATE..]`, where
+# no crate is named each that has some. `rt check` proves the crates as they stand, in a copy of the repository, over the libraries that `rt ci`
+# left here (take-libraries.py); where it left none, that takes an hour and more. Then each edit is made there and checked, in 10 to 40 seconds,
+# and is told by how the prover refuses it:
+#
+#     false   It names values that all facts known at a goal allow and at which the goal is false, and has computed it there ('the facts known
+#             there allow values at which this goal is false'). No proof of the edited code gets past that, as long as nothing else is known.
+#     limit   Its search for a proof ended at a limit of time or steps ('`search` gave up at one of its limits'), and found no such values.
+#     open    Its search ended without a proof, for want of a lemma perhaps, and found no such values.
+#     proof   A lemma that was written for the code as it was doesn't fit. Where an answer to a goal doesn't, the edit is checked once more
+#             without that answer, and is told by what comes of it then.
+#     name    Nothing but a proof file that names what the edit took away is wrong.
+#
+# Only the first shows that a contract doesn't allow the edit: a goal that is limit, open or proof may be true and three lines away from its
+# proof. So is, for one, that of a call which answers 'no memory' where it likes: no clause says when memory is wanting. Passed are those that
+# are false; limit, open and proof neither pass nor fail, and are named. An edit fails of which only a name is gone, that is still proved, that
+# can't be made or read, or came to no result. With --read nothing is proved: in half a minute it shows which edits no longer fit the text, and
+# each that fits passes. Prints how many libraries it took, what failed, and for each crate how many edits became what, in how many seconds. The
+# last line is 'N passed, M failed'; the status is 1 where one failed, or nothing was tried.
+cd "$(dirname "$0")/../.." || exit 1
+. scripts/lib/tally.sh
+
+# Whether there are edits of the crate $1.
+has_edits() {
+    [[ $1 != */* ]] && [ -d "crates/$1" ] && [ -d "edits/$1" -o -d "crates/$1/must-fail" ] && return
+    fail "$1" "there are no edits of a crate of this name"
+    return 1
+}
+
+# Copies what `rt` reads of the repository, with all edits of these crates in must-fail/.
+copy() {
+    local crate
+    mkdir "$copy" && tar -cf - --exclude='crates/*/out' crates crates.txt HANDLES | tar -xf - -C "$copy" || return 1
+    for crate; do
+        mkdir -p "$copy/crates/$crate/must-fail"
+        [ ! -d "edits/$crate" ] || cp "edits/$crate"/* "$copy/crates/$crate/must-fail/" || return 1
+    done
+}
+
+# Makes the edit of the file $1 in the folder, where it may stand: each `old:` once in its file. What doesn't fit is on standard error.
+make_edit() {
+    awk '
+        function give_up(why) { print why > "/dev/stderr"; bad = 1; exit 1 }
+        function text_of(path, line, text) {
+            while ((getline line < path) > 0) text = text line "\n"
+            close(path)
+            return text
+        }
+        /^file: / { path = substr($0, 7) }
+        /^old: / { old = substr($0, 6) }
+        /^new:/ {
+            text = text_of(path)
+            at = old == "" ? 0 : index(text, old)
+            rest = substr(text, at + length(old))
+            if (at == 0 || index(rest, old) > 0) give_up("an `old:` text does not stand once in " path)
+            printf "%s%s%s", substr(text, 1, at - 1), substr($0, 6), rest > path
+            close(path)
+            made = 1
+        }
+        END { if (!made && !bad) give_up("it has no pair of `old:` and `new:`") }
+    ' "$1"
+}
+
+# What became of an edit, by the status $1 with which `rt check` ended, and what it said in $room/said.
+outcome() {
+    local names='has no field|is not in scope|has no `|was not admitted'
+    if [ "$1" -eq 0 ]; then
+        echo 'not refused: the crate is still proved'
+    elif ! grep -q '^logic=not-proved' "$room/said"; then
+        echo "no result: $(grep -m 1 'error' "$room/said" || tail -n 1 "$room/said")"
+    elif grep -q '; the facts known there allow values at which this goal is false' "$room/said"; then
+        echo false
+    elif grep -Eq '`(search|grind)` gave up at one of its limits' "$room/said"; then
+        echo limit
+    elif grep -q '^note: [^ ]*: it is not proved that ' "$room/said"; then
+        echo open
+    elif grep -E '^(\./)?proofs/[^ ]+: error' "$room/said" | grep -Evq "$names"; then
+        echo proof
+    elif grep -Eq '^(\./)?proofs/[^ ]+: error' "$room/said"; then
+        echo name
+    else
+        echo "no result: $(grep -m 1 'error' "$room/said" || tail -n 1 "$room/said")"
+    fi
+}
+
+# Takes the answers away that don't fit their goals, by what `rt check` said. False where there are none.
+drop_answers() {
+    local file goal found=1
+    while read -r file goal; do
+        awk -v goal="$goal" 'BEGIN { RS = ""; ORS = "\n\n" } { text = "\n" $0 } index(text, "\npub " goal " :") == 0' "$file" > "$room/answers" &&
+            cp "$room/answers" "$file" && found=0
+    done < <(sed -nE 's/^(\.\/)?(proofs\/[^ ]*\/Answers\.antt):[0-9]+:[0-9]+: error: `([^`]+)`.*/\2 \3/p' "$room/said" | sort -u)
+    return "$found"
+}
+
+# Puts the crate back as it stands, with what its check kept, in its folder of the copy.
+restore() {
+    rm -rf src specs proofs out
+    cp -a "$room/whole/." .
+}
+
+# Tries the edit of the file $1 of the crate $2, in its folder of the copy, over what the check of the crate as it stands kept.
+try_edit() {
+    local name=$2/${1##*/} what
+    restore || return 1
+    if ! make_edit "$1" 2> "$room/said"; then
+        fail "$name" "$(<"$room/said")"
+        return
+    fi
+    rt check --jobs 1 > "$room/said" 2>&1
+    what=$(outcome $?)
+    if [ "$what" = proof ] && drop_answers; then
+        rt check --jobs 1 > "$room/said" 2>&1
+        what=$(outcome $?)
+    fi
+    case $what in
+        false) passed=$((passed + 1)) ;;
+        limit | open | proof) echo "$name: $what: $(grep -m 1 -E ': error|^note: ' "$room/said" | cut -c 1-200)" ;;
+        *) fail "$name" "$what" ;;
+    esac
+    became[$what]=$((${became[$what]:-0} + 1))
+}
+
+# Tries all edits of the crate $1, and leaves it as it stands for the crates above it.
+try_all() {
+    local begun=$SECONDS edit what told=''
+    local -A became=()
+    pushd "$copy/crates/$1" > /dev/null || return
+    if ! rt check --jobs 1 > "$room/said" 2>&1; then
+        fail "$1" "it isn't proved as it stands: $(grep -m 3 error "$room/said" || tail -n 3 "$room/said")"
+    else
+        rm -rf "$room/whole"
+        mkdir "$room/whole"
+        cp -a src specs proofs out "$room/whole/" 2> "$room/said"
+        for edit in must-fail/*; do
+            try_edit "$edit" "$1"
+        done
+        restore || fail "$1" "it could not be put back"
+        for what in false limit open proof; do
+            told="$told, ${became[$what]:-0} $what"
+        done
+        echo "$1:${told#,} in $((SECONDS - begun)) seconds"
+    fi
+    popd > /dev/null || return
+}
+
+# Has `rt fmt` read the edits of the crate $1: it tells of each that it can't apply.
+read_all() {
+    local edit said
+    (cd "$copy/crates/$1" && rt fmt) > "$room/said" 2>&1 || { fail "$1" "$(tail -n 3 "$room/said")"; return; }
+    for edit in "$copy/crates/$1/must-fail"/*; do
+        said=$(grep -F "must-fail/${edit##*/} " "$room/said")
+        [[ $edit == *.edit ]] || said="its name has to end in .edit"
+        if [ -z "$said" ]; then passed=$((passed + 1)); else fail "$1/${edit##*/}" "$said"; fi
+    done
+}
+
+room=$(mktemp -d) || exit 1
+trap 'rm -rf "$room"' EXIT
+copy=$room/copy
+way=try
+[ "$1" != --read ] || { way='read'; shift; }
+if [ $# -eq 0 ]; then
+    mapfile -t crates < <({ ls edits; ls -d crates/*/must-fail | cut -d / -f 2; } | sort -u)
+    set -- "${crates[@]}"
+fi
+known=()
+for crate; do
+    if has_edits "$crate"; then known+=("$crate"); fi
+done
+if [ ${#known[@]} -gt 0 ]; then
+    if copy "${known[@]}"; then
+        [ "$way" = read ] || python3 scripts/by-hand/take-libraries.py . "$copy"
+        for crate in "${known[@]}"; do
+            "${way}_all" "$crate"
+        done
+    else
+        fail copy "no copy of the repository could be made"
+    fi
+fi
+echo "$passed passed, $failed failed"
+[ "$failed" -eq 0 ] && [ "$passed" -gt 0 ]

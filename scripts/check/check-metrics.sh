@@ -1,0 +1,323 @@
+#!/usr/bin/env bash
+# Asks `enet_relay serve --metrics` for its figures while 32 clients of the reference library talk (clients/tally.c), and compares these with
+# what the clients counted; sends it datagrams that it must stop, and requests that it must refuse; has 80 ask nothing for six seconds, and then
+# somebody at another address open a thousand connections a second, and others get their answer meanwhile; forges CONNECTs (clients/forge.c), whose slots must be told as half-open ones, and free again, and the
+# answers to them as sent again, and as root one from port 0, which must do nothing; stops clients, to whom what others say must stay in
+# transit; has some talk over a line that loses (clients/proxy.c), on which some of what is under way must be told as sent again; and stops
+# the thread of the service alone (clients/hold.c), of which /healthz must tell. Each figure that the dashboard of deploy/grafana asks for
+# must be told (dashboard.py). In one thread and in two: `check-metrics.sh [PROGRAM]`. PROGRAM is the built `enet_relay`, by default the one
+# that `rt ci`, or `rt run` in crates/enet_relay, leaves. Prints what failed, and as last line 'N passed, M failed'; the status is 1 where
+# one failed. It takes two and a half minutes.
+cd "$(dirname "$0")/../.." || exit 1
+. scripts/lib/clients.sh
+. scripts/lib/tally.sh
+program=${1:-crates/enet_relay/out/enet_relay}
+
+fail() {
+    echo "FAILED $1 in $threads threads: $2"
+    failed=$((failed + 1))
+}
+
+# Whether $2 is $3; the case is $1.
+same() {
+    if [ "$2" = "$3" ]; then passed=$((passed + 1)); else fail "$1" "'$2' where '$3' is wanted"; fi
+}
+
+begin() {
+    free_port
+    "$program" serve --port "$port" --forever --peers 64 --queue-capacity 1024 --metrics "127.0.0.1:$port" --threads "$threads" --log > "$room/out" 2> "$room/err" &
+    relay=$!
+    for _ in {1..100}; do
+        [ -n "$(ask 'GET /healthz' 2> /dev/null)" ] && return
+        sleep 0.1
+    done
+    fail begin "$(<"$room/err")"
+}
+
+finish() {
+    kill "$relay" 2> /dev/null
+    wait "$relay" 2> /dev/null
+    relay=
+}
+
+# The answer to the request line $1, without its version, within two seconds. It is sent $2 seconds after the connection, at once where $2 isn't
+# there.
+ask() {
+    timeout 2 bash -c 'exec 3<> "/dev/tcp/127.0.0.1/$0" && sleep "$2" && printf "%s HTTP/1.1\r\nHost: here\r\n\r\n" "$1" >&3 && cat <&3' \
+        "$port" "$1" "${2:-0}" | tr -d '\r'
+}
+
+# The status of the answer.
+status() {
+    head -n 1 <<< "$1" | cut -d ' ' -f 2
+}
+
+# The figure $1 of the answer $2.
+figure() {
+    awk -v name="$1" '$1 == name { print $2 }' <<< "$2"
+}
+
+# How many slots are free, spent, connecting, answering, connected and leaving, by the answer $1.
+slots() {
+    local state
+    for state in free spent connecting answering connected leaving; do
+        figure "enet_slots_by_state{state=\"$state\"}" "$1"
+    done | paste -sd ' '
+}
+
+# Asks until the slots are $2, for $3 seconds at most; the case is $1.
+slots_become() {
+    local told
+    for ((i = 0; i < $3 * 5; i++)); do
+        told=$(slots "$(ask 'GET /metrics')")
+        [ "$told" != "$2" ] || break
+        sleep 0.2
+    done
+    same "$1" "$told" "$2"
+}
+
+# How many commands under way were sent more than once.
+sent_again() {
+    figure enet_sent_again "$(ask 'GET /metrics')"
+}
+
+# A CONNECT from port 0. Nothing can be sent to that port, so it must do nothing. It takes a raw socket, so root; else none goes.
+from_port_zero() {
+    [ "$EUID" -eq 0 ] || return
+    python3 - "$port" << 'END' || fail port-zero "it can't be sent"
+import socket, struct, sys
+connect = struct.pack(">HHBBHHBB10I", 0x8FFF, 0, 0x82, 0xFF, 1, 0, 0xFF, 0xFF, 1392, 65536, 2, 0, 0, 5000, 2, 2, 7, 0)
+datagram = struct.pack(">4H", 0, int(sys.argv[1]), 8 + len(connect), 0) + connect
+socket.socket(socket.AF_INET, socket.SOCK_RAW, socket.IPPROTO_UDP).sendto(datagram, ("127.0.0.1", 0))
+END
+}
+
+# CONNECTs that nobody confirms each take a slot, for seven and a half seconds, but none from port 0. One second after the last look that
+# counted slots they are counted again. The answer to each goes again after half a second.
+half_open() {
+    local sent told
+    from_port_zero
+    sent=$("$room/forge" "$port" 20 1)
+    sent=${sent% sent}
+    [ "${sent:-0}" -ge 10 ] || fail forge "only '$sent' went"
+    slots_become half-open "$((64 - sent)) 0 0 $sent 0 0" 3
+    for _ in {1..15}; do
+        told=$(sent_again)
+        [ "$told" != "$sent" ] || break
+        sleep 0.2
+    done
+    same half-open-sent-again "$told" "$sent"
+    slots_become half-open-no-more '64 0 0 0 0 0' 12
+    same half-open-sent-again-no-more "$(sent_again)" 0
+}
+
+# Of clients that talk over a line that loses a fifth, both ways (clients/proxy.c), some commands are sent again; of clients that have gone none.
+lossy() {
+    local server=$port told=0 line talking
+    free_port
+    "$room/proxy" "$port" "$server" 7 loss 20 2> "$room/proxy.err" &
+    line=$!
+    "$room/steady" "$port" 8 6 100 > "$room/lossy.out" 2>&1 &
+    talking=$!
+    port=$server
+    for _ in {1..40}; do
+        told=$(sent_again)
+        [ "${told:-0}" -eq 0 ] || break
+        sleep 0.2
+    done
+    [ "${told:-0}" -gt 0 ] && passed=$((passed + 1)) || fail sent-again 'none was'
+    wait "$talking" || fail lossy "$(<"$room/lossy.out")"
+    kill "$line"
+    slots_become lossy-no-more '64 0 0 0 0 0' 20
+    same sent-again-no-more "$(sent_again)" 0
+}
+
+# Two clients talk, and two others stop: what these are sent, 17 bytes each time, isn't acknowledged until they go on. It leaves the
+# transit each time that it is due to be resent, and is in it again as soon as it goes, which is in the same turn while there is room.
+in_transit() {
+    local told stopped talking
+    "$room/tally" "$port" 2 12 > "$room/stopped.out" 2>&1 &
+    stopped=$!
+    "$room/tally" "$port" 2 7 > "$room/talking.out" 2>&1 &
+    talking=$!
+    slots_become connected '60 0 0 0 4 0' 10
+    kill -STOP "$stopped"
+    sleep 3
+    told=$(figure enet_in_transit_bytes "$(ask 'GET /metrics')")
+    [ "${told:-0}" -ge 68 ] && [ $((told % 17)) -eq 0 ] && passed=$((passed + 1)) || fail in-transit "'$told' bytes"
+    kill -CONT "$stopped"
+    wait "$talking" || fail talking "$(<"$room/talking.out")"
+    wait "$stopped" || fail stopped "$(<"$room/stopped.out")"
+    slots_become gone '64 0 0 0 0 0' 10
+    same in-transit-no-more "$(figure enet_in_transit_bytes "$(ask 'GET /metrics')")" 0
+}
+
+# Figures while clients talk, and once they have gone.
+figures() {
+    local told logged
+    "$room/tally" "$port" 32 6 > "$room/tally.out" 2>&1 &
+    local tally=$!
+    for _ in {1..300}; do
+        grep -q talking "$room/tally.out" 2> /dev/null && break
+        sleep 0.1
+    done
+    for _ in {1..5}; do
+        printf x > "/dev/udp/127.0.0.1/$port"
+    done
+    for _ in {1..3}; do
+        printf '\0\62\1\377\0\1\0\1\0\0' > "/dev/udp/127.0.0.1/$port"
+    done
+    for _ in {1..30}; do
+        told=$(ask 'GET /metrics')
+        [ "$(figure enet_peers "$told")" != 32 ] || break
+        sleep 0.2
+    done
+    same status "$(status "$told")" 200
+    same peers "$(figure enet_peers "$told")" 32
+    same slots "$(figure enet_slots "$told")" 64
+    slots_become slots-by-state '32 0 0 0 32 0' 3
+    wait "$tally" || fail tally "$(<"$room/tally.out")"
+    sleep 1
+    local sent bytes_sent came bytes_came
+    read -r sent bytes_sent came bytes_came < <(tail -n 1 "$room/tally.out")
+    told=$(ask 'GET /metrics')
+    same peers-afterwards "$(figure enet_peers "$told")" 0
+    same datagrams-in "$(figure 'enet_datagrams_total{way="in"}' "$told")" $((sent + 8))
+    same bytes-in "$(figure 'enet_bytes_total{way="in"}' "$told")" $((bytes_sent + 5 + 30))
+    same datagrams-out "$(figure 'enet_datagrams_total{way="out"}' "$told")" "$came"
+    same bytes-out "$(figure 'enet_bytes_total{way="out"}' "$told")" "$bytes_came"
+    same lost "$(figure enet_datagrams_lost_total "$told")" 0
+    same passed-over "$(figure enet_connects_passed_over_total "$told")" 0
+    same in-transit "$(figure enet_in_transit_bytes "$told")" 0
+    same refused "$(figure 'enet_orders_refused_total{reason="E4"}' "$told")" 20
+    logged=$(awk '/^orders refused [0-9]+, the last to .*: E4 NoSuchChannel$/ { lines++; refused += $3 } /^connect / { came++ } /^disconnect / { went++ }
+        END { print came, went, refused, (lines < 10 ? "few" : lines) }' "$room/err")
+    same logged "$logged" '32 32 20 few'
+    same short "$(figure 'enet_datagrams_stopped_total{reason="S1"}' "$told")" 5
+    same unknown "$(figure 'enet_datagrams_stopped_total{reason="S3"}' "$told")" 3
+    same waiting "$(figure 'enet_waiting{what="orders"}' "$told") $(figure 'enet_waiting{what="events"}' "$told")" '0 0'
+    round_trips "$told"
+}
+
+# The dashboard asks for what is told, and for all of it.
+dashboard() {
+    local said
+    ask 'GET /metrics' > "$room/page"
+    said=$(python3 scripts/lib/dashboard.py "$room/page") && passed=$((passed + 1)) || fail dashboard "$said"
+}
+
+# Buckets grow, the last has all, and in six seconds each of 32 was taken at least three times.
+round_trips() {
+    local count
+    count=$(figure enet_round_trip_seconds_count "$1")
+    same buckets "$(awk '/^enet_round_trip_seconds_bucket/ { if ($2 < last) bad = 1; last = $2; n++ } END { print n, last, bad + 0 }' <<< "$1")" "13 $count 0"
+    [ "${count:-0}" -ge 96 ] && passed=$((passed + 1)) || fail round-trips "only $count"
+}
+
+# What other requests are answered.
+requests() {
+    same no-page "$(status "$(ask 'GET /')")" 404
+    same another-method "$(status "$(ask 'POST /metrics')")" 405
+    same no-request "$(status "$(ask $'\1\2\3')")" 400
+    same long-request "$(status "$(ask "GET /$(head -c 4000 /dev/zero | tr '\0' x)")")" 400
+    same health "$(status "$(ask 'GET /healthz')")" 200
+}
+
+# Eighty ask nothing; each other one gets its answer.
+silent() {
+    local i begun=$SECONDS
+    python3 - "$port" << 'END' &
+import socket, sys, time
+silent = [socket.create_connection(("127.0.0.1", int(sys.argv[1]))) for _ in range(80)]
+time.sleep(6)
+END
+    sleep 0.5
+    for i in {1..5}; do
+        same beside-silent "$(status "$(ask 'GET /metrics')")" 200
+    done
+    [ $((SECONDS - begun)) -le 4 ] || fail beside-silent "it took $((SECONDS - begun)) seconds"
+    wait $!
+    same after-silent "$(status "$(ask 'GET /healthz')")" 200
+    same descriptors "$(find "/proc/$relay/fd" -lname 'socket:*' | wc -l)" 2
+}
+
+# For six seconds somebody at another address opens up to a thousand connections a second. On each second one he asks for figures, and reads
+# none; on the others he asks nothing. Each time that somebody else asks for /healthz, 0.3 seconds after his connection, he is told.
+crowded() {
+    local i crowd
+    python3 - "$port" << 'END' > "$room/crowd" 2>&1 &
+import socket, sys, time
+kept, came, end = [], 0, time.monotonic() + 6
+while time.monotonic() < end:
+    kept.append(socket.socket())
+    kept[-1].setsockopt(socket.SOL_SOCKET, socket.SO_LINGER, bytes([1, 0, 0, 0, 0, 0, 0, 0]))
+    kept[-1].bind(("127.0.0.2", 0))
+    kept[-1].settimeout(0.2)
+    try:
+        kept[-1].connect(("127.0.0.1", int(sys.argv[1])))
+        came += 1
+        if came % 2 == 0:
+            kept[-1].send(b"GET /metrics HTTP/1.1\r\n\r\n")
+    except OSError:
+        pass
+    if len(kept) > 200:
+        kept.pop(0).close()
+    time.sleep(0.001)
+print(came)
+END
+    crowd=$!
+    sleep 0.5
+    for i in {1..10}; do
+        same beside-crowd "$(status "$(ask 'GET /healthz' 0.3)")" 200
+    done
+    wait "$crowd"
+    [ "$(<"$room/crowd")" -ge 500 ] 2> /dev/null && passed=$((passed + 1)) || fail crowd "only $(head -c 300 "$room/crowd") came"
+}
+
+# While one thread is stopped /healthz answers 503 where that is the thread of the service; afterwards 200. Of the threads just one is it.
+hung() {
+    local thread hung=0
+    for thread in "/proc/$relay/task"/*; do
+        "$room/hold" "${thread##*/}" 3 2> "$room/hold.err" &
+        sleep 2
+        [ "$(status "$(ask 'GET /healthz')")" != 503 ] || hung=$((hung + 1))
+        wait $!
+        sleep 1
+        same health-again "$(status "$(ask 'GET /healthz')")" 200
+    done
+    same hung "$hung" 1
+}
+
+# `stop` ends all.
+stops() {
+    free_port
+    { sleep 1; echo stop; sleep 5; } | timeout 20 "$program" serve --port "$port" --forever --control --metrics "127.0.0.1:$port" --threads "$threads" > "$room/out" 2> "$room/err"
+    same stop "${PIPESTATUS[1]} $(<"$room/out")" '0 stopping'
+}
+
+room=$(mktemp -d) || exit 1
+relay=
+threads=1
+trap 'kill $relay $(jobs -p) 2> /dev/null; wait; rm -rf "$room"' EXIT
+if [ ! -x "$program" ]; then
+    fail "$program" "it isn't there: run 'rt ci', or 'rt run' in crates/enet_relay"
+elif ! build_clients "$room"; then
+    fail clients "the C programs can't be built"
+else
+    for threads in 1 2; do
+        begin
+        figures
+        half_open
+        in_transit
+        lossy
+        dashboard
+        requests
+        silent
+        crowded
+        hung
+        finish
+        stops
+    done
+fi
+echo "$passed passed, $failed failed"
+[ "$failed" -eq 0 ]
