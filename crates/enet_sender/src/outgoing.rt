@@ -152,6 +152,7 @@ impl Outgoing {
         ensures room { HasRoom self.old → HasRoom self.new }
     {
         let told = self.take_acknowledged(pending, number, time)?;
+        let _ = self.next_resend(pending);
         self.give_unused_back(pending);
         Some(told)
     }
