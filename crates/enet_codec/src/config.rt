@@ -1,7 +1,7 @@
 //! The settings of a host.
 
 ghost use Rattle.std.specs.Prelude.{◌≡◌};
-ghost use Rattle.enet_codec.specs.Config.{standard_config, is_in_range};
+ghost use Rattle.enet_codec.specs.Config.{admitting, is_admissible, is_in_range, is_most_in_range, standard_config};
 
 use crate::limits::MAX_PEERS;
 use std::fmt;
@@ -51,12 +51,30 @@ pub struct Config {
     /// By this each peer gets sent times and numbers of its own, and a slot its first session, so that who doesn't see the line can't
     /// confirm a connection in another's name. With none all begin at 0, as in ENet: whoever knows the clock knows the sent times.
     pub secret: Option<Secret>,
+    /// Whether a CONNECT that finds no free slot takes that of the peer which has been waiting longest for its client to confirm an answer:
+    /// that peer is let go, with no event (our profile).
+    pub gives_way: bool,
+    /// How many peers that began by a CONNECT may be connected or leaving at once: 1 to `peers`; with none said as many as there are slots.
+    /// A client that confirms where as many are there is told that the host is full, and let go, with no event (our profile).
+    pub most: Option<u16>,
+}
+
+/// What the user of a host sets of whom it lets in (`Config::gives_way`, `Config::most`).
+#[derive(Clone, Copy, Debug, PartialEq, Eq)]
+pub enum Admission {
+    /// From now on the peer which has been waiting longest for its client gives way where no slot is free.
+    GiveWay,
+    /// So many peers that began by a CONNECT may be connected or leaving at once: 1 to the number of slots.
+    Most {
+        /// How many.
+        peers: u16,
+    },
 }
 
 impl Config {
     /// The settings that serve most hosts: an mtu of 1,392 bytes (libenet 1.3.18's default), no bandwidth limits, 33,554,432 bytes each for a
-    /// packet and for what waits, 1,000,000 generations, a clock that begins at 0, and no secret. It tests nothing: what opens a host
-    /// does.
+    /// packet and for what waits, 1,000,000 generations, a clock that begins at 0, and no secret; no peer gives way, and as many as there
+    /// are slots may be connected. It tests nothing: what opens a host does.
     pub fn standard(peers: u16, channels: u8) -> Config
         ensures { result ≡ standard_config peers channels }
     {
@@ -71,6 +89,8 @@ impl Config {
             generations: 1_000_000,
             clock: 0,
             secret: None,
+            gives_way: false,
+            most: None,
         }
     }
 
@@ -84,6 +104,42 @@ impl Config {
         let mtu = (MIN_MTU..=MAX_MTU).contains(&self.mtu);
         let bytes = (1..=MAX_BYTES).contains(&self.max_packet)
             && (1..=MAX_BYTES).contains(&self.max_waiting);
-        counts && mtu && bytes
+        counts && mtu && bytes && self.is_most_in_range()
+    }
+
+    /// Whether there may be so many peers connected or leaving.
+    fn is_most_in_range(&self) -> bool
+        ensures { result ≡ is_most_in_range self.now.peers self.now.most }
+    {
+        match self.most {
+            Some(most) => (1..=self.peers).contains(&most),
+            None => true,
+        }
+    }
+
+    /// Whether this can be set of whom a host of these settings lets in.
+    pub fn is_admissible(&self, admission: Admission) -> bool
+        ensures { result ≡ is_admissible self.now admission }
+    {
+        match admission {
+            Admission::GiveWay => true,
+            Admission::Most { peers } => (1..=self.peers).contains(&peers),
+        }
+    }
+
+    /// These settings, once this is set.
+    pub fn admitting(self, admission: Admission) -> Config
+        ensures { result ≡ admitting self admission }
+    {
+        match admission {
+            Admission::GiveWay => Config {
+                gives_way: true,
+                ..self
+            },
+            Admission::Most { peers } => Config {
+                most: Some(peers),
+                ..self
+            },
+        }
     }
 }

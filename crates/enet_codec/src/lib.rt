@@ -35,7 +35,7 @@ mod write;
 
 pub use address::Addr;
 pub use command::{Command, Fragment, Head, Offer, Verify};
-pub use config::{Config, Secret};
+pub use config::{Admission, Config, Secret};
 pub use event::{DisconnectMode, Event, Outward, PeerRef, Received};
 pub use frequent::{Acknowledged, WholePacket, read_acknowledged, read_whole_packet};
 pub use header::Header;
