@@ -16,3 +16,4 @@ pub mod Stages
 pub mod Submitting
 pub mod Turns
 pub mod ChannelTurns
+pub mod Answering

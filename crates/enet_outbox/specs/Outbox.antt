@@ -1,5 +1,5 @@
 -- All that a peer has to send. Times are in milliseconds.
-use Rattle.std.specs.Prelude.{ℕ, ◌%◌, ◌/◌, ◌&&◌, ◌||◌, not, ◌==◌, Bool, nat_le, if◌then◌else◌, List, [], ◌∷◌, ◌++◌, length, map, take, Option, Some, None, slice_get, slice_set, sum_by}
+use Rattle.std.specs.Prelude.{ℕ, ◌%◌, ◌/◌, ◌&&◌, ◌||◌, not, ◌==◌, Bool, true, false, nat_le, if◌then◌else◌, List, [], ◌∷◌, ◌++◌, length, map, take, Option, Some, None, slice_get, slice_set, sum_by}
 use Rattle.std.specs.List.{range_with_len, list_all, list_any}
 use Rattle.enet_seq.specs.Windows.{after}
 use Rattle.enet_seq.specs.Numbering.{wire}
@@ -10,6 +10,7 @@ use Rattle.enet_rtt.specs.declared.expiry.Expiry.TheVariants.{No, Resend, End}
 use Rattle.enet_throttle.specs.Throttle.{Throttling}
 use Rattle.enet_throttle.specs.Throttle as throttle
 use Rattle.enet_senders.specs.declared.control.Control.{Control}
+use Rattle.enet_senders.specs.declared.control.Control.TheVariants as control
 use Rattle.enet_senders.specs.Controlling.{Commands, nothing_controlled, is_idle}
 use Rattle.enet_senders.specs.Controlling as controlling
 use Rattle.enet_sender.specs.CommandChoice.{Packet, is_flagged_reliable, is_long}
@@ -132,6 +133,20 @@ acknowledging o a = if is_crowded o then o else with_acknowledgement o a
 -- a command of channel 0xFF is queued
 abbrev pub with_control : Outbox → Control → Outbox
 with_control o what = record o { control = controlling.with_queued o.control what }
+
+-- no command of channel 0xFF is queued or sent any more
+abbrev pub without_controls : Outbox → Outbox
+without_controls o = record o { control = controlling.cleared o.control }
+
+-- whether what an acknowledgement matches is a server's answer to a CONNECT
+abbrev pub is_answer : Matched → Bool
+is_answer (matched.Control (control.VerifyConnect verify)) = true
+is_answer _ = false
+
+-- whether it is anything of channel 0xFF
+abbrev pub is_control : Matched → Bool
+is_control (matched.Control what) = true
+is_control _ = false
 
 -- an acknowledgement comes that repeats a sent time: what it matches, and the outbox without that
 abbrev pub as_control : Option Control → Matched

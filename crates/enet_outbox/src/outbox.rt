@@ -9,7 +9,7 @@ ghost use Rattle.enet_fragment.specs.Cutting.{piece_length, piece_count};
 ghost use Rattle.enet_sender.specs.Due.{SendingEnd};
 ghost use Rattle.enet_sender.specs.Sender as sender;
 ghost use Rattle.enet_senders.specs.Controlling.{is_idle};
-ghost use Rattle.enet_outbox.specs.Outbox.{acknowledgement_limit, acknowledging, after_holding, after_lateness, after_match, cleared, empty_outbox, is_crowded, is_done, has_nothing_reliable, has_waited, lateness, marked, matched_by, narrowed, prices_of, sampled, submitted, transit_of, with_control, with_unsequenced};
+ghost use Rattle.enet_outbox.specs.Outbox.{acknowledgement_limit, acknowledging, after_holding, after_lateness, after_match, as_control, cleared, empty_outbox, is_answer, is_control, is_crowded, is_done, has_nothing_reliable, has_waited, lateness, marked, matched_by, narrowed, prices_of, sampled, submitted, transit_of, with_control, with_unsequenced, without_controls};
 
 use crate::allowance::Allowance;
 use crate::{Acknowledgement, Matched, Unsequenced, lists};
@@ -28,6 +28,16 @@ use std::mem;
 /// How many acknowledgements of a peer wait to be put out at most (our profile): as many as a turn of a service can take in, 256 datagrams
 /// of 32 commands, and can put out.
 const ACKNOWLEDGEMENT_LIMIT: usize = 8_192;
+
+/// Whether what was sent is a server's answer to a CONNECT.
+fn is_verify_connect(sent: Option<Control>) -> bool
+    ensures { result ≡ is_answer (as_control sent) }
+{
+    match sent {
+        Some(Control::VerifyConnect(_)) => true,
+        _ => false,
+    }
+}
 
 /// All that a peer has to send: acknowledgements, the commands of channel 0xFF, unsequenced packets, and its channels'
 /// senders, with the throttle that drops unreliable and unsequenced packets. Contracts see it as a `Sending`: all that it
@@ -248,6 +258,35 @@ impl Outbox {
             None => Matched::Nothing,
             Some(what) => Matched::Control(what),
         }
+    }
+
+    /// Whether an acknowledgement that repeats this sent time, in milliseconds modulo 65,536, matches a server's answer to a CONNECT.
+    pub fn is_answer(&self, channel: u8, number: u16, time: u16) -> bool
+        ensures { result ≡ is_answer (matched_by self.now.outbox channel number time) }
+    {
+        if channel != CONTROL_CHANNEL {
+            return false;
+        }
+        is_verify_connect(self.control.matching(number, time))
+    }
+
+    /// Whether it matches any command of channel 0xFF.
+    pub fn matches_control(&self, channel: u8, number: u16, time: u16) -> bool
+        ensures { result ≡ is_control (matched_by self.now.outbox channel number time) }
+    {
+        if channel != CONTROL_CHANNEL {
+            return false;
+        }
+        self.control.matching(number, time).is_some()
+    }
+
+    /// Drops the commands of channel 0xFF that are queued or sent. Then there is room for one.
+    pub fn drop_controls(&mut self)
+        ensures outbox { self.new.outbox ≡ without_controls self.old.outbox }
+        ensures acknowledgement_room { self.new.acknowledgement_room ≡ self.old.acknowledgement_room }
+        ensures control_room { 1 ≤ self.new.control_room }
+    {
+        self.control.clear();
     }
 
     /// The same of a data command. The allowance grows by what is acknowledged, and the room is kept for its channel no longer where nothing

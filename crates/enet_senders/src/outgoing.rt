@@ -185,6 +185,19 @@ impl ControlChannel {
         Some(sent.command.control)
     }
 
+    /// What the one sent command of this number is, where it was sent at this time, in milliseconds modulo 65,536. None where no sent command
+    /// has the number, or that one wasn't sent at the time.
+    pub fn matching(&self, number: u16, time: u16) -> Option<Control>
+        ensures { result ≡ acknowledged_control self.now.commands number time }
+    {
+        let place = position_of(&self.sent, number)?;
+        if self.sent[place].went_at(time) {
+            Some(self.sent[place].command.control)
+        } else {
+            None
+        }
+    }
+
     /// What the moment `tick` brings: `End` where a sent command has waited out its timeout and its peer, heard last at
     /// `tick.heard`, has timed out over it by `patience`, which changes nothing; else `Resend` where a sent command has waited out
     /// its timeout: each such one is then due to go again, and has its next timeout (`Transmission::mark`); else `No` (our profile).
