@@ -24,9 +24,11 @@ use Rattle.enet_outbox.proofs.Oldest.{oldest-first}
 use Rattle.enet_peer.specs.Peering.{Peering}
 use Rattle.enet_peer.specs.declared.parts.PeerState.{PeerState}
 use Rattle.enet_peer.specs.declared.parts.PeerState.TheVariants as state
-use Rattle.enet_peer.specs.CommandEffect.{Obeys, wants_memory, answered, answered_at, is_answered_in, obeyed, acknowledged, on_acknowledge, on_match}
-use Rattle.enet_peer.specs.Calls.{PutsOut, after_timeouts_by, destination_of, gone_on_in, moved, pace_of, ticked}
+use Rattle.enet_peer.specs.CommandEffect.{Outcome, Obeys, wants_memory, answered, answered_at, is_answered_in, obeyed, acknowledged, on_acknowledge, on_match}
+use Rattle.enet_peer.specs.Calls.{PutsOut, after_timeouts_by, destination_of, gone_on_in, is_answering, moved, pace_of, ticked}
 use Rattle.enet_peer.specs.Reachable.{Answers, IsAnswering, IsReachable, IsStill, answer_to}
+use Rattle.enet_peer.specs.Refusing.{heeded}
+use Rattle.enet_peer.proofs.Refusals.{heeded-obeyed}
 use Rattle.enet_peer.proofs.Obeying.{obeys-holds, unless-holds}
 
 -- a peer in that state
@@ -109,10 +111,11 @@ obeyed-waits a p h now sent (send_fragment f payload) w = (refl, w.1, w.2)
 obeyed-waits a p h now sent (send_unsequenced group payload) w = (refl, w.1, w.2)
 obeyed-waits a p h now sent (send_unreliable_fragment f payload) w = (refl, w.1, w.2)
 
-pub obeys-waits : (r : Result (Unit {0}) Stop) (a : Acknowledgement) (p q : Peering) (now : ℕ) (sent : Option ℕ) (m : Message) → IsAnswering a p → Obeys r (wants_memory p now sent m) (obeyed p now sent m) p q → IsAnswering a q
-obeys-waits r a p q now sent m w o =
+pub obeys-waits : (r : Result (Unit {0}) Stop) (full : Bool) (a : Acknowledgement) (p q : Peering) (now : ℕ) (sent : Option ℕ) (m : Message) → IsAnswering a p → Obeys r (wants_memory p now sent m) (heeded full p now sent m) p q → IsAnswering a q
+obeys-waits r full a p q now sent m w o =
     let after = subst (λ (x : Peering). IsAnswering a (obeyed x now sent m).after) (sym (is-at-end p w.0)) (obeyed-waits a p m.head now sent m.body w) in
-    obeys-holds (IsAnswering a) r (wants_memory p now sent m) (obeyed p now sent m) p q w after o
+    let same = heeded-obeyed full p now sent m (ap is_answering w.0) in
+    obeys-holds (IsAnswering a) r (wants_memory p now sent m) (heeded full p now sent m) p q w (subst (λ (x : Outcome). IsAnswering a x.after) (sym same) after) o
 
 -- ---- the clock: nothing is sent that could be late
 

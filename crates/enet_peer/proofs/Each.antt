@@ -7,11 +7,12 @@ use Rattle.enet_codec.specs.Datagram.{SpellsAll}
 use Rattle.enet_codec.proofs.Laws.{one_spelling}
 use Rattle.enet_codec.proofs.Datagrams.{some-bytes}
 use Rattle.enet_peer.specs.Peering.{Peering}
-use Rattle.enet_peer.specs.CommandEffect.{obeyed, wants_memory, Obeys}
+use Rattle.enet_peer.specs.CommandEffect.{wants_memory, Obeys}
+use Rattle.enet_peer.specs.Refusing.{heeded}
 use Rattle.enet_peer.specs.Handling.{Arrival, SoFar, Handles, HandlesEach, nothing_left, no_command, stops, goes_on}
 
 -- two splits of the same bytes before a command are one
-split-once : (text rest text' rest' : List ℕ) (m n : Message) → Spells text m → Spells text' n → text ++ rest ≡ text' ++ rest' → (m ≡ n) × (rest ≡ rest')
+pub split-once : (text rest text' rest' : List ℕ) (m n : Message) → Spells text m → Spells text' n → text ++ rest ≡ text' ++ rest' → (m ≡ n) × (rest ≡ rest')
 split-once text rest text' rest' m n a b both =
     let one = one_spelling text text' rest rest' m n a b both in
     (one.1, append_cancel_left text' rest rest' (ap (λ (xs : List ℕ). xs ++ rest) (sym one.0) ∙ both))
@@ -25,13 +26,13 @@ each arrival (no_command old bytes some none) (m ∷ ms) s = absurd (none m s.0 
 each arrival (stops old text rest m why q spelled obeys) [] s = absurd (some-bytes text rest m spelled s)
 each arrival (stops old text rest m why q spelled obeys) (n ∷ ms) s =
     let one = split-once text rest s.0 s.1 m n spelled s.3 s.2 in
-    inl (why, subst (λ (k : Message). Obeys {T = Unit {0}} (Err why) (wants_memory old.peer arrival.now arrival.sent k) (obeyed old.peer arrival.now arrival.sent k) old.peer q) one.0 obeys, refl)
+    inl (why, subst (λ (k : Message). Obeys {T = Unit {0}} (Err why) (wants_memory old.peer arrival.now arrival.sent k) (heeded arrival.full old.peer arrival.now arrival.sent k) old.peer q) one.0 obeys, refl)
 each arrival (goes_on old text rest m answer q r spelled obeys later) [] s = absurd (some-bytes text rest m spelled s)
 each arrival (goes_on old text rest m answer q r spelled obeys later) (n ∷ ms) s =
     let one = split-once text rest s.0 s.1 m n spelled s.3 s.2 in
     inr (
       q,
-      subst (λ (k : Message). Obeys {T = Unit {0}} (Ok tt) (wants_memory old.peer arrival.now arrival.sent k) (obeyed old.peer arrival.now arrival.sent k) old.peer q) one.0 obeys,
+      subst (λ (k : Message). Obeys {T = Unit {0}} (Ok tt) (wants_memory old.peer arrival.now arrival.sent k) (heeded arrival.full old.peer arrival.now arrival.sent k) old.peer q) one.0 obeys,
       each arrival later ms (subst (λ (xs : List ℕ). SpellsAll xs ms) (sym one.1) s.4),
     )
 

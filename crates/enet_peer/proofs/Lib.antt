@@ -8,8 +8,11 @@ pub mod Reaching
 pub mod Places
 pub mod Steps
 pub mod Each
+pub mod Refusals
+pub mod Confirming
 pub mod Calm
 pub mod Expiring
 pub mod Waiting
 pub mod Limited
 pub mod Sampling
+pub mod Unconfirmed

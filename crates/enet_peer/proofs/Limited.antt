@@ -1,4 +1,4 @@
--- Whatever happens to a peer, its inbox keeps the limits with which it began.
+-- Whatever happens to a peer, its inbox keeps the limits with which it began, and nothing makes it wait for its client that didn't.
 use Rattle.std.proofs.Common.{◌≡◌, ℕ, ◌%◌, ◌^◌, ◌&&◌, Bool, true, false, cond, not, List, [], ◌∷◌, length, sym, subst, Option, Some, None, Result, Ok, Err, slice_get}
 use Rattle.std.specs.Prelude.{is_some, nat_lt, nat_le}
 use Rattle.enet_codec.specs.declared.command.Head.{Head}
@@ -33,8 +33,9 @@ use Rattle.enet_peer.specs.declared.parts.PeerEvent.TheVariants as event
 use Rattle.enet_peer.specs.Peering.{Peering}
 use Rattle.enet_peer.specs.Endings.{freed, disconnecting, parting, settled, is_later, cut_off_in}
 use Rattle.enet_peer.specs.CommandEffect.{Outcome, answered, answered_at, is_answered_in, is_allowed, is_connect, obeyed, by_body, by_answer, by_arrival, on_data, stopped, unless_refused, wants_memory, acknowledged, with_answer, on_match, is_connecting, on_acknowledge, welcomed, on_verify_in, on_last_disconnect, on_disconnect_in}
-use Rattle.enet_peer.specs.Handling.{Arrival, SoFar, Handles, nothing_left, no_command, stops, goes_on}
-use Rattle.enet_peer.specs.Calls.{Leave, AtOnce, TellsOnce, Asks, AsksLater, Refused, left, PutsOut, after_timeouts, after_timeouts_by, expiry_of, held_back, is_held_back, is_pinged, moved, ticked, pace_of, gone_on_in, Taken, next_event, event_after, packet_event, last_event}
+use Rattle.enet_peer.specs.Refusing.{confirms, heeded, is_turned_away, reminded, told_again, told_full, turned_away}
+use Rattle.enet_peer.specs.Handling.{Arrival, SoFar, Handles, Hears, HearsIf, nothing_left, no_command, stops, goes_on}
+use Rattle.enet_peer.specs.Calls.{is_answering, Leave, AtOnce, TellsOnce, Asks, AsksLater, Refused, left, PutsOut, after_timeouts, after_timeouts_by, expiry_of, held_back, is_held_back, is_pinged, moved, ticked, pace_of, gone_on_in, Taken, next_event, event_after, packet_event, last_event}
 use Rattle.enet_peer.specs.Held.{HasLimits}
 use Rattle.enet_peer.proofs.Obeying.{obeys-holds, unless-holds, unwelcomed-holds}
 
@@ -85,164 +86,202 @@ arrival-keeps x y b m h = arrival-of-keeps x y (met b m) m m.body (by (makes_roo
     by true = h
     by false = h
 
+-- ---- what lasts
+
+-- with which limits a peer began; whether it waited for its client at a moment, and when it was made
+pub record Mark : Type 0 where
+  pub packet : ℕ
+  pub waiting : ℕ
+  pub answers : Bool
+  pub made : ℕ
+
+-- It still keeps the limits; and it only waits for its client if it did then, and was made when it was made then
+abbrev pub Lasts : Mark → Peering → Type 0
+Lasts k p = HasLimits k.packet k.waiting p × (is_answering p.state ≡ true → (k.answers ≡ true) × (p.made ≡ k.made))
+
+-- what lasts of one lasts of another
+abbrev pub Follows : Peering → Peering → Type 0
+Follows p q = (k : Mark) → Lasts k p → Lasts k q
+
+-- it doesn't wait for its client
+away : {X : Type 0} → false ≡ true → X
+away e = absurd (let y : false ≡ true = e in cc)
+
 -- ---- a command that comes
 
-if-peer : (x y : ℕ) (b : Bool) (p q : Peering) → HasLimits x y p → HasLimits x y q → HasLimits x y (cond b p q)
-if-peer x y true p q f g = f
-if-peer x y false p q f g = g
+if-peer : (k : Mark) (b : Bool) (p q : Peering) → Lasts k p → Lasts k q → Lasts k (cond b p q)
+if-peer k true p q f g = f
+if-peer k false p q f g = g
 
-if-outcome : (x y : ℕ) (b : Bool) (t e : Outcome) → HasLimits x y t.after → HasLimits x y e.after → HasLimits x y (cond b t e).after
-if-outcome x y true t e f g = f
-if-outcome x y false t e f g = g
+if-outcome : (k : Mark) (b : Bool) (t e : Outcome) → Lasts k t.after → Lasts k e.after → Lasts k (cond b t e).after
+if-outcome k true t e f g = f
+if-outcome k false t e f g = g
 
-settled-limited : (x y : ℕ) (p : Peering) → HasLimits x y p → HasLimits x y (settled p)
-settled-limited x y p h = if-peer x y (is_later p.state && is_done p.outbox) (disconnecting p p.info) p h h
+settled-lasts : (k : Mark) (p : Peering) → Lasts k p → Lasts k (settled p)
+settled-lasts k p h = if-peer k (is_later p.state && is_done p.outbox) (disconnecting p p.info) p (h.0, λ e. away e) h
 
-answer-limited : (x y : ℕ) (s : PeerState) (what : Control) (p : Peering) → HasLimits x y p → HasLimits x y (with_answer s what p)
-answer-limited x y state.Answering (control.VerifyConnect v) p h = h
-answer-limited x y state.Disconnecting (control.Disconnect info) p h = h
-answer-limited x y s what p h = h
+answer-lasts : (k : Mark) (s : PeerState) (what : Control) (p : Peering) → Lasts k p → Lasts k (with_answer s what p)
+answer-lasts k state.Answering (control.VerifyConnect v) p h = (h.0, λ e. away e)
+answer-lasts k state.Disconnecting (control.Disconnect info) p h = (h.0, λ e. away e)
+answer-lasts k s what p h = h
 
-match-limited : (x y : ℕ) (what : Matched) (old gone : Peering) → HasLimits x y old → HasLimits x y gone → HasLimits x y (on_match what old gone)
-match-limited x y matched.Nothing old gone h g = h
-match-limited x y matched.Data old gone h g = settled-limited x y gone g
-match-limited x y (matched.Control what) old gone h g = settled-limited x y (with_answer old.state what gone) (answer-limited x y old.state what gone g)
+match-lasts : (k : Mark) (what : Matched) (old gone : Peering) → Lasts k old → Lasts k gone → Lasts k (on_match what old gone)
+match-lasts k matched.Nothing old gone h g = h
+match-lasts k matched.Data old gone h g = settled-lasts k gone g
+match-lasts k (matched.Control what) old gone h g = settled-lasts k (with_answer old.state what gone) (answer-lasts k old.state what gone g)
 
-acknowledge-limited : (x y : ℕ) (p : Peering) (now channel number told : ℕ) → HasLimits x y p → HasLimits x y (on_acknowledge p now channel number told)
-acknowledge-limited x y p now channel number told h =
+acknowledge-lasts : (k : Mark) (p : Peering) (now channel number told : ℕ) → Lasts k p → Lasts k (on_acknowledge p now channel number told)
+acknowledge-lasts k p now channel number told h =
     let meant : ℕ = meant_time told (p.offset % 2 ^ 16) in
     let gone : Peering = on_match (matched_by p.outbox channel number meant) p (acknowledged p now channel number meant) in
-    if-peer x y (is_connecting p.state) p gone h (match-limited x y (matched_by p.outbox channel number meant) p (acknowledged p now channel number meant) h h)
+    if-peer k (is_connecting p.state) p gone h (match-lasts k (matched_by p.outbox channel number meant) p (acknowledged p now channel number meant) h h)
 
-welcome-limited : (x y : ℕ) (p : Peering) (v : Verify) (o : Option Terms) → HasLimits x y p → HasLimits x y (welcomed p v o)
-welcome-limited x y p v None h = unwelcomed-holds (HasLimits x y) p v h h
-welcome-limited x y p v (Some terms) h = h
+welcome-lasts : (k : Mark) (p : Peering) (v : Verify) (o : Option Terms) → Lasts k p → Lasts k (welcomed p v o)
+welcome-lasts k p v None h = unwelcomed-holds (Lasts k) p v h (h.0, λ e. away e)
+welcome-lasts k p v (Some terms) h = (h.0, λ e. away e)
 
-verify-limited : (x y : ℕ) (s : PeerState) (p : Peering) (v : Verify) → HasLimits x y p → HasLimits x y (on_verify_in s p v)
-verify-limited x y state.Connecting p v h = welcome-limited x y p v (confirmed p.offer v) h
-verify-limited x y s p v h = h
+verify-lasts : (k : Mark) (s : PeerState) (p : Peering) (v : Verify) → Lasts k p → Lasts k (on_verify_in s p v)
+verify-lasts k state.Connecting p v h = welcome-lasts k p v (confirmed p.offer v) h
+verify-lasts k s p v h = h
 
-last-limited : (x y : ℕ) (p : Peering) (b : Bool) (info : ℕ) → HasLimits x y p → HasLimits x y (on_last_disconnect p b info)
-last-limited x y p true info h = h
-last-limited x y p false info h = h
+last-lasts : (k : Mark) (p : Peering) (b : Bool) (info : ℕ) → Lasts k p → Lasts k (on_last_disconnect p b info)
+last-lasts k p true info h = (h.0, λ e. away e)
+last-lasts k p false info h = (h.0, λ e. away e)
 
-disconnect-limited : (x y : ℕ) (s : PeerState) (p : Peering) (b : Bool) (info : ℕ) → HasLimits x y p → HasLimits x y (on_disconnect_in s p b info)
-disconnect-limited x y state.Connected p b info h = last-limited x y p b info h
-disconnect-limited x y state.DisconnectLater p b info h = last-limited x y p b info h
-disconnect-limited x y state.Connecting p b info h = h
-disconnect-limited x y state.Disconnecting p b info h = h
-disconnect-limited x y state.Answering p b info h = h
-disconnect-limited x y s p b info h = h
+disconnect-lasts : (k : Mark) (s : PeerState) (p : Peering) (b : Bool) (info : ℕ) → Lasts k p → Lasts k (on_disconnect_in s p b info)
+disconnect-lasts k state.Connected p b info h = last-lasts k p b info h
+disconnect-lasts k state.DisconnectLater p b info h = last-lasts k p b info h
+disconnect-lasts k state.Connecting p b info h = (h.0, λ e. away e)
+disconnect-lasts k state.Disconnecting p b info h = (h.0, λ e. away e)
+disconnect-lasts k state.Answering p b info h = (h.0, λ e. away e)
+disconnect-lasts k s p b info h = h
 
-answered-at-limited : (x y : ℕ) (p : Peering) (head : Head) (sent : Option ℕ) → HasLimits x y p → HasLimits x y (answered_at p head sent).after
-answered-at-limited x y p head None h = h
-answered-at-limited x y p head (Some time) h = h
+answered-at-lasts : (k : Mark) (p : Peering) (head : Head) (sent : Option ℕ) → Lasts k p → Lasts k (answered_at p head sent).after
+answered-at-lasts k p head None h = h
+answered-at-lasts k p head (Some time) h = h
 
-answered-limited : (x y : ℕ) (p : Peering) (m : Message) (sent : Option ℕ) (may : Bool) → HasLimits x y p → HasLimits x y (answered p m sent may).after
-answered-limited x y p m sent may h =
-    if-outcome x y (m.head.acknowledge && may && is_answered_in p.state m.body) (answered_at p m.head sent) (record { stop = None; after = p }) (answered-at-limited x y p m.head sent h) h
+answered-lasts : (k : Mark) (p : Peering) (m : Message) (sent : Option ℕ) (may : Bool) → Lasts k p → Lasts k (answered p m sent may).after
+answered-lasts k p m sent may h =
+    if-outcome k (m.head.acknowledge && may && is_answered_in p.state m.body) (answered_at p m.head sent) (record { stop = None; after = p }) (answered-at-lasts k p m.head sent h) h
 
-by-answer-limited : (x y : ℕ) (p : Peering) (m : Message) (sent : Option ℕ) (r : Result Bool Stop) → HasLimits x y p → HasLimits x y (by_answer p m sent r).after
-by-answer-limited x y p m sent (Err why) h = h
-by-answer-limited x y p m sent (Ok may) h = answered-limited x y p m sent may h
+by-answer-lasts : (k : Mark) (p : Peering) (m : Message) (sent : Option ℕ) (r : Result Bool Stop) → Lasts k p → Lasts k (by_answer p m sent r).after
+by-answer-lasts k p m sent (Err why) h = h
+by-answer-lasts k p m sent (Ok may) h = answered-lasts k p m sent may h
 
-data-limited : (x y : ℕ) (p : Peering) (m : Message) (sent : Option ℕ) → HasLimits x y p → HasLimits x y (on_data p m sent).after
-data-limited x y p m sent h =
-    if-outcome x y (is_later p.state) (by_answer p m sent (passed_over p.inbox m)) (by_arrival p m sent (arrival p.inbox m))
-    (by-answer-limited x y p m sent (passed_over p.inbox m) h)
-    (by-answer-limited x y (record p { inbox = (arrival p.inbox m).after }) m sent (arrival p.inbox m).answer (arrival-keeps x y p.inbox m h))
+data-lasts : (k : Mark) (p : Peering) (m : Message) (sent : Option ℕ) → Lasts k p → Lasts k (on_data p m sent).after
+data-lasts k p m sent h =
+    if-outcome k (is_later p.state) (by_answer p m sent (passed_over p.inbox m)) (by_arrival p m sent (arrival p.inbox m))
+    (by-answer-lasts k p m sent (passed_over p.inbox m) h)
+    (by-answer-lasts k (record p { inbox = (arrival p.inbox m).after }) m sent (arrival p.inbox m).answer (arrival-keeps k.packet k.waiting p.inbox m h.0, h.1))
 
-body-limited : (x y : ℕ) (p : Peering) (now : ℕ) (sent : Option ℕ) (m : Message) (body : Body) → HasLimits x y p → HasLimits x y (by_body p now sent m body).after
-body-limited x y p now sent m (acknowledge number time) h =
-    answered-limited x y (on_acknowledge p now m.head.channel number time) m sent true (acknowledge-limited x y p now m.head.channel number time h)
-body-limited x y p now sent m (connect offer) h = h
-body-limited x y p now sent m (verify_connect v) h = answered-limited x y (on_verify_in p.state p v) m sent true (verify-limited x y p.state p v h)
-body-limited x y p now sent m (disconnect info) h =
-    answered-limited x y (on_disconnect_in p.state p (m.head.acknowledge && is_some sent) info) m sent true (disconnect-limited x y p.state p (m.head.acknowledge && is_some sent) info h)
-body-limited x y p now sent m ping h = answered-limited x y p m sent true h
-body-limited x y p now sent m (bandwidth_limit incoming outgoing) h = answered-limited x y (Rattle.enet_peer.specs.CommandEffect.on_bandwidth p incoming) m sent true h
-body-limited x y p now sent m (throttle_configure interval acceleration deceleration) h =
-    answered-limited x y (Rattle.enet_peer.specs.CommandEffect.on_throttle p interval acceleration deceleration) m sent true h
-body-limited x y p now sent m body h = data-limited x y p m sent h
+body-lasts : (k : Mark) (p : Peering) (now : ℕ) (sent : Option ℕ) (m : Message) (body : Body) → Lasts k p → Lasts k (by_body p now sent m body).after
+body-lasts k p now sent m (acknowledge number time) h =
+    answered-lasts k (on_acknowledge p now m.head.channel number time) m sent true (acknowledge-lasts k p now m.head.channel number time h)
+body-lasts k p now sent m (connect offer) h = h
+body-lasts k p now sent m (verify_connect v) h = answered-lasts k (on_verify_in p.state p v) m sent true (verify-lasts k p.state p v h)
+body-lasts k p now sent m (disconnect info) h =
+    answered-lasts k (on_disconnect_in p.state p (m.head.acknowledge && is_some sent) info) m sent true (disconnect-lasts k p.state p (m.head.acknowledge && is_some sent) info h)
+body-lasts k p now sent m ping h = answered-lasts k p m sent true h
+body-lasts k p now sent m (bandwidth_limit incoming outgoing) h = answered-lasts k (Rattle.enet_peer.specs.CommandEffect.on_bandwidth p incoming) m sent true h
+body-lasts k p now sent m (throttle_configure interval acceleration deceleration) h =
+    answered-lasts k (Rattle.enet_peer.specs.CommandEffect.on_throttle p interval acceleration deceleration) m sent true h
+body-lasts k p now sent m body h = data-lasts k p m sent h
 
-obeyed-limited : (x y : ℕ) (p : Peering) (now : ℕ) (sent : Option ℕ) (m : Message) → HasLimits x y p → HasLimits x y (obeyed p now sent m).after
-obeyed-limited x y p now sent m h =
+pub obeyed-lasts : (k : Mark) (p : Peering) (now : ℕ) (sent : Option ℕ) (m : Message) → Lasts k p → Lasts k (obeyed p now sent m).after
+obeyed-lasts k p now sent m h =
     let does : Outcome = unless_refused p m (by_body p now sent m m.body) in
-    if-outcome x y (is_connect m.body) (stopped p stop.BadCommand) (cond (is_allowed p.state m.body) does (stopped p stop.NotConnected)) h
-    (if-outcome x y (is_allowed p.state m.body) does (stopped p stop.NotConnected)
-    (unless-holds (HasLimits x y) p m (by_body p now sent m m.body) h (body-limited x y p now sent m m.body h)) h)
+    if-outcome k (is_connect m.body) (stopped p stop.BadCommand) (cond (is_allowed p.state m.body) does (stopped p stop.NotConnected)) h
+    (if-outcome k (is_allowed p.state m.body) does (stopped p stop.NotConnected)
+    (unless-holds (Lasts k) p m (by_body p now sent m m.body) h (body-lasts k p now sent m m.body h)) h)
+
+heeded-lasts : (k : Mark) (full : Bool) (p : Peering) (now : ℕ) (sent : Option ℕ) (m : Message) → Lasts k p → Lasts k (heeded full p now sent m).after
+heeded-lasts k full p now sent m h = if-outcome k (full && confirms p m) (record { stop = None; after = turned_away p }) (obeyed p now sent m) h (obeyed-lasts k p now sent m h)
+
+told-again-lasts : (k : Mark) (p : Peering) → Lasts k p → Lasts k (told_again p)
+told-again-lasts k p h = if-peer k (nat_lt 0 (length p.outbox.control.queued)) p (told_full p) h h
+
+reminded-lasts : (k : Mark) (sent : Option ℕ) (p : Peering) → Lasts k p → Lasts k (reminded sent p)
+reminded-lasts k None p h = h
+reminded-lasts k (Some time) p h = told-again-lasts k p h
 
 -- the commands of a datagram
-pub handled-limited : (x y : ℕ) (a : Arrival) (old : SoFar) (bytes : List ℕ) (answer : Received) (q : Peering) → HasLimits x y old.peer → Handles a old bytes answer q → HasLimits x y q
-handled-limited x y a old bytes answer q h (nothing_left was) = h
-handled-limited x y a old bytes answer q h (no_command was all some none) = h
-handled-limited x y a old bytes answer q h (stops was text rest m why r spells obeys) =
-    obeys-holds (HasLimits x y) (Err why) (wants_memory was.peer a.now a.sent m) (obeyed was.peer a.now a.sent m) was.peer r h (obeyed-limited x y was.peer a.now a.sent m h) obeys
-handled-limited x y a old bytes answer q h (goes_on was text rest m told r s spells obeys more) =
-    handled-limited x y a (record { handled = Rattle.enet_peer.specs.Handling.one_more was.handled; peer = r }) rest told s
-    (obeys-holds (HasLimits x y) (Ok tt) (wants_memory was.peer a.now a.sent m) (obeyed was.peer a.now a.sent m) was.peer r h (obeyed-limited x y was.peer a.now a.sent m h) obeys) more
+handled-lasts : (k : Mark) (a : Arrival) (old : SoFar) (bytes : List ℕ) (answer : Received) (q : Peering) → Lasts k old.peer → Handles a old bytes answer q → Lasts k q
+handled-lasts k a old bytes answer q h (nothing_left was) = h
+handled-lasts k a old bytes answer q h (no_command was all some none) = h
+handled-lasts k a old bytes answer q h (stops was text rest m why r spells obeys) =
+    obeys-holds (Lasts k) (Err why) (wants_memory was.peer a.now a.sent m) (heeded a.full was.peer a.now a.sent m) was.peer r h (heeded-lasts k a.full was.peer a.now a.sent m h) obeys
+handled-lasts k a old bytes answer q h (goes_on was text rest m told r s spells obeys more) =
+    handled-lasts k a (record { handled = Rattle.enet_peer.specs.Handling.one_more was.handled; peer = r }) rest told s
+    (obeys-holds (Lasts k) (Ok tt) (wants_memory was.peer a.now a.sent m) (heeded a.full was.peer a.now a.sent m) was.peer r h (heeded-lasts k a.full was.peer a.now a.sent m h) obeys) more
+
+hears-if : (k : Mark) (b : Bool) (a : Arrival) (bytes : List ℕ) (p : Peering) (answer : Received) (q : Peering) → Lasts k p → HearsIf b a bytes p answer q → Lasts k q
+hears-if k true a bytes p answer q h e = subst (Lasts k) (sym e.1) (reminded-lasts k a.sent p h)
+hears-if k false a bytes p answer q h e = handled-lasts k a (record { handled = 0; peer = p }) bytes answer q h e
+
+pub hears-lasts : (k : Mark) (a : Arrival) (bytes : List ℕ) (p : Peering) (answer : Received) (q : Peering) → Lasts k p → Hears a bytes p answer q → Lasts k q
+hears-lasts k a bytes p answer q h e = hears-if k (is_turned_away p) a bytes p answer q h e
 
 -- ---- a datagram that goes, and the clock
 
-gone-limited : (x y : ℕ) (s : PeerState) (p : Peering) → HasLimits x y p → HasLimits x y (gone_on_in s p)
-gone-limited x y state.AckDisconnect p h = h
-gone-limited x y state.Parting p h = if-peer x y (nat_lt 0 (length p.outbox.control.queued)) p (freed p) h h
-gone-limited x y state.Free p h = settled-limited x y p h
-gone-limited x y state.Connecting p h = settled-limited x y p h
-gone-limited x y state.Answering p h = settled-limited x y p h
-gone-limited x y state.Connected p h = settled-limited x y p h
-gone-limited x y state.DisconnectLater p h = settled-limited x y p h
-gone-limited x y state.Disconnecting p h = settled-limited x y p h
-gone-limited x y state.Ended p h = settled-limited x y p h
+gone-lasts : (k : Mark) (s : PeerState) (p : Peering) → Lasts k p → Lasts k (gone_on_in s p)
+gone-lasts k state.AckDisconnect p h = (h.0, λ e. away e)
+gone-lasts k state.Parting p h = if-peer k (nat_lt 0 (length p.outbox.control.queued)) p (freed p) h (h.0, λ e. away e)
+gone-lasts k state.Free p h = settled-lasts k p h
+gone-lasts k state.Connecting p h = settled-lasts k p h
+gone-lasts k state.Answering p h = settled-lasts k p h
+gone-lasts k state.Connected p h = settled-lasts k p h
+gone-lasts k state.DisconnectLater p h = settled-lasts k p h
+gone-lasts k state.Disconnecting p h = settled-lasts k p h
+gone-lasts k state.Ended p h = settled-lasts k p h
 
-pub put-out-limited : (x y : ℕ) (now : ℕ) (len : Option ℕ) (p q : Peering) (buf : List ℕ) → HasLimits x y p → PutsOut now len p q buf → HasLimits x y q
-put-out-limited x y now len p q buf h out =
-    subst (HasLimits x y) (sym out.after) (gone-limited x y p.state (record p { outbox = (filled (pace_of p now) p.outbox).outbox }) h)
+pub put-out-lasts : (k : Mark) (now : ℕ) (len : Option ℕ) (p q : Peering) (buf : List ℕ) → Lasts k p → PutsOut now len p q buf → Lasts k q
+put-out-lasts k now len p q buf h out =
+    subst (Lasts k) (sym out.after) (gone-lasts k p.state (record p { outbox = (filled (pace_of p now) p.outbox).outbox }) h)
 
-cut-off-limited : (x y : ℕ) (s : PeerState) (p : Peering) → HasLimits x y p → HasLimits x y (cut_off_in s p)
-cut-off-limited x y state.Answering p h = h
-cut-off-limited x y s p h = h
+cut-off-lasts : (k : Mark) (s : PeerState) (p : Peering) → Lasts k p → Lasts k (cut_off_in s p)
+cut-off-lasts k state.Answering p h = (h.0, λ e. away e)
+cut-off-lasts k s p h = (h.0, λ e. away e)
 
-timeouts-limited : (x y : ℕ) (e : Expiry) (p : Peering) (now : ℕ) → HasLimits x y p → HasLimits x y (after_timeouts_by e p now)
-timeouts-limited x y End p now h = cut-off-limited x y p.state p h
-timeouts-limited x y Resend p now h = h
-timeouts-limited x y No p now h = h
+timeouts-lasts : (k : Mark) (e : Expiry) (p : Peering) (now : ℕ) → Lasts k p → Lasts k (after_timeouts_by e p now)
+timeouts-lasts k End p now h = cut-off-lasts k p.state p h
+timeouts-lasts k Resend p now h = h
+timeouts-lasts k No p now h = h
 
-pub ticked-limited : (x y : ℕ) (p : Peering) (now : ℕ) → HasLimits x y p → HasLimits x y (ticked p now)
-ticked-limited x y p now h =
+pub ticked-lasts : (k : Mark) (p : Peering) (now : ℕ) → Lasts k p → Lasts k (ticked p now)
+ticked-lasts k p now h =
     let q : Peering = after_timeouts p now in
-    let a : HasLimits x y q = timeouts-limited x y (expiry_of p now) p now h in
-    if-peer x y (is_pinged q now) (record q { outbox = with_control q.outbox control.Ping }) q a a
+    let a : Lasts k q = timeouts-lasts k (expiry_of p now) p now h in
+    if-peer k (is_pinged q now) (record q { outbox = with_control q.outbox control.Ping }) q a a
 
-pub moved-limited : (x y : ℕ) (short : Bool) (p : Peering) (now : ℕ) → HasLimits x y p → HasLimits x y (moved short p now)
-moved-limited x y short p now h = if-peer x y (is_held_back short p now) (held_back p now) (ticked p now) h (ticked-limited x y p now h)
+pub moved-lasts : (k : Mark) (short : Bool) (p : Peering) (now : ℕ) → Lasts k p → Lasts k (moved short p now)
+moved-lasts k short p now h = if-peer k (is_held_back short p now) (held_back p now) (ticked p now) h (ticked-lasts k p now h)
 
 -- ---- the user's calls
 
-pub left-limited : (x y : ℕ) (how : Leave) (p q : Peering) (info : ℕ) → HasLimits x y p → left how p info ≡ Some q → HasLimits x y q
-left-limited x y AtOnce p q info h e = let same : freed p ≡ q = cc in subst (HasLimits x y) same h
-left-limited x y TellsOnce p q info h e = let same : parting p info ≡ q = cc in subst (HasLimits x y) same h
-left-limited x y Asks p q info h e = let same : disconnecting p info ≡ q = cc in subst (HasLimits x y) same h
-left-limited x y AsksLater p q info h e =
+pub left-lasts : (k : Mark) (how : Leave) (p q : Peering) (info : ℕ) → Lasts k p → left how p info ≡ Some q → Lasts k q
+left-lasts k AtOnce p q info h e = let same : freed p ≡ q = cc in subst (Lasts k) same (h.0, λ e. away e)
+left-lasts k TellsOnce p q info h e = let same : parting p info ≡ q = cc in subst (Lasts k) same (h.0, λ e. away e)
+left-lasts k Asks p q info h e = let same : disconnecting p info ≡ q = cc in subst (Lasts k) same (h.0, λ e. away e)
+left-lasts k AsksLater p q info h e =
     let waiting : Peering = record p { state = state.DisconnectLater; info = info } in
     let same : settled waiting ≡ q = cc in
-    subst (HasLimits x y) same (settled-limited x y waiting h)
-left-limited x y Refused p q info h e = absurd (let none : None ≡ Some q = e in cc)
+    subst (Lasts k) same (settled-lasts k waiting (h.0, λ e. away e))
+left-lasts k Refused p q info h e = absurd (let none : None ≡ Some q = e in cc)
 
-some-limited : (x y : ℕ) (s t : Taken) → Some s ≡ Some t → HasLimits x y s.after → HasLimits x y t.after
-some-limited x y s t e h = let same : s ≡ t = cc in subst (λ (k : Taken). HasLimits x y k.after) same h
+some-lasts : (k : Mark) (s t : Taken) → Some s ≡ Some t → Lasts k s.after → Lasts k t.after
+some-lasts k s t e h = let same : s ≡ t = cc in subst (λ (t : Taken). Lasts k t.after) same h
 
-last-event-limited : (x y : ℕ) (s : PeerState) (p : Peering) (t : Taken) → HasLimits x y p → last_event s p ≡ Some t → HasLimits x y t.after
-last-event-limited x y state.Ended p t h e = some-limited x y (record { event = event.Disconnect p.info; after = record p { state = state.Free } }) t e h
-last-event-limited x y s p t h e = absurd cc
+last-event-lasts : (k : Mark) (s : PeerState) (p : Peering) (t : Taken) → Lasts k p → last_event s p ≡ Some t → Lasts k t.after
+last-event-lasts k state.Ended p t h e = some-lasts k (record { event = event.Disconnect p.info; after = record p { state = state.Free } }) t e (h.0, λ e. away e)
+last-event-lasts k s p t h e = absurd cc
 
-packet-limited : (x y : ℕ) (p : Peering) (xs : List codec.Packet) (t : Taken) → HasLimits x y p → packet_event p xs ≡ Some t → HasLimits x y t.after
-packet-limited x y p [] t h e = last-event-limited x y p.state p t h e
-packet-limited x y p (q ∷ rest) t h e = some-limited x y (record { event = event.Receive q; after = record p { inbox = record p.inbox { untaken = rest } } }) t e h
+packet-lasts : (k : Mark) (p : Peering) (xs : List codec.Packet) (t : Taken) → Lasts k p → packet_event p xs ≡ Some t → Lasts k t.after
+packet-lasts k p [] t h e = last-event-lasts k p.state p t h e
+packet-lasts k p (q ∷ rest) t h e = some-lasts k (record { event = event.Receive q; after = record p { inbox = record p.inbox { untaken = rest } } }) t e h
 
-event-limited : (x y : ℕ) (p : Peering) (g : Option ℕ) (t : Taken) → HasLimits x y p → event_after p g ≡ Some t → HasLimits x y t.after
-event-limited x y p None t h e = packet-limited x y p p.inbox.untaken t h e
-event-limited x y p (Some info) t h e = some-limited x y (record { event = event.Connect info; after = record p { greeting = None } }) t e h
+event-lasts : (k : Mark) (p : Peering) (g : Option ℕ) (t : Taken) → Lasts k p → event_after p g ≡ Some t → Lasts k t.after
+event-lasts k p None t h e = packet-lasts k p p.inbox.untaken t h e
+event-lasts k p (Some info) t h e = some-lasts k (record { event = event.Connect info; after = record p { greeting = None } }) t e h
 
-pub taken-limited : (x y : ℕ) (p : Peering) (t : Taken) → HasLimits x y p → next_event p ≡ Some t → HasLimits x y t.after
-taken-limited x y p t h e = event-limited x y p p.greeting t h e
+pub taken-lasts : (k : Mark) (p : Peering) (t : Taken) → Lasts k p → next_event p ≡ Some t → Lasts k t.after
+taken-lasts k p t h e = event-lasts k p p.greeting t h e

@@ -391,16 +391,13 @@ body-keeps p h now sent (send_fragment f payload) k = data-keeps p (record { hea
 body-keeps p h now sent (send_unsequenced group payload) k = data-keeps p (record { head = h; body = send_unsequenced group payload }) sent k
 body-keeps p h now sent (send_unreliable_fragment f payload) k = data-keeps p (record { head = h; body = send_unreliable_fragment f payload }) sent k
 
-obeyed-keeps : (p : Peering) (now : ℕ) (sent : Option ℕ) (m : Message) → IsReachable p → IsReachable (obeyed p now sent m).after
+pub obeyed-keeps : (p : Peering) (now : ℕ) (sent : Option ℕ) (m : Message) → IsReachable p → IsReachable (obeyed p now sent m).after
 obeyed-keeps p now sent m h =
     let effect : Outcome = unless_refused p m (by_body p now sent m m.body) in
     let some : Outcome = cond (is_allowed p.state m.body) effect (stopped p stop.NotConnected) in
     if-outcome (is_connect m.body) (stopped p stop.BadCommand) some (λ t. h)
     (if-outcome (is_allowed p.state m.body) effect (stopped p stop.NotConnected)
     (λ t. unless-holds IsReachable p m (by_body p now sent m m.body) h (body-keeps p m.head now sent m.body h)) h)
-
-pub obeys-keeps : (r : Result (Unit {0}) Stop) (p q : Peering) (now : ℕ) (sent : Option ℕ) (m : Message) → IsReachable p → Obeys r (wants_memory p now sent m) (obeyed p now sent m) p q → IsReachable q
-obeys-keeps r p q now sent m h o = obeys-holds IsReachable r (wants_memory p now sent m) (obeyed p now sent m) p q h (obeyed-keeps p now sent m h) o
 
 -- ---- a datagram goes
 

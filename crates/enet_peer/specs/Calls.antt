@@ -146,12 +146,16 @@ after_timeouts_by End p now = cut_off p
 after_timeouts_by Resend p now = record p { outbox = marked p.outbox (tick_of p now) }
 after_timeouts_by No p now = p
 
--- how long a client that was answered is waited for, in milliseconds since the answer first went
+-- how long a client that was answered is waited for, in milliseconds since the answer first went; one that was refused stays so long since the
+-- peer was made
 abbrev pub answering_time : ℕ
 answering_time = 7500
 
+abbrev pub has_stayed : Peering → ℕ → Bool
+has_stayed p now = if p.refused then nat_le answering_time (elapsed_time now p.made) else has_waited p.outbox answering_time now
+
 abbrev pub is_over : Peering → ℕ → Bool
-is_over p now = is_answering p.state && has_waited p.outbox answering_time now
+is_over p now = is_answering p.state && has_stayed p now
 
 -- what a moment brings: the end of the peer, resends, or nothing
 abbrev pub expiry_of : Peering → ℕ → Expiry

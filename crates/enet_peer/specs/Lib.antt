@@ -7,6 +7,7 @@ pub mod Counting
 pub mod Acting
 pub mod Next
 pub mod Reachable
+pub mod Refusing
 pub mod Handling
 pub mod Heading
 pub mod Held

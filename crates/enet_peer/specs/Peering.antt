@@ -29,6 +29,8 @@ pub record Peering : Type 0 where
   pub ping_interval : ℕ
   pub estimate : Estimate
   pub heard : ℕ  -- when an acknowledgement was last matched, or at first when the peer was made
+  pub made : ℕ  -- when the peer was made
+  pub refused : Bool  -- its host was full when its client confirmed: it is told so, and let go
   pub other_incoming : ℕ  -- the other's incoming bandwidth as last told, in bytes per second
   pub greeting : Option ℕ  -- a Connect event that wasn't taken
   pub inbox : Inbox
@@ -68,6 +70,8 @@ joined now terms limits = record {
   ping_interval = 500;
   estimate = fresh;
   heard = now;
+  made = now;
+  refused = false;
   other_incoming = 0;
   greeting = None;
   inbox = empty_inbox terms.channels limits.max_packet limits.max_waiting;

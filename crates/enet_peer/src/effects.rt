@@ -343,7 +343,7 @@ impl Peer {
     }
 
     /// What a told time stands for on the clock of this peer, which adds its offset to what it tells.
-    fn meant(&self, told: u16) -> u16
+    pub(crate) fn meant(&self, told: u16) -> u16
         ensures { result ≡ meant_time told (self.now.peer.offset % 2 ^ 16) }
     {
         meant_time(told, self.offset)

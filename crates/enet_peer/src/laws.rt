@@ -25,6 +25,7 @@ ghost use Rattle.enet_peer.specs.declared.parts.PeerState.TheVariants.{Connected
 ghost use Rattle.enet_peer.specs.Peering.{Peering, answering, connecting, joined};
 ghost use Rattle.enet_peer.specs.CommandEffect.{Obeys, obeyed, wants_memory};
 ghost use Rattle.enet_peer.specs.Calls.{Leave, Leaves, PutsOut, Submits, Takes, is_connected, left, moved, next_event, with_bandwidth, with_ping_interval, with_throttle, with_throttle_limit, with_timeout};
+ghost use Rattle.enet_peer.specs.Refusing.{heeded, is_turned_away, told_again};
 ghost use Rattle.enet_peer.specs.Reachable.{Answers, IsAnswering, IsReachable, answer_to};
 ghost use Rattle.enet_peer.specs.Sampling.{HasTimes, IsPast, ShowsNoMore, control_on, data_on};
 
@@ -38,7 +39,8 @@ pub fn reachable_stays()
     ensures answering { (now : ℕ) (offsets : Offsets) (offer : Offer) (server : Server) (limits : Limits) → IsReachable (answering now offsets offer server limits) }
     ensures submitted { (r : Result (Unit {0}) (Refusal × List ℕ)) (p q : Peering) (channel : ℕ) (packet : Packet) → IsReachable p → Submits r p q channel packet → IsReachable q }
     ensures put_out { (now : ℕ) (len : Option ℕ) (p q : Peering) (buf : List ℕ) → IsReachable p → PutsOut now len p q buf → IsReachable q }
-    ensures obeyed { (r : Result (Unit {0}) Stop) (p q : Peering) (now : ℕ) (sent : Option ℕ) (m : Message) → IsReachable p → Obeys r (wants_memory p now sent m) (obeyed p now sent m) p q → IsReachable q }
+    ensures heeded { (r : Result (Unit {0}) Stop) (full : Bool) (p q : Peering) (now : ℕ) (sent : Option ℕ) (m : Message) → IsReachable p → Obeys r (wants_memory p now sent m) (heeded full p now sent m) p q → IsReachable q }
+    ensures told_again { (p : Peering) → IsReachable p → is_turned_away p ≡ true → IsReachable (told_again p) }
     ensures moved { (short : Bool) (p : Peering) (now : ℕ) → IsReachable p → IsReachable (moved short p now) }
     ensures left { (r : Result (Unit {0}) Refusal) (how : Leave) (p q : Peering) (info : ℕ) → IsReachable p → Leaves r (left how p info) p q → IsReachable q }
     ensures taken { (e : Option PeerEvent) (p q : Peering) → IsReachable p → Takes e (next_event p) p q → IsReachable q }
@@ -55,7 +57,7 @@ pub fn reachable_stays()
 pub fn disconnect_is_answered()
     ensures waits { (p : Peering) (now time info : ℕ) (h : Head) → h.acknowledge ≡ true → (p.state ≡ Connected) ⊎ (p.state ≡ DisconnectLater)
         → IsAnswering (answer_to h time) (obeyed p now (Some time) (record { head = h; body = disconnect info })).after }
-    ensures obeyed { (r : Result (Unit {0}) Stop) (a : Acknowledgement) (p q : Peering) (now : ℕ) (sent : Option ℕ) (m : Message) → IsAnswering a p → Obeys r (wants_memory p now sent m) (obeyed p now sent m) p q → IsAnswering a q }
+    ensures heeded { (r : Result (Unit {0}) Stop) (full : Bool) (a : Acknowledgement) (p q : Peering) (now : ℕ) (sent : Option ℕ) (m : Message) → IsAnswering a p → Obeys r (wants_memory p now sent m) (heeded full p now sent m) p q → IsAnswering a q }
     ensures moved { (a : Acknowledgement) (short : Bool) (p : Peering) (now : ℕ) → IsReachable p → IsAnswering a p → IsAnswering a (moved short p now) }
     ensures goes { (a : Acknowledgement) (now : ℕ) (len : Option ℕ) (p q : Peering) (buf : List ℕ) → IsAnswering a p → PutsOut now len p q buf → Answers a now len p q }
 {}

@@ -43,11 +43,12 @@ mod opening;
 mod parts;
 mod peer;
 mod readings;
+mod refusing;
 mod sending;
 mod settings;
 mod time;
 
-pub use datagram::{receive, what_was_put_out_comes};
+pub use datagram::{may_confirm, receive, what_was_put_out_comes};
 pub use heading::{read_heading, read_offer};
 pub use held::Held;
 pub use laws::{disconnect_is_answered, reachable_stays, sample_is_no_longer};

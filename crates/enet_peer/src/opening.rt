@@ -111,6 +111,8 @@ impl Peer {
             ping_interval: 500,
             timing: Timing::new(),
             heard: now,
+            made: now,
+            refused: false,
             other_incoming: 0,
             greeting: None,
             inbox,

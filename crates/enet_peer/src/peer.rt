@@ -31,6 +31,10 @@ pub struct Peer {
     pub(crate) timing: Timing,
     /// When an acknowledgement was last matched, or at first when the peer was made.
     pub(crate) heard: u32,
+    /// When the peer was made.
+    pub(crate) made: u32,
+    /// Whether its host was full when its client confirmed: it is told so, and let go.
+    pub(crate) refused: bool,
     /// The other end's incoming bandwidth as last told, in bytes per second.
     pub(crate) other_incoming: u32,
     /// A Connect event that wasn't taken.
@@ -62,6 +66,8 @@ impl Model for Peer {
         ping_interval = p.ping_interval;
         estimate = p.timing;
         heard = p.heard;
+        made = p.made;
+        refused = p.refused;
         other_incoming = p.other_incoming;
         greeting = p.greeting;
         inbox = p.inbox;
@@ -80,6 +86,20 @@ impl Peer {
         ensures { result ≡ self.now.peer.state }
     {
         self.state
+    }
+
+    /// Whether it began by a CONNECT that came.
+    pub fn is_server(&self) -> bool
+        ensures { result ≡ self.now.peer.is_server }
+    {
+        self.is_server
+    }
+
+    /// When it was made, in milliseconds by its host's clock.
+    pub fn made(&self) -> u32
+        ensures { result ≡ self.now.peer.made }
+    {
+        self.made
     }
 
     /// The terms on which this end stands; while it still connects, those that it asked for, with slot 0xFFF. The window

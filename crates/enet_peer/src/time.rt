@@ -4,7 +4,7 @@ ghost use Rattle.std.specs.Prelude.{◌≡◌, ℕ, ◌≤◌, ◌<◌, ◌^◌,
 ghost use Rattle.enet_rtt.specs.Clock.{elapsed_time, HappensIn};
 ghost use Rattle.enet_outbox.specs.Outbox.{has_nothing_reliable};
 ghost use Rattle.enet_peer.specs.Endings.{cut_off};
-ghost use Rattle.enet_peer.specs.Calls.{answering_time, expiry_of, growth_bound, is_answering, is_connected, is_due, is_over, is_pinged, is_welcome, moved, pinged, tick_of};
+ghost use Rattle.enet_peer.specs.Calls.{answering_time, expiry_of, growth_bound, has_stayed, is_answering, is_connected, is_due, is_over, is_pinged, is_welcome, moved, pinged, tick_of};
 ghost use Rattle.enet_peer.specs.Private.Time.{expired, timed_out};
 
 use crate::{Peer, PeerState};
@@ -21,7 +21,8 @@ fn answering_time() -> u32
 impl Peer {
     /// Time has come to `now`, in milliseconds. Where a sent command has waited out its timeout it is due to go again, unless
     /// the peer's patience is over: then the connection has ended, with the word 0. A server that waits for its client is free without an
-    /// event once its patience is over, or 7,500 ms have passed since its answer first went. `short` says that the client's address has
+    /// event once its patience is over, or 7,500 ms have passed since its answer first went, or, if its client was refused, since it was
+    /// made. `short` says that the client's address has
     /// sent too little for another answer: then that one doesn't become due, but counts as tried, and is looked at again once it has
     /// waited out its timeout from now on. A connected peer that has no reliable command on the way and was not heard for the ping
     /// interval is pinged (our profile).
@@ -51,9 +52,27 @@ impl Peer {
         ensures { HappensIn (is_over self.now.peer) now result }
     {
         if self.state == PeerState::Answering {
-            return self.outbox.next_waited(now, answering_time());
+            return self.stayed_in(now);
         }
         u32::MAX
+    }
+
+    /// In how many milliseconds after the moment `now` a client was waited for as long as may be, or one that was refused has been there so
+    /// long.
+    fn stayed_in(&self, now: u32) -> u32
+        ensures { HappensIn (has_stayed self.now.peer) now result }
+    {
+        if self.refused {
+            return self.aged_in(now);
+        }
+        self.outbox.next_waited(now, answering_time())
+    }
+
+    /// In how many milliseconds after the moment `now` the peer has been there for so long.
+    fn aged_in(&self, now: u32) -> u32
+        ensures { HappensIn (λ (later : ℕ). nat_le answering_time (elapsed_time later self.now.peer.made)) now result }
+    {
+        answering_time().saturating_sub(elapsed(now, self.made))
     }
 
     /// In how many milliseconds after the moment `now` nothing was heard for the ping interval, if nothing comes before that.
@@ -102,7 +121,18 @@ impl Peer {
     fn is_over(&self, now: u32) -> bool
         ensures { result ≡ is_over self.now.peer now }
     {
-        self.state == PeerState::Answering && self.outbox.has_waited(now, answering_time())
+        self.state == PeerState::Answering && self.has_stayed(now)
+    }
+
+    /// Whether a client was waited for as long as may be, or one that was refused has been there so long.
+    fn has_stayed(&self, now: u32) -> bool
+        ensures { result ≡ has_stayed self.now.peer now }
+    {
+        if self.refused {
+            elapsed(now, self.made) >= answering_time()
+        } else {
+            self.outbox.has_waited(now, answering_time())
+        }
     }
 
     /// Whether an answer may not go again, by whether the client's address has sent too little for one.

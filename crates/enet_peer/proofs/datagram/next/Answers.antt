@@ -1,4 +1,5 @@
+use Rattle.std.proofs.Common.{◌≡◌, true, false, sym, ◌∙◌}
 use Rattle.enet_peer.proofs.datagram.next.Goals as goal
 
-pub returns-in-Some : goal.returns-in-Some
-returns-in-Some c = c.in-Some.ensures.taken
+pub returns : goal.returns
+returns c = c.next_plainly.ensures c.args.full (λ full. absurd (let y : true ≡ false = sym full ∙ c.if-full.false in cc))

@@ -1,9 +1,14 @@
-use Rattle.std.proofs.Common.{◌≡◌, length, rules}
-use Rattle.std.proofs.lemmas.List.{nil_from_length}
-use Rattle.enet_peer.proofs.Steps.{ends}
+use Rattle.std.proofs.Common.{◌≡◌, Bool, Some, refl, sym, subst, ◌∙◌}
+use Rattle.enet_codec.specs.declared.stop.Stop.TheVariants as stop
+use Rattle.enet_peer.specs.Handling.{HearsIf}
 use Rattle.enet_peer.proofs.datagram.receive.Goals as goal
+
+pub returns-then-is_refused : goal.returns-then-is_refused
+returns-then-is_refused c =
+    subst (λ (b : Bool). HearsIf b (record { now = c.args.now; sent = c.args.sent; full = c.args.full }) c.args.commands.now c.args.peer.now.peer (record { handled = 0; stop = Some stop.NotConnected }) c.remind.new.self.peer)
+    (sym c.if-is_refused.true ∙ c.is_refused.ensures) (refl, c.remind.ensures)
 
 pub returns : goal.returns
 returns c =
-    let none : length c.loop-rest.rest.now ≡ 0 = search rules in
-    c.loop-rest.invariant _ _ (ends _ _ _ _ (nil_from_length _ none))
+    subst (λ (b : Bool). HearsIf b (record { now = c.args.now; sent = c.args.sent; full = c.args.full }) c.args.commands.now c.args.peer.now.peer c.handle.result c.handle.new.peer.peer)
+    (sym c.if-is_refused.false ∙ c.is_refused.ensures) c.handle.ensures

@@ -4,8 +4,8 @@ use Rattle.enet_peer.proofs.laws.disconnect_is_answered.Goals as goal
 pub returns-clause-waits : goal.returns-clause-waits
 returns-clause-waits c = waits-after
 
-pub returns-clause-obeyed : goal.returns-clause-obeyed
-returns-clause-obeyed c = obeys-waits
+pub returns-clause-heeded : goal.returns-clause-heeded
+returns-clause-heeded c = obeys-waits
 
 pub returns-clause-moved : goal.returns-clause-moved
 returns-clause-moved c = moved-waits

@@ -1,4 +1,5 @@
-use Rattle.enet_peer.proofs.Reaching.{answering-reached, bandwidth-keeps, connecting-reached, joined-reached, left-keeps, obeys-keeps, put-out-keeps, submitted-keeps, taken-keeps, throttle-keeps, moved-keeps}
+use Rattle.enet_peer.proofs.Reaching.{answering-reached, bandwidth-keeps, connecting-reached, joined-reached, left-keeps, put-out-keeps, submitted-keeps, taken-keeps, throttle-keeps, moved-keeps}
+use Rattle.enet_peer.proofs.Refusals.{again-keeps, heeds-keeps}
 use Rattle.enet_peer.proofs.laws.reachable_stays.Goals as goal
 
 pub returns-clause-joined : goal.returns-clause-joined
@@ -16,8 +17,11 @@ returns-clause-submitted c = submitted-keeps
 pub returns-clause-put_out : goal.returns-clause-put_out
 returns-clause-put_out c = put-out-keeps
 
-pub returns-clause-obeyed : goal.returns-clause-obeyed
-returns-clause-obeyed c = obeys-keeps
+pub returns-clause-heeded : goal.returns-clause-heeded
+returns-clause-heeded c = heeds-keeps
+
+pub returns-clause-told_again : goal.returns-clause-told_again
+returns-clause-told_again c = again-keeps
 
 pub returns-clause-moved : goal.returns-clause-moved
 returns-clause-moved c = moved-keeps
