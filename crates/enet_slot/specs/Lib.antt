@@ -1,7 +1,9 @@
 pub mod Slot
 pub mod Drawing
 pub mod Giving
+pub mod Yielding
 pub mod Receiving
+pub mod Entering
 pub mod Holding
 pub mod Seating
 pub mod Emitting

@@ -7,7 +7,8 @@ use Rattle.enet_codec.specs.declared.stop.Stop.TheVariants as stop
 use Rattle.enet_peer.specs.declared.parts.PeerState.{PeerState}
 use Rattle.enet_peer.specs.declared.parts.PeerState.TheVariants as state
 use Rattle.enet_peer.specs.Peering.{Peering}
-use Rattle.enet_peer.specs.Handling.{Arrival, Handles}
+use Rattle.enet_peer.specs.Handling.{Arrival, Hears}
+use Rattle.enet_peer.specs.Refusing.{is_turned_away}
 use Rattle.enet_slot.specs.Slot.{SlotState, with_peer}
 
 abbrev pub is_same_address : Addr → Addr → Bool
@@ -49,13 +50,26 @@ abbrev pub refused_by_slot : Addr → ℕ → Option SlotState → Option Stop
 refused_by_slot from session None = Some stop.UnknownPeer
 refused_by_slot from session (Some s) = refused_by_peer s from session s.peer
 
+-- whether a slot holds a peer that was refused, since the host was full
+abbrev pub was_refused_in : Option Peering → Bool
+was_refused_in None = false
+was_refused_in (Some p) = is_turned_away p
+
+abbrev pub was_refused : SlotState → Bool
+was_refused s = was_refused_in s.peer
+
 -- the commands of a datagram come to the peer of a slot
 pub record PeerReceives (a : Arrival) (commands : List ℕ) (s : SlotState) (answer : Received) (t : SlotState) : Type 0 where
   pub peer : Peering
   pub after : Peering
   pub held : s.peer ≡ Some peer
-  pub handled : Handles a (record { handled = 0; peer = peer }) commands answer after
+  pub heard : Hears a commands peer answer after
   pub left : t ≡ with_peer s after
+
+-- whether or not the host is full, these commands come to the peer of a slot alike
+abbrev pub IsHeardAlike : List ℕ → SlotState → Type 0
+IsHeardAlike commands s = (now : ℕ) (sent : Option ℕ) (answer : Received) (t : SlotState)
+    → PeerReceives (record { now = now; sent = sent; full = false }) commands s answer t → PeerReceives (record { now = now; sent = sent; full = true }) commands s answer t
 
 -- whether a slot holds the connection of an offer from this address with this connect id already
 abbrev pub is_connection_in : SlotState → Addr → ℕ → Option Peering → Bool

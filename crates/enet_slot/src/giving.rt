@@ -4,6 +4,7 @@ ghost use Rattle.std.specs.Prelude.{◌≡◌, ◌≤◌, IsTrue, OnOk, OnErr, I
 ghost use Rattle.enet_connect.specs.Terms.{is_channel_count};
 ghost use Rattle.enet_peer.specs.Peering as peers;
 ghost use Rattle.enet_slot.specs.Slot.{name_of};
+ghost use Rattle.enet_slot.specs.Yielding.{readied};
 ghost use Rattle.enet_slot.specs.Giving.{basis_of, limits_of, joined_terms, offer_from, drawn_for, server_from, given, asking, answering};
 
 use crate::Slot;
@@ -185,9 +186,28 @@ impl Slot {
         Ok(())
     }
 
-    /// Gives the slot of this number to a peer at this address, whose offer it answers. E1 where memory is refused, with
-    /// nothing changed.
+    /// Gives the slot of this number to a peer at this address, whose offer it answers. A peer that it holds gives way. E1 where memory is
+    /// refused, with nothing changed.
     pub fn answer(
+        &mut self,
+        start: &Start,
+        number: u16,
+        from: Addr,
+        offer: Offer,
+    ) -> Result<(), Refusal>
+        requires { IsTrue (is_channel_count offer.channels) }
+        ensures answers { OnOk result (self.new.slot ≡ answering (basis_of start.now) number (readied self.old.slot) from offer) }
+        ensures unchanged { OnErr result (self.new.slot ≡ self.old.slot) }
+        ensures memory { IfErr result (λ why. why ≡ Refusal.Memory) }
+    {
+        let mut next = self.readied();
+        next.answer_free(start, number, from, offer)?;
+        *self = next;
+        Ok(())
+    }
+
+    /// The same of a slot that is free.
+    fn answer_free(
         &mut self,
         start: &Start,
         number: u16,

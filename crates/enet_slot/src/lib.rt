@@ -20,15 +20,18 @@ mod calls;
 mod counting;
 mod drawing;
 mod emitting;
+mod entering;
 mod events;
 mod giving;
 mod holding;
 mod receiving;
 mod sharing;
 mod slot;
+mod yielding;
 
 pub use all::{Seat, joined_slots, position_of_connection, set_bandwidth, share_out, unused_slots};
 pub use calls::Setting;
 pub use counting::{SlotCounts, Standing, count_sent_again, count_slots};
+pub use entering::count_entered;
 pub use giving::{Question, Start};
 pub use slot::Slot;

@@ -2,11 +2,11 @@
 
 ghost use Rattle.std.specs.Prelude.{◌≡◌, true, false};
 ghost use Rattle.enet_slot.specs.Giving.{is_vacant};
-ghost use Rattle.enet_slot.specs.Receiving.{is_deaf, stopped, refused_by_slot, is_connection, PeerReceives};
+ghost use Rattle.enet_slot.specs.Receiving.{is_deaf, stopped, refused_by_slot, is_connection, IsHeardAlike, PeerReceives};
 
 use crate::Slot;
 use enet_codec::{Addr, NO_PEER, Received, Stop};
-use enet_peer::{PeerState, receive};
+use enet_peer::{PeerState, may_confirm, receive};
 
 /// Whether a peer in this state takes no datagram in.
 fn is_deaf(state: PeerState) -> bool
@@ -54,11 +54,23 @@ impl Slot {
         None
     }
 
+    /// Whether the client of its peer could confirm by these commands. Where it answers false they come alike to the peer, whether or not the
+    /// host is full.
+    pub fn may_confirm(&self, commands: &[u8]) -> bool
+        ensures { result ≡ false → IsHeardAlike commands.now self.now.slot }
+    {
+        match &self.peer {
+            Some(peer) => may_confirm(peer, commands),
+            None => false,
+        }
+    }
+
     /// The commands of a datagram come to its peer at the time `now`, in milliseconds; `sent` is the time that the datagram
-    /// bears. It answers how many took effect, and the stop of the first that the peer stops; S3, with nothing changed, where
-    /// the slot is free.
-    pub fn receive(&mut self, now: u32, sent: Option<u16>, commands: &[u8]) -> Received
-        ensures receives { is_vacant self.old.slot.peer ≡ false → PeerReceives (record { now = now; sent = sent }) commands.now self.old.slot result self.new.slot }
+    /// bears, and `full` says that the host is full, and refuses who confirms. A peer that was refused stops the datagram by S7, and is
+    /// told so again if that bears a time. It answers how many took effect, and the stop of the first that the peer stops; S3, with nothing
+    /// changed, where the slot is free.
+    pub fn receive(&mut self, now: u32, sent: Option<u16>, full: bool, commands: &[u8]) -> Received
+        ensures receives { is_vacant self.old.slot.peer ≡ false → PeerReceives (record { now = now; sent = sent; full = full }) commands.now self.old.slot result self.new.slot }
         ensures vacant { is_vacant self.old.slot.peer ≡ true → (result ≡ stopped Stop.UnknownPeer) × (self.new.slot ≡ self.old.slot) }
     {
         let Some(peer) = &mut self.peer else {
@@ -67,7 +79,7 @@ impl Slot {
                 stop: Some(Stop::UnknownPeer),
             };
         };
-        let answer = receive(peer, now, sent, commands);
+        let answer = receive(peer, now, sent, full, commands);
         self.let_go();
         answer
     }
