@@ -1,4 +1,5 @@
 pub mod Marks
 pub mod Sleeping
 pub mod Soon
+pub mod Unproved
 pub mod Private

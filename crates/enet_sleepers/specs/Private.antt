@@ -1,2 +1,3 @@
 pub mod Sleepers
 pub mod Soon
+pub mod Unproved

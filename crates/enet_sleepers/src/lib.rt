@@ -21,6 +21,8 @@ mod due;
 mod marks;
 mod offers;
 mod sleepers;
+mod unproved;
 
 pub use marks::Mark;
 pub use sleepers::Sleepers;
+pub use unproved::Unproved;
