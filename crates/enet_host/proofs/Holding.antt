@@ -5,8 +5,10 @@ use Rattle.std.proofs.lemmas.List.{length-replicate, length-set}
 use Rattle.std.proofs.lemmas.Option.{slice_get_within, slice_get-get_or}
 use Rattle.std.specs.List.{slice_get, count_by}
 use Rattle.enet_codec.specs.declared.address.Addr.{Addr}
+use Rattle.enet_codec.specs.declared.config.Admission.{Admission}
+use Rattle.enet_codec.specs.declared.config.Admission.TheVariants as admission
 use Rattle.enet_codec.specs.declared.config.Config.{Config}
-use Rattle.enet_codec.specs.Config.{is_in_range}
+use Rattle.enet_codec.specs.Config.{admitting, is_in_range}
 use Rattle.enet_codec.specs.declared.event.Event.{Event}
 use Rattle.enet_codec.specs.declared.event.PeerRef.{PeerRef}
 use Rattle.enet_codec.specs.declared.event.Received.{Received}
@@ -21,7 +23,7 @@ use Rattle.enet_peer.specs.Calls.{is_connected, with_throttle_limit}
 use Rattle.enet_peer.specs.Calls as calls
 use Rattle.enet_slot.specs.declared.slot.Slot.{Slot}
 use Rattle.enet_slot.specs.Slotted.{all_shown}
-use Rattle.enet_host.specs.Shown.{KeepsHost}
+use Rattle.enet_host.specs.Shown.{HostNumbers, KeepsHost}
 use Rattle.enet_host.specs.Private.Shown.{SlotGivesEvent}
 use Rattle.enet_deadlines.specs.Sets.{IsIn}
 use Rattle.enet_sleepers.specs.Sleeping.{Noted, KeepsSleepers}
@@ -30,6 +32,8 @@ use Rattle.enet_slot.proofs.Shown.{length-shown}
 use Rattle.enet_slot.specs.Giving.{limits_of, unused_slot, joined_terms, joined_slots, given, drawn_for, offer_from, server_from, Basis, asking, answering}
 use Rattle.enet_slot.specs.declared.giving.Question.{Question}
 use Rattle.enet_slot.specs.Slot.{greatest, SlotState, with_peer, with_peer_in, with_changed, changed}
+use Rattle.enet_slot.specs.Yielding.{readied}
+use Rattle.enet_sleepers.specs.Unproved.{Waiting, KeepsUnproved, YieldNowhere}
 use Rattle.enet_host.specs.Held.{AreLimited}
 use Rattle.enet_host.specs.Host.{Host, HoldsNoFree, with_generation}
 use Rattle.enet_host.specs.Opening.{joined, Connects, no_channel, no_slot, no_memory, asks}
@@ -43,7 +47,7 @@ use Rattle.enet_host.specs.Crediting.{is_short_at}
 use Rattle.enet_host.specs.Ticking.{all_moved, clock_after, with_time, is_due, ticked}
 use Rattle.enet_slot.specs.Calls.{kept, on_peer_in, Submits, Does, DoesWithMemory, GivesEvent}
 use Rattle.enet_host.specs.Calls.{put_back, on_slot, on_named}
-use Rattle.enet_host.proofs.Limits.{joined-limited, unused-limited}
+use Rattle.enet_host.proofs.Limits.{AllHold, Minds, joined-limited, joined-nowhere, keeps-of, limited-of, minds-all, unused-limited, unused-nowhere}
 use Rattle.enet_host.proofs.Moving.{each-moved}
 use Rattle.enet_host.proofs.Turning.{turns-apart}
 
@@ -189,7 +193,8 @@ offers-held basis slots new from o answer old (receiving.repeated is known) = ol
 offers-held basis slots new from o answer old (receiving.no_slot is known none) = old
 offers-held basis slots new from o answer old (receiving.no_memory i is known at) = old
 offers-held basis slots new from o answer old (receiving.answers i s is known at there) =
-    set-held slots i (answering basis i s from o) old (given-held s from (peers.answering basis.clock (drawn_for basis.config i s).offsets o (server_from basis.config i s o) (limits_of basis.config)) (λ e. absurd (cc)))
+    let t : SlotState = readied s in
+    set-held slots i (answering basis i t from o) old (given-held t from (peers.answering basis.clock (drawn_for basis.config i t).offsets o (server_from basis.config i t o) (limits_of basis.config)) (λ e. absurd (cc)))
 
 -- a datagram comes
 pub arrives-held : (basis : Basis) (slots new : List SlotState) (from : Addr) (bytes : List ℕ) (answer : Received) → HoldsNoFree slots → Arrives (record { basis = basis; slots = slots }) from bytes answer new → HoldsNoFree new
@@ -279,23 +284,60 @@ shared-if-held due outgoing slots new e old =
     subst HoldsNoFree (sym e) (held-if due (map (shared outgoing (count_by is_standing slots)) slots) slots (shared-held outgoing (count_by is_standing slots) slots old) old)
 
 -- what a host keeps once its slots and turns have changed
-pub keeps-after : (peers was now generations packet waiting from event first last : ℕ) (v w : Noted) (xs ys : List Slot) → KeepsHost (record { peers = peers; clock = was; generations = generations; max_packet = packet; max_waiting = waiting; service_from = from; event_from = event }) v xs → length ys ≡ length xs
-    → first < peers → last < peers → IsKept now w (all_shown ys) → AreLimited packet waiting (all_shown ys) → KeepsHost (record { peers = peers; clock = now; generations = generations; max_packet = packet; max_waiting = waiting; service_from = first; event_from = last }) w ys
-keeps-after peers was now generations packet waiting from event first last v w xs ys k e a b after limited =
-    record { count = e ∙ k.count; many = k.many; service = a; event = b; few = k.few; held = after.0; sleeping = after.1; limited = limited }
+pub keeps-after : (peers was now generations packet waiting from event first last : ℕ) (v w : Noted) (t u : Waiting) (xs ys : List Slot)
+    → KeepsHost (record { peers = peers; clock = was; generations = generations; max_packet = packet; max_waiting = waiting; service_from = from; event_from = event }) v t xs → length ys ≡ length xs
+    → first < peers → last < peers → IsKept now w (all_shown ys) → AreLimited packet waiting (all_shown ys) × KeepsUnproved now generations u (all_shown ys)
+    → KeepsHost (record { peers = peers; clock = now; generations = generations; max_packet = packet; max_waiting = waiting; service_from = first; event_from = last }) w u ys
+keeps-after peers was now generations packet waiting from event first last v w t u xs ys k e a b after of_peers =
+    record { count = e ∙ k.count; many = k.many; service = a; event = b; few = k.few; held = after.0; sleeping = after.1; waiting = of_peers.1; limited = of_peers.0 }
+
+-- what is noted of who waits for a client may change
+pub keeps-waiting : {n : HostNumbers} {v : Noted} {t u : Waiting} {xs : List Slot} → KeepsHost n v t xs → KeepsUnproved n.clock n.generations u (all_shown xs) → KeepsHost n v u xs
+keeps-waiting {n} {v} {t} {u} {xs} k waiting = record {
+  count = k.count;
+  many = k.many;
+  service = k.service;
+  event = k.event;
+  few = k.few;
+  held = k.held;
+  sleeping = k.sleeping;
+  waiting = waiting;
+  limited = k.limited;
+}
+
+-- whom a host lets in may change
+pub keeps-admitting : (c : Config) (what : Admission) (clock from event : ℕ) (v : Noted) (u : Waiting) (xs : List Slot)
+    → KeepsHost (record { peers = c.peers; clock = clock; generations = c.generations; max_packet = c.max_packet; max_waiting = c.max_waiting; service_from = from; event_from = event }) v u xs
+    → KeepsHost (record { peers = (admitting c what).peers; clock = clock; generations = (admitting c what).generations; max_packet = (admitting c what).max_packet; max_waiting = (admitting c what).max_waiting; service_from = from; event_from = event }) v u xs
+keeps-admitting c admission.GiveWay clock from event v u xs k = k
+keeps-admitting c (admission.Most peers) clock from event v u xs k = k
+
+-- what it keeps of its peers
+abbrev pub Minded : HostNumbers → Waiting → List Slot → Type 0
+Minded n u xs = AllHold (Minds n.max_packet n.max_waiting n.generations u) (all_shown xs)
+
+pub all-minded : {n : HostNumbers} {v : Noted} {u : Waiting} {xs : List Slot} → KeepsHost n v u xs → Minded n u xs
+all-minded {n} {v} {u} {xs} k = minds-all n.max_packet n.max_waiting n.generations n.clock u (all_shown xs) k.limited k.waiting
+
+pub minded : {n : HostNumbers} {v : Noted} {u : Waiting} {xs : List Slot} (ys : List Slot) → KeepsHost n v u xs → length ys ≡ length xs → Minded n u ys
+    → AreLimited n.max_packet n.max_waiting (all_shown ys) × KeepsUnproved n.clock n.generations u (all_shown ys)
+minded {n} {v} {u} {xs} ys k e all = (
+  limited-of n.max_packet n.max_waiting n.generations u (all_shown ys) all,
+  (let w = k.waiting in keeps-of n.max_packet n.max_waiting n.generations n.clock u (all_shown ys) (w.count ∙ length-shown xs ∙ sym e ∙ sym (length-shown ys)) w.shown all),
+)
 
 -- and once a slot was woken
-pub woken-kept : (peers now generations packet waiting from event : ℕ) (v w : Noted) (xs : List Slot) → KeepsHost (record { peers = peers; clock = now; generations = generations; max_packet = packet; max_waiting = waiting; service_from = from; event_from = event }) v xs
+pub woken-kept : (peers now generations packet waiting from event : ℕ) (v w : Noted) (t : Waiting) (xs : List Slot) → KeepsHost (record { peers = peers; clock = now; generations = generations; max_packet = packet; max_waiting = waiting; service_from = from; event_from = event }) v t xs
     → ((n : ℕ) (slots : List SlotState) → KeepsSleepers n v slots → KeepsSleepers n w slots) → IsKept now w (all_shown xs)
-woken-kept peers now generations packet waiting from event v w xs k woken = (k.held, woken now (all_shown xs) k.sleeping)
+woken-kept peers now generations packet waiting from event v w t xs k woken = (k.held, woken now (all_shown xs) k.sleeping)
 
 -- what it keeps at first
 in-range : (c : Config) → is_in_range c ≡ true → (0 < c.peers) × (c.peers ≤ 4095) × (c.generations ≤ greatest)
 in-range c h = (grind (arith, nat_tests), grind (arith, nat_tests), grind (arith, nat_tests))
 
-keeps-fresh : (c : Config) (r : Bool) (v : Noted) (xs : List Slot) (slots : List SlotState) → r ≡ is_in_range c → r ≡ true → ((slots : List SlotState) → length slots ≡ c.peers → KeepsSleepers c.clock v slots) → all_shown xs ≡ slots
-    → length slots ≡ c.peers → HoldsNoFree slots → AreLimited c.max_packet c.max_waiting slots → KeepsHost (record { peers = c.peers; clock = c.clock; generations = c.generations; max_packet = c.max_packet; max_waiting = c.max_waiting; service_from = 0; event_from = 0 }) v xs
-keeps-fresh c r v xs slots is go fresh e count held limited =
+keeps-fresh : (c : Config) (r : Bool) (v : Noted) (u : Waiting) (xs : List Slot) (slots : List SlotState) → r ≡ is_in_range c → r ≡ true → ((slots : List SlotState) → length slots ≡ c.peers → KeepsSleepers c.clock v slots) → all_shown xs ≡ slots
+    → length slots ≡ c.peers → HoldsNoFree slots → AreLimited c.max_packet c.max_waiting slots → KeepsUnproved c.clock c.generations u slots → KeepsHost (record { peers = c.peers; clock = c.clock; generations = c.generations; max_packet = c.max_packet; max_waiting = c.max_waiting; service_from = 0; event_from = 0 }) v u xs
+keeps-fresh c r v u xs slots is go fresh e count held limited unproved =
     let h : (0 < c.peers) × (c.peers ≤ 4095) × (c.generations ≤ greatest) = in-range c (sym is ∙ go) in
     record {
       count = sym (length-shown xs) ∙ ap length e ∙ count;
@@ -305,18 +347,20 @@ keeps-fresh c r v xs slots is go fresh e count held limited =
       few = h.2;
       held = subst HoldsNoFree (sym e) held;
       sleeping = fresh (all_shown xs) (ap length e ∙ count);
+      waiting = subst (KeepsUnproved c.clock c.generations u) (sym e) unproved;
       limited = subst (AreLimited c.max_packet c.max_waiting) (sym e) limited;
     }
 
-pub keeps-opened : (c : Config) (r : Bool) (v : Noted) (xs : List Slot) → r ≡ is_in_range c → r ≡ true → ((slots : List SlotState) → length slots ≡ c.peers → KeepsSleepers c.clock v slots) → all_shown xs ≡ replicate c.peers unused_slot
-    → KeepsHost (record { peers = c.peers; clock = c.clock; generations = c.generations; max_packet = c.max_packet; max_waiting = c.max_waiting; service_from = 0; event_from = 0 }) v xs
-keeps-opened c r v xs is go fresh e = keeps-fresh c r v xs (replicate c.peers unused_slot) is go fresh e (length-replicate c.peers unused_slot) (unused-held c.peers)
-    (unused-limited c.max_packet c.max_waiting c.peers)
+pub keeps-opened : (c : Config) (r : Bool) (v : Noted) (u : Waiting) (xs : List Slot) → r ≡ is_in_range c → r ≡ true → ((slots : List SlotState) → length slots ≡ c.peers → KeepsSleepers c.clock v slots)
+    → ((slots : List SlotState) → length slots ≡ c.peers → YieldNowhere c.generations slots → KeepsUnproved c.clock c.generations u slots) → all_shown xs ≡ replicate c.peers unused_slot
+    → KeepsHost (record { peers = c.peers; clock = c.clock; generations = c.generations; max_packet = c.max_packet; max_waiting = c.max_waiting; service_from = 0; event_from = 0 }) v u xs
+keeps-opened c r v u xs is go fresh none e =
+    keeps-fresh c r v u xs (replicate c.peers unused_slot) is go fresh e (length-replicate c.peers unused_slot) (unused-held c.peers) (unused-limited c.max_packet c.max_waiting c.peers)
+    (none (replicate c.peers unused_slot) (length-replicate c.peers unused_slot) (unused-nowhere c.generations c.peers))
 
-pub keeps-joined : (c : Config) (address : Addr) (r : Bool) (v : Noted) (xs : List Slot) → r ≡ is_in_range c → r ≡ true → ((slots : List SlotState) → length slots ≡ c.peers → KeepsSleepers c.clock v slots)
-    → all_shown xs ≡ joined_slots c address → KeepsHost (record { peers = c.peers; clock = c.clock; generations = c.generations; max_packet = c.max_packet; max_waiting = c.max_waiting; service_from = 0; event_from = 0 }) v xs
-keeps-joined c address r v xs is go fresh e =
-    keeps-fresh c r v xs (joined_slots c address) is go fresh e
-    (length-set (replicate c.peers unused_slot) 0 (given unused_slot address (peers.joined c.clock (joined_terms c) (limits_of c))) ∙ length-replicate c.peers unused_slot)
-    (joined-held c address)
-    (joined-limited c address)
+pub keeps-joined : (c : Config) (address : Addr) (r : Bool) (v : Noted) (u : Waiting) (xs : List Slot) → r ≡ is_in_range c → r ≡ true → ((slots : List SlotState) → length slots ≡ c.peers → KeepsSleepers c.clock v slots)
+    → ((slots : List SlotState) → length slots ≡ c.peers → YieldNowhere c.generations slots → KeepsUnproved c.clock c.generations u slots)
+    → all_shown xs ≡ joined_slots c address → KeepsHost (record { peers = c.peers; clock = c.clock; generations = c.generations; max_packet = c.max_packet; max_waiting = c.max_waiting; service_from = 0; event_from = 0 }) v u xs
+keeps-joined c address r v u xs is go fresh none e =
+    let count = length-set (replicate c.peers unused_slot) 0 (given unused_slot address (peers.joined c.clock (joined_terms c) (limits_of c))) ∙ length-replicate c.peers unused_slot in
+    keeps-fresh c r v u xs (joined_slots c address) is go fresh e count (joined-held c address) (joined-limited c address) (none (joined_slots c address) count (joined-nowhere c address))

@@ -14,3 +14,5 @@ pub mod Bringing
 pub mod Limits
 pub mod Adding
 pub mod Weighing
+pub mod Yielding
+pub mod Guests

@@ -1,6 +1,8 @@
--- Whatever a call does, each peer of a host keeps the limits of the host's settings.
-use Rattle.std.proofs.Common.{◌≡◌, ℕ, zero, suc, ◌<◌, ◌==◌, Bool, true, false, cond, nat_lt, if◌then◌else◌, Option, Some, None, Result, Ok, Err, List, [], ◌∷◌, length, map, replicate, slice_set, get_or, arith, refl, sym, subst}
+-- What is true of each peer of a host, and lasts, whatever a call does: that it keeps the limits of the host's settings, and that it is noted
+-- when a peer that waits for its client was made.
+use Rattle.std.proofs.Common.{◌≡◌, ℕ, zero, suc, ◌+◌, ◌%◌, ◌^◌, ◌<◌, ◌&&◌, ◌==◌, Bool, true, false, cond, nat_lt, if◌then◌else◌, Option, Some, None, Result, Ok, Err, List, [], ◌∷◌, length, map, replicate, slice_set, get_or, arith, refl, sym, ap, subst, ◌∙◌}
 use Rattle.std.proofs.lemmas.Bool.Decides.{nat_tests}
+use Rattle.std.proofs.lemmas.List.{length-set}
 use Rattle.std.proofs.lemmas.Option.{slice_get_within, slice_get-get_or}
 use Rattle.std.specs.List.{slice_get, count_by}
 use Rattle.enet_codec.specs.declared.address.Addr.{Addr}
@@ -17,148 +19,156 @@ use Rattle.enet_peer.specs.declared.parts.PeerState.{PeerState}
 use Rattle.enet_peer.specs.declared.parts.PeerState.TheVariants as state
 use Rattle.enet_peer.specs.Peering.{Peering}
 use Rattle.enet_peer.specs.Peering as peers
-use Rattle.enet_peer.specs.Calls.{is_connected, with_throttle, with_throttle_limit, with_ping_interval, with_timeout}
+use Rattle.enet_peer.specs.Calls.{is_answering, is_connected, with_throttle, with_throttle_limit, with_ping_interval, with_timeout}
 use Rattle.enet_peer.specs.Calls as calls
+use Rattle.enet_peer.specs.Handling.{Arrival}
 use Rattle.enet_peer.specs.Held.{HasLimits}
-use Rattle.enet_peer.proofs.Limited.{handled-limited, left-limited, put-out-limited, taken-limited, moved-limited}
+use Rattle.enet_peer.proofs.Limited.{Follows, hears-lasts, left-lasts, put-out-lasts, taken-lasts, moved-lasts}
 use Rattle.enet_slot.specs.Slot.{SlotState, with_peer, with_peer_in, with_changed, changed}
 use Rattle.enet_slot.specs.Giving.{limits_of, unused_slot, joined_terms, given, Basis, asking, answering}
+use Rattle.enet_slot.specs.Receiving.{PeerReceives}
+use Rattle.enet_slot.specs.Yielding.{answers_in, readied, yields}
 use Rattle.enet_slot.specs.declared.giving.Question.{Question}
 use Rattle.enet_slot.specs.Emitting.{PeerEmits, passes_by}
 use Rattle.enet_slot.specs.Sharing.{is_standing, limit_for, with_limit, shared}
 use Rattle.enet_slot.specs.Calls.{kept, on_peer_in, Submits, Does, DoesWithMemory, GivesEvent, submission, submitted_unless, leaving, left_by, or_not_connected, throttling, pinging, waiting}
 use Rattle.enet_host.specs.Calls.{put_back, on_slot, on_named}
 use Rattle.enet_host.specs.Held.{AreLimited, IsLimitedIn}
+use Rattle.enet_sleepers.specs.Unproved.{Waiting, KeepsUnproved, IsNoted, YieldNowhere}
 use Rattle.enet_host.specs.Host.{with_generation}
-use Rattle.enet_host.specs.Opening.{joined, Connects, no_channel, no_slot, no_memory, asks}
+use Rattle.enet_host.specs.Opening.{joined, seat, Connects, no_channel, no_slot, no_memory, asks}
 use Rattle.enet_host.specs.Private.Shown.{SlotGivesEvent}
 use Rattle.enet_host.specs.Receiving as receiving
 use Rattle.enet_host.specs.Receiving.{Offers, Arrives}
 use Rattle.enet_host.specs.Serving.{InTurn, Served, EmitsInTurn, AllPass}
 use Rattle.enet_host.specs.Turns.{turn_of}
 use Rattle.enet_host.specs.Ticking.{all_moved}
-use Rattle.enet_host.proofs.Moving.{each-moved}
+use Rattle.enet_host.proofs.Moving.{slot_moved}
 use Rattle.enet_host.proofs.Turning.{turns-apart}
 
 -- ---- one slot
 
-abbrev IsLimited : ℕ → ℕ → SlotState → Type 0
-IsLimited x y s = IsLimitedIn x y s.peer
+-- what is said of a slot's peer, by the slot's number and generation
+abbrev HoldsIn : (ℕ → ℕ → Peering → Type 0) → ℕ → ℕ → Option Peering → Type 0
+HoldsIn P i g None = Unit {0}
+HoldsIn P i g (Some p) = P i g p
 
-limited-as : (x y : ℕ) (st : PeerState) (s : SlotState) (q : Peering) → HasLimits x y q → IsLimited x y (with_peer_in st s q)
-limited-as x y state.Free s q h = tt
-limited-as x y state.Connecting s q h = h
-limited-as x y state.Answering s q h = h
-limited-as x y state.Connected s q h = h
-limited-as x y state.DisconnectLater s q h = h
-limited-as x y state.Disconnecting s q h = h
-limited-as x y state.AckDisconnect s q h = h
-limited-as x y state.Ended s q h = h
-limited-as x y state.Parting s q h = h
+abbrev Holds : (ℕ → ℕ → Peering → Type 0) → ℕ → SlotState → Type 0
+Holds P i s = HoldsIn P i s.generation s.peer
 
-peer-limited : (x y : ℕ) (s : SlotState) (q : Peering) → HasLimits x y q → IsLimited x y (with_peer s q)
-peer-limited x y s q h = limited-as x y q.state s q h
+abbrev pub AllHold : (ℕ → ℕ → Peering → Type 0) → List SlotState → Type 0
+AllHold P slots = (i : ℕ) (s : SlotState) → slice_get slots i ≡ Some s → Holds P i s
+
+-- it lasts with the peer
+abbrev pub Lasting : (ℕ → ℕ → Peering → Type 0) → Type 0
+Lasting P = (i g : ℕ) (p q : Peering) → Follows p q → P i g p → P i g q
+
+holds-as : (P : ℕ → ℕ → Peering → Type 0) (st : PeerState) (i : ℕ) (s : SlotState) (q : Peering) → P i s.generation q → Holds P i (with_peer_in st s q)
+holds-as P state.Free i s q h = tt
+holds-as P state.Connecting i s q h = h
+holds-as P state.Answering i s q h = h
+holds-as P state.Connected i s q h = h
+holds-as P state.DisconnectLater i s q h = h
+holds-as P state.Disconnecting i s q h = h
+holds-as P state.AckDisconnect i s q h = h
+holds-as P state.Ended i s q h = h
+holds-as P state.Parting i s q h = h
+
+peer-holds : (P : ℕ → ℕ → Peering → Type 0) (i : ℕ) (s : SlotState) (q : Peering) → P i s.generation q → Holds P i (with_peer s q)
+peer-holds P i s q h = holds-as P q.state i s q h
 
 -- what a slot holds, said of its peer
-of-peer : (x y : ℕ) (s : SlotState) (p : Peering) → s.peer ≡ Some p → IsLimited x y s → HasLimits x y p
-of-peer x y s p e h = subst (IsLimitedIn x y) e h
+of-peer : (P : ℕ → ℕ → Peering → Type 0) (i : ℕ) (s : SlotState) (p : Peering) → s.peer ≡ Some p → Holds P i s → P i s.generation p
+of-peer P i s p e h = subst (HoldsIn P i s.generation) e h
 
 -- ---- one of the slots, or each
 
-set-limited : (x y : ℕ) (slots : List SlotState) (i : ℕ) (t : SlotState) → AreLimited x y slots → IsLimited x y t → AreLimited x y (slice_set slots i t)
-set-limited x y [] i t old one j s there = old j s there
-set-limited x y (z ∷ slots) zero t old one zero s there = let same : t ≡ s = cc in subst (IsLimited x y) same one
-set-limited x y (z ∷ slots) zero t old one (suc j) s there = old (suc j) s there
-set-limited x y (z ∷ slots) (suc i) t old one zero s there = old zero s there
-set-limited x y (z ∷ slots) (suc i) t old one (suc j) s there = set-limited x y slots i t (λ k u a. old (suc k) u a) one j s there
+set-holds : (P : ℕ → ℕ → Peering → Type 0) (slots : List SlotState) (i : ℕ) (t : SlotState) → AllHold P slots → Holds P i t → AllHold P (slice_set slots i t)
+set-holds P [] i t old one j s there = old j s there
+set-holds P (z ∷ slots) zero t old one zero s there = let same : t ≡ s = cc in subst (Holds P zero) same one
+set-holds P (z ∷ slots) zero t old one (suc j) s there = old (suc j) s there
+set-holds P (z ∷ slots) (suc i) t old one zero s there = old zero s there
+set-holds P (z ∷ slots) (suc i) t old one (suc j) s there = set-holds (λ k g p. P (suc k) g p) slots i t (λ k u a. old (suc k) u a) one j s there
 
-map-limited : (x y : ℕ) (f : SlotState → SlotState) (slots : List SlotState) → ((s : SlotState) → IsLimited x y s → IsLimited x y (f s)) → AreLimited x y slots → AreLimited x y (map f slots)
-map-limited x y f [] each old i s there = absurd (cc)
-map-limited x y f (z ∷ slots) each old zero s there = let same : f z ≡ s = cc in subst (IsLimited x y) same (each z (old zero z refl))
-map-limited x y f (z ∷ slots) each old (suc i) s there = map-limited x y f slots each (λ k u a. old (suc k) u a) i s there
+map-holds : (P : ℕ → ℕ → Peering → Type 0) (f : SlotState → SlotState) (slots : List SlotState) → ((i : ℕ) (s : SlotState) → Holds P i s → Holds P i (f s)) → AllHold P slots → AllHold P (map f slots)
+map-holds P f [] each old i s there = absurd (cc)
+map-holds P f (z ∷ slots) each old zero s there = let same : f z ≡ s = cc in subst (Holds P zero) same (each zero z (old zero z refl))
+map-holds P f (z ∷ slots) each old (suc i) s there = map-holds (λ k g p. P (suc k) g p) f slots (λ k u h. each (suc k) u h) (λ k u a. old (suc k) u a) i s there
 
-changed-in : (x y : ℕ) (change : Peering → Peering) (s : SlotState) (o : Option Peering) → ((p : Peering) → HasLimits x y p → HasLimits x y (change p)) → s.peer ≡ o → IsLimitedIn x y o
-    → IsLimited x y (with_changed change s o)
-changed-in x y change s None each e h = subst (IsLimitedIn x y) (sym e) tt
-changed-in x y change s (Some p) each e h = peer-limited x y s (change p) (each p h)
+changed-in : (P : ℕ → ℕ → Peering → Type 0) (change : Peering → Peering) (i : ℕ) (s : SlotState) (o : Option Peering) → ((p : Peering) → P i s.generation p → P i s.generation (change p)) → s.peer ≡ o → HoldsIn P i s.generation o
+    → Holds P i (with_changed change s o)
+changed-in P change i s None each e h = subst (HoldsIn P i s.generation) (sym e) tt
+changed-in P change i s (Some p) each e h = peer-holds P i s (change p) (each p h)
 
-pub changed-limited : (x y : ℕ) (change : Peering → Peering) (slots : List SlotState) → ((p : Peering) → HasLimits x y p → HasLimits x y (change p)) → AreLimited x y slots → AreLimited x y (map (changed change) slots)
-changed-limited x y change slots each old = map-limited x y (changed change) slots (λ s h. changed-in x y change s s.peer each refl h) old
+pub changed-holds : (P : ℕ → ℕ → Peering → Type 0) → Lasting P → (change : Peering → Peering) (slots : List SlotState) → ((p : Peering) → Follows p (change p)) → AllHold P slots → AllHold P (map (changed change) slots)
+changed-holds P lasts change slots each old = map-holds P (changed change) slots (λ i s h. changed-in P change i s s.peer (λ p was. lasts i s.generation p (change p) (each p) was) refl h) old
 
-if-peer : (x y : ℕ) (b : Bool) (p q : Peering) → HasLimits x y p → HasLimits x y q → HasLimits x y (cond b p q)
-if-peer x y true p q f g = f
-if-peer x y false p q f g = g
+shared-in : (P : ℕ → ℕ → Peering → Type 0) → Lasting P → (i g outgoing standing emitted : ℕ) (o : Option Peering) → HoldsIn P i g o → HoldsIn P i g (with_limit outgoing standing emitted o)
+shared-in P lasts i g outgoing standing emitted None h = tt
+shared-in P lasts i g outgoing standing emitted (Some p) h = by (is_connected p.state)
+  where
+    limited : Peering
+    limited = with_throttle_limit p (limit_for outgoing standing emitted p)
 
-shared-in : (x y outgoing standing emitted : ℕ) (o : Option Peering) → IsLimitedIn x y o → IsLimitedIn x y (with_limit outgoing standing emitted o)
-shared-in x y outgoing standing emitted None h = tt
-shared-in x y outgoing standing emitted (Some p) h = if-peer x y (is_connected p.state) (with_throttle_limit p (limit_for outgoing standing emitted p)) p h h
+    by : (b : Bool) → P i g (cond b limited p)
+    by true = lasts i g p limited (λ k was. was) h
+    by false = h
 
-shared-limited : (x y outgoing standing : ℕ) (slots : List SlotState) → AreLimited x y slots → AreLimited x y (map (shared outgoing standing) slots)
-shared-limited x y outgoing standing slots old = map-limited x y (shared outgoing standing) slots (λ s h. shared-in x y outgoing standing s.emitted s.peer h) old
-
--- slots that were never given
-pub unused-limited : (x y n : ℕ) → AreLimited x y (replicate n unused_slot)
-unused-limited x y zero i s there = absurd (cc)
-unused-limited x y (suc n) zero s there = let same : unused_slot ≡ s = cc in subst (IsLimited x y) same tt
-unused-limited x y (suc n) (suc i) s there = unused-limited x y n i s there
-
-pub joined-limited : (c : Config) (address : Addr) → AreLimited c.max_packet c.max_waiting (joined c address).slots
-joined-limited c address =
-    let q : Peering = peers.joined c.clock (joined_terms c) (limits_of c) in
-    set-limited c.max_packet c.max_waiting (replicate c.peers unused_slot) 0 (given unused_slot address q) (unused-limited c.max_packet c.max_waiting c.peers) (refl, refl)
+shared-holds : (P : ℕ → ℕ → Peering → Type 0) → Lasting P → (outgoing standing : ℕ) (slots : List SlotState) → AllHold P slots → AllHold P (map (shared outgoing standing) slots)
+shared-holds P lasts outgoing standing slots old = map-holds P (shared outgoing standing) slots (λ i s h. shared-in P lasts i s.generation outgoing standing s.emitted s.peer h) old
 
 -- ---- a call of the user on the peer that a name means
 
 -- what such a call keeps
-abbrev pub Keeps : ℕ → ℕ → (Peering → Result Peering Refusal) → Type 0
-Keeps x y call = (p q : Peering) → HasLimits x y p → call p ≡ Ok q → HasLimits x y q
+abbrev pub Keeps : (Peering → Result Peering Refusal) → Type 0
+Keeps call = (p q : Peering) → call p ≡ Ok q → Follows p q
 
-done : (x y : ℕ) (p q : Peering) → HasLimits x y p → ◌≡◌ {A = Result Peering Refusal} (Ok p) (Ok q) → HasLimits x y q
-done x y p q h e = let same : p ≡ q = cc in subst (HasLimits x y) same h
+done : (p q r : Peering) → Follows p q → ◌≡◌ {A = Result Peering Refusal} (Ok q) (Ok r) → Follows p r
+done p q r h e = let same : q ≡ r = cc in subst (Follows p) same h
 
-pub submission-keeps : (x y channel : ℕ) (packet : Packet) → Keeps x y (submission channel packet)
-submission-keeps x y channel packet p q h e = by (calls.submission_refusal p channel (length packet.body)) e
+pub submission-keeps : (channel : ℕ) (packet : Packet) → Keeps (submission channel packet)
+submission-keeps channel packet p q e = by (calls.submission_refusal p channel (length packet.body)) e
   where
-    by : (o : Option Refusal) → submitted_unless p channel packet o ≡ Ok q → HasLimits x y q
-    by None e = done x y (calls.submitted p channel packet) q h e
+    by : (o : Option Refusal) → submitted_unless p channel packet o ≡ Ok q → Follows p q
+    by None e = done p (calls.submitted p channel packet) q (λ k h. h) e
     by (Some why) e = absurd (cc)
 
-left-of : (x y : ℕ) (o : Option Peering) (q : Peering) → ((r : Peering) → o ≡ Some r → HasLimits x y r) → or_not_connected o ≡ Ok q → HasLimits x y q
-left-of x y None q each e = absurd (cc)
-left-of x y (Some r) q each e = done x y r q (each r refl) e
+left-of : (p : Peering) (o : Option Peering) (q : Peering) → ((r : Peering) → o ≡ Some r → Follows p r) → or_not_connected o ≡ Ok q → Follows p q
+left-of p None q each e = absurd (cc)
+left-of p (Some r) q each e = done p r q (each r refl) e
 
-pub leaving-keeps : (x y : ℕ) (mode : DisconnectMode) (info : ℕ) → Keeps x y (leaving mode info)
-leaving-keeps x y Now info p q h e = left-of x y (left_by Now p info) q (λ r is. left-limited x y (calls.leave_now p.state) p r info h is) e
-leaving-keeps x y Ask info p q h e = left-of x y (left_by Ask p info) q (λ r is. left-limited x y (calls.leave_by_asking p.state) p r info h is) e
-leaving-keeps x y Later info p q h e = left-of x y (left_by Later p info) q (λ r is. left-limited x y (calls.leave_later p.state) p r info h is) e
+pub leaving-keeps : (mode : DisconnectMode) (info : ℕ) → Keeps (leaving mode info)
+leaving-keeps Now info p q e = left-of p (left_by Now p info) q (λ r is k h. left-lasts k (calls.leave_now p.state) p r info h is) e
+leaving-keeps Ask info p q e = left-of p (left_by Ask p info) q (λ r is k h. left-lasts k (calls.leave_by_asking p.state) p r info h is) e
+leaving-keeps Later info p q e = left-of p (left_by Later p info) q (λ r is k h. left-lasts k (calls.leave_later p.state) p r info h is) e
 
-pub throttling-keeps : (x y interval acceleration deceleration : ℕ) → Keeps x y (throttling interval acceleration deceleration)
-throttling-keeps x y interval acceleration deceleration p q h e = by (is_connected p.state) e
+pub throttling-keeps : (interval acceleration deceleration : ℕ) → Keeps (throttling interval acceleration deceleration)
+throttling-keeps interval acceleration deceleration p q e = by (is_connected p.state) e
   where
-    by : (b : Bool) → ◌≡◌ {A = Result Peering Refusal} (cond b (Ok (with_throttle p interval acceleration deceleration)) (Err Rattle.enet_codec.specs.declared.refusal.Refusal.TheVariants.NotConnected)) (Ok q) → HasLimits x y q
-    by true e = done x y (with_throttle p interval acceleration deceleration) q h e
+    by : (b : Bool) → ◌≡◌ {A = Result Peering Refusal} (cond b (Ok (with_throttle p interval acceleration deceleration)) (Err Rattle.enet_codec.specs.declared.refusal.Refusal.TheVariants.NotConnected)) (Ok q) → Follows p q
+    by true e = done p (with_throttle p interval acceleration deceleration) q (λ k h. h) e
     by false e = absurd (cc)
 
-pub pinging-keeps : (x y ms : ℕ) → Keeps x y (pinging ms)
-pinging-keeps x y ms p q h e = done x y (with_ping_interval p ms) q h e
+pub pinging-keeps : (ms : ℕ) → Keeps (pinging ms)
+pinging-keeps ms p q e = done p (with_ping_interval p ms) q (λ k h. h) e
 
-pub waiting-keeps : (x y limit minimum maximum : ℕ) → Keeps x y (waiting limit minimum maximum)
-waiting-keeps x y limit minimum maximum p q h e = done x y (with_timeout p limit minimum maximum) q h e
+pub waiting-keeps : (limit minimum maximum : ℕ) → Keeps (waiting limit minimum maximum)
+waiting-keeps limit minimum maximum p q e = done p (with_timeout p limit minimum maximum) q (λ k h. h) e
 
-put-limited : (x y : ℕ) (slots new : List SlotState) (i : ℕ) (s : SlotState) (r : Result Peering Refusal) → AreLimited x y slots → ((q : Peering) → r ≡ Ok q → HasLimits x y q)
-    → put_back slots i (kept s r) ≡ Ok new → AreLimited x y new
-put-limited x y slots new i s (Ok q) old each e = let same : slice_set slots i (with_peer s q) ≡ new = cc in subst (AreLimited x y) same (set-limited x y slots i (with_peer s q) old (peer-limited x y s q (each q refl)))
-put-limited x y slots new i s (Err why) old each e = absurd (cc)
+put-holds : (P : ℕ → ℕ → Peering → Type 0) (slots new : List SlotState) (i : ℕ) (s : SlotState) (r : Result Peering Refusal) → AllHold P slots → ((q : Peering) → r ≡ Ok q → P i s.generation q)
+    → put_back slots i (kept s r) ≡ Ok new → AllHold P new
+put-holds P slots new i s (Ok q) old each e = let same : slice_set slots i (with_peer s q) ≡ new = cc in subst (AllHold P) same (set-holds P slots i (with_peer s q) old (peer-holds P i s q (each q refl)))
+put-holds P slots new i s (Err why) old each e = absurd (cc)
 
-on-peer-limited : (x y : ℕ) (slots new : List SlotState) (i : ℕ) (s : SlotState) (call : Peering → Result Peering Refusal) (o : Option Peering) → AreLimited x y slots → Keeps x y call → IsLimitedIn x y o
-    → put_back slots i (on_peer_in s call o) ≡ Ok new → AreLimited x y new
-on-peer-limited x y slots new i s call None old keeps h e = absurd (cc)
-on-peer-limited x y slots new i s call (Some p) old keeps h e = put-limited x y slots new i s (call p) old (λ q is. keeps p q h is) e
+on-peer-holds : (P : ℕ → ℕ → Peering → Type 0) → Lasting P → (slots new : List SlotState) (i : ℕ) (s : SlotState) (call : Peering → Result Peering Refusal) (o : Option Peering) → AllHold P slots → Keeps call → HoldsIn P i s.generation o
+    → put_back slots i (on_peer_in s call o) ≡ Ok new → AllHold P new
+on-peer-holds P lasts slots new i s call None old keeps h e = absurd (cc)
+on-peer-holds P lasts slots new i s call (Some p) old keeps h e = put-holds P slots new i s (call p) old (λ q is. lasts i s.generation p q (keeps p q is) h) e
 
-on-slot-limited : (x y : ℕ) (slots new : List SlotState) (i : ℕ) (call : Peering → Result Peering Refusal) (o : Option SlotState) → AreLimited x y slots → Keeps x y call
-    → ((s : SlotState) → o ≡ Some s → IsLimited x y s) → on_slot slots i call o ≡ Ok new → AreLimited x y new
-on-slot-limited x y slots new i call None old keeps each e = absurd (cc)
-on-slot-limited x y slots new i call (Some s) old keeps each e = on-peer-limited x y slots new i s call s.peer old keeps (each s refl) e
+on-slot-holds : (P : ℕ → ℕ → Peering → Type 0) → Lasting P → (slots new : List SlotState) (i : ℕ) (call : Peering → Result Peering Refusal) (o : Option SlotState) → AllHold P slots → Keeps call
+    → ((s : SlotState) → o ≡ Some s → Holds P i s) → on_slot slots i call o ≡ Ok new → AllHold P new
+on-slot-holds P lasts slots new i call None old keeps each e = absurd (cc)
+on-slot-holds P lasts slots new i call (Some s) old keeps each e = on-peer-holds P lasts slots new i s call s.peer old keeps (each s refl) e
 
 of-generation : (generation : ℕ) (o : Option SlotState) (s : SlotState) → with_generation generation o ≡ Some s → o ≡ Some s
 of-generation generation None s e = e
@@ -168,121 +178,276 @@ of-generation generation (Some t) s e = by (t.generation == generation) e
     by true e = e
     by false e = absurd (cc)
 
-named-limited : (x y : ℕ) (slots new : List SlotState) (name : PeerRef) (call : Peering → Result Peering Refusal) → AreLimited x y slots → Keeps x y call → on_named slots name call ≡ Ok new → AreLimited x y new
-named-limited x y slots new name call old keeps e =
-    on-slot-limited x y slots new name.slot call (with_generation name.generation (slice_get slots name.slot)) old keeps
+named-holds : (P : ℕ → ℕ → Peering → Type 0) → Lasting P → (slots new : List SlotState) (name : PeerRef) (call : Peering → Result Peering Refusal) → AllHold P slots → Keeps call → on_named slots name call ≡ Ok new → AllHold P new
+named-holds P lasts slots new name call old keeps e =
+    on-slot-holds P lasts slots new name.slot call (with_generation name.generation (slice_get slots name.slot)) old keeps
     (λ s is. old name.slot s (of-generation name.generation (slice_get slots name.slot) s is)) e
 
-pub does-limited : {T : Type 0} (x y : ℕ) (slots new : List SlotState) (name : PeerRef) (call : Peering → Result Peering Refusal) (r : Result T Refusal) → AreLimited x y slots → Keeps x y call
-    → Does r (on_named slots name call) slots new → AreLimited x y new
-does-limited x y slots new name call (Ok done) old keeps d = named-limited x y slots new name call old keeps d
-does-limited x y slots new name call (Err why) old keeps d = subst (AreLimited x y) (sym d.1) old
+pub does-holds : {T : Type 0} (P : ℕ → ℕ → Peering → Type 0) → Lasting P → (slots new : List SlotState) (name : PeerRef) (call : Peering → Result Peering Refusal) (r : Result T Refusal) → AllHold P slots → Keeps call
+    → Does r (on_named slots name call) slots new → AllHold P new
+does-holds P lasts slots new name call (Ok done) old keeps d = named-holds P lasts slots new name call old keeps d
+does-holds P lasts slots new name call (Err why) old keeps d = subst (AllHold P) (sym d.1) old
 
-pub does-with-memory-limited : {T : Type 0} (x y : ℕ) (slots new : List SlotState) (name : PeerRef) (call : Peering → Result Peering Refusal) (r : Result T Refusal) → AreLimited x y slots → Keeps x y call
-    → DoesWithMemory r (on_named slots name call) slots new → AreLimited x y new
-does-with-memory-limited x y slots new name call (Ok done) old keeps d = named-limited x y slots new name call old keeps d
-does-with-memory-limited x y slots new name call (Err why) old keeps d = subst (AreLimited x y) (sym d.1) old
+pub does-with-memory-holds : {T : Type 0} (P : ℕ → ℕ → Peering → Type 0) → Lasting P → (slots new : List SlotState) (name : PeerRef) (call : Peering → Result Peering Refusal) (r : Result T Refusal) → AllHold P slots → Keeps call
+    → DoesWithMemory r (on_named slots name call) slots new → AllHold P new
+does-with-memory-holds P lasts slots new name call (Ok done) old keeps d = named-holds P lasts slots new name call old keeps d
+does-with-memory-holds P lasts slots new name call (Err why) old keeps d = subst (AllHold P) (sym d.1) old
 
-pub submits-limited : {T : Type 0} (x y : ℕ) (slots new : List SlotState) (name : PeerRef) (q : Packet) (call : Peering → Result Peering Refusal) (r : Result T (Refusal × List ℕ)) → AreLimited x y slots
-    → Keeps x y call → Submits r q (on_named slots name call) slots new → AreLimited x y new
-submits-limited x y slots new name q call (Ok done) old keeps d = named-limited x y slots new name call old keeps d
-submits-limited x y slots new name q call (Err e) old keeps d = subst (AreLimited x y) (sym d.2) old
+pub submits-holds : {T : Type 0} (P : ℕ → ℕ → Peering → Type 0) → Lasting P → (slots new : List SlotState) (name : PeerRef) (q : Packet) (call : Peering → Result Peering Refusal) (r : Result T (Refusal × List ℕ)) → AllHold P slots
+    → Keeps call → Submits r q (on_named slots name call) slots new → AllHold P new
+submits-holds P lasts slots new name q call (Ok done) old keeps d = named-holds P lasts slots new name call old keeps d
+submits-holds P lasts slots new name q call (Err e) old keeps d = subst (AllHold P) (sym d.2) old
 
 -- ---- a connection begins, and datagrams come
 
-pub connects-limited : (basis : Basis) (slots new : List SlotState) (question : Question) (r : Result PeerRef Refusal) → AreLimited basis.config.max_packet basis.config.max_waiting slots
-    → Connects basis slots question r new → AreLimited basis.config.max_packet basis.config.max_waiting new
-connects-limited basis slots new question r old (no_channel none) = old
-connects-limited basis slots new question r old (no_slot some none) = old
-connects-limited basis slots new question r old (no_memory i some at) = old
-connects-limited basis slots new question r old (asks i s some at there) =
-    set-limited basis.config.max_packet basis.config.max_waiting slots i (asking basis i s question) old (refl, refl)
+pub connects-holds : (P : ℕ → ℕ → Peering → Type 0) (basis : Basis) (slots new : List SlotState) (question : Question) (r : Result PeerRef Refusal) → AllHold P slots
+    → ((i : ℕ) (s : SlotState) → Holds P i (asking basis i s question)) → Connects basis slots question r new → AllHold P new
+connects-holds P basis slots new question r old first (no_channel none) = old
+connects-holds P basis slots new question r old first (no_slot some none) = old
+connects-holds P basis slots new question r old first (no_memory i some at) = old
+connects-holds P basis slots new question r old first (asks i s some at there) = set-holds P slots i (asking basis i s question) old (first i s)
 
-offers-limited : (basis : Basis) (slots new : List SlotState) (from : Addr) (o : Offer) (answer : Received) → AreLimited basis.config.max_packet basis.config.max_waiting slots
-    → Offers (record { basis = basis; slots = slots }) from o answer new → AreLimited basis.config.max_packet basis.config.max_waiting new
-offers-limited basis slots new from o answer old (receiving.refused why is) = old
-offers-limited basis slots new from o answer old (receiving.repeated is known) = old
-offers-limited basis slots new from o answer old (receiving.no_slot is known none) = old
-offers-limited basis slots new from o answer old (receiving.no_memory i is known at) = old
-offers-limited basis slots new from o answer old (receiving.answers i s is known at there) =
-    set-limited basis.config.max_packet basis.config.max_waiting slots i (answering basis i s from o) old (refl, refl)
+-- what is true of each but the one whose slot was given out, of that one too
+offers-holds : (P : ℕ → ℕ → Peering → Type 0) (basis : Basis) (slots new : List SlotState) (from : Addr) (o : Offer) (answer : Received) → AllHold P slots
+    → ((i : ℕ) (s : SlotState) → seat basis slots ≡ Some i → Holds P i (answering basis i (readied s) from o))
+    → Offers (record { basis = basis; slots = slots }) from o answer new → AllHold P new
+offers-holds P basis slots new from o answer old first (receiving.refused why is) = old
+offers-holds P basis slots new from o answer old first (receiving.repeated is known) = old
+offers-holds P basis slots new from o answer old first (receiving.no_slot is known none) = old
+offers-holds P basis slots new from o answer old first (receiving.no_memory i is known at) = old
+offers-holds P basis slots new from o answer old first (receiving.answers i s is known at there) = set-holds P slots i (answering basis i (readied s) from o) old (first i s at)
 
-pub arrives-limited : (basis : Basis) (slots new : List SlotState) (from : Addr) (bytes : List ℕ) (answer : Received) → AreLimited basis.config.max_packet basis.config.max_waiting slots
-    → Arrives (record { basis = basis; slots = slots }) from bytes answer new → AreLimited basis.config.max_packet basis.config.max_waiting new
-arrives-limited basis slots new from bytes answer old (receiving.unreadable why is) = old
-arrives-limited basis slots new from bytes answer old (receiving.no_offer header commands read stranger none) = old
-arrives-limited basis slots new from bytes answer old (receiving.offered header commands o a after read stranger offer offers) = offers-limited basis slots new from o answer old offers
-arrives-limited basis slots new from bytes answer old (receiving.turned_away header commands why read known refused) = old
-arrives-limited basis slots new from bytes answer old (receiving.heard header commands s t a read known taken there hears) =
-    let x : ℕ = basis.config.max_packet in
-    let y : ℕ = basis.config.max_waiting in
-    let was : HasLimits x y hears.peer = of-peer x y s hears.peer hears.held (old header.peer s there) in
-    set-limited x y slots header.peer t old
-    (subst (IsLimited x y) (sym hears.left) (peer-limited x y s hears.after (handled-limited x y _ (record { handled = 0; peer = hears.peer }) commands answer hears.after was hears.handled)))
+pub arrives-holds : (P : ℕ → ℕ → Peering → Type 0) → Lasting P → (basis : Basis) (slots new : List SlotState) (from : Addr) (bytes : List ℕ) (answer : Received) → AllHold P slots
+    → ((i : ℕ) (s : SlotState) (o : Offer) → seat basis slots ≡ Some i → Holds P i (answering basis i (readied s) from o))
+    → Arrives (record { basis = basis; slots = slots }) from bytes answer new → AllHold P new
+arrives-holds P lasts basis slots new from bytes answer old first (receiving.unreadable why is) = old
+arrives-holds P lasts basis slots new from bytes answer old first (receiving.no_offer header commands read stranger none) = old
+arrives-holds P lasts basis slots new from bytes answer old first (receiving.offered header commands o a after read stranger offer offers) =
+    offers-holds P basis slots new from o answer old (λ i s at. first i s o at) offers
+arrives-holds P lasts basis slots new from bytes answer old first (receiving.turned_away header commands why read known refused) = old
+arrives-holds P lasts basis slots new from bytes answer old first (receiving.heard header commands s t a read known taken there hears) =
+    let i : ℕ = header.peer in
+    let was : P i s.generation hears.peer = of-peer P i s hears.peer hears.held (old i s there) in
+    set-holds P slots i t old
+    (subst (Holds P i) (sym hears.left) (peer-holds P i s hears.after (lasts i s.generation hears.peer hears.after (λ k h. hears-lasts k _ commands hears.peer answer hears.after h hears.heard) was)))
 
 -- ---- slots are asked for a datagram
 
-gives-limited : (x y now len : ℕ) (buf : List ℕ) (s t : SlotState) → IsLimited x y s → PeerEmits now len buf s t → IsLimited x y t
-gives-limited x y now len buf s t old g =
-    subst (IsLimited x y) (sym g.left) (peer-limited x y _ g.after (put-out-limited x y now (Some len) g.peer g.after buf (of-peer x y s g.peer g.held old) g.puts))
+gives-holds : (P : ℕ → ℕ → Peering → Type 0) → Lasting P → (i now len : ℕ) (buf : List ℕ) (s t : SlotState) → Holds P i s → PeerEmits now len buf s t → Holds P i t
+gives-holds P lasts i now len buf s t old g =
+    subst (Holds P i) (sym g.left) (peer-holds P i _ g.after (lasts i s.generation g.peer g.after (λ k h. put-out-lasts k now (Some len) g.peer g.after buf h g.puts) (of-peer P i s g.peer g.held old)))
 
-passes-limited : (x y now : ℕ) (s t : SlotState) (o : Option Peering) → IsLimited x y s → IsLimitedIn x y o → passes_by now s t o → IsLimited x y t
-passes-limited x y now s t None old h e = subst (IsLimited x y) (sym e) old
-passes-limited x y now s t (Some p) old h n = subst (IsLimited x y) (sym n.left) (peer-limited x y s n.after (put-out-limited x y now None p n.after n.buf h n.puts))
+passes-holds : (P : ℕ → ℕ → Peering → Type 0) → Lasting P → (i now : ℕ) (s t : SlotState) (o : Option Peering) → Holds P i s → HoldsIn P i s.generation o → passes_by now s t o → Holds P i t
+passes-holds P lasts i now s t None old h e = subst (Holds P i) (sym e) old
+passes-holds P lasts i now s t (Some p) old h n = subst (Holds P i) (sym n.left) (peer-holds P i s n.after (lasts i s.generation p n.after (λ k was. put-out-lasts k now None p n.after n.buf was n.puts) h))
 
-turned-limited : (x y now from count : ℕ) (gave : Served) (i : ℕ) (s t : SlotState) → i < count → gave.name.slot < count → IsLimited x y s
-    → InTurn (record { now = now; turn = turn_of count from; gave = gave }) i s t → IsLimited x y t
-turned-limited x y now from count gave i s t within given old asked = by (nat_lt (turn i) (turn gave.name.slot)) (nat_lt (turn gave.name.slot) (turn i)) refl refl
+turned-holds : (P : ℕ → ℕ → Peering → Type 0) → Lasting P → (now from count : ℕ) (gave : Served) (i : ℕ) (s t : SlotState) → i < count → gave.name.slot < count → Holds P i s
+    → InTurn (record { now = now; turn = turn_of count from; gave = gave }) i s t → Holds P i t
+turned-holds P lasts now from count gave i s t within given old asked = by (nat_lt (turn i) (turn gave.name.slot)) (nat_lt (turn gave.name.slot) (turn i)) refl refl
   where
     turn : ℕ → ℕ
     turn j = turn_of count from j
 
-    by : (a b : Bool) → nat_lt (turn i) (turn gave.name.slot) ≡ a → nat_lt (turn gave.name.slot) (turn i) ≡ b → IsLimited x y t
-    by true b e f = passes-limited x y now s t s.peer old old (asked.before (grind (arith, nat_tests)))
-    by false true e f = subst (IsLimited x y) (sym (asked.after (grind (arith, nat_tests)))) old
-    by false false e f = gives-limited x y now gave.len gave.buf s t old (asked.here (turns-apart count from i gave.name.slot within given (grind (arith, nat_tests))))
+    by : (a b : Bool) → nat_lt (turn i) (turn gave.name.slot) ≡ a → nat_lt (turn gave.name.slot) (turn i) ≡ b → Holds P i t
+    by true b e f = passes-holds P lasts i now s t s.peer old old (asked.before (grind (arith, nat_tests)))
+    by false true e f = subst (Holds P i) (sym (asked.after (grind (arith, nat_tests)))) old
+    by false false e f = gives-holds P lasts i now gave.len gave.buf s t old (asked.here (turns-apart count from i gave.name.slot within given (grind (arith, nat_tests))))
 
-pub served-limited : (x y now from : ℕ) (old new : List SlotState) (gave : Served) → AreLimited x y old → EmitsInTurn now from old gave new → AreLimited x y new
-served-limited x y now from old new gave held turned i t there =
+pub served-holds : (P : ℕ → ℕ → Peering → Type 0) → Lasting P → (now from : ℕ) (old new : List SlotState) (gave : Served) → AllHold P old → EmitsInTurn now from old gave new → AllHold P new
+served-holds P lasts now from old new gave held turned i t there =
     let within : i < length new = slice_get_within new i t there in
     let same : length new ≡ length old = turned.count in
     let low : i < length old = omega arith in
     let was : slice_get old i ≡ Some (get_or old i t) = slice_get-get_or old i t low in
-    turned-limited x y now from (length old) gave i (get_or old i t) t low (slice_get_within old gave.name.slot turned.slot turned.there) (held i (get_or old i t) was) (turned.slots i (get_or old i t) t was there)
+    turned-holds P lasts now from (length old) gave i (get_or old i t) t low (slice_get_within old gave.name.slot turned.slot turned.there) (held i (get_or old i t) was) (turned.slots i (get_or old i t) t was there)
 
-pub passed-limited : (x y now : ℕ) (old new : List SlotState) → AreLimited x y old → AllPass now old new → AreLimited x y new
-passed-limited x y now old new held passed i t there =
+pub passed-holds : (P : ℕ → ℕ → Peering → Type 0) → Lasting P → (now : ℕ) (old new : List SlotState) → AllHold P old → AllPass now old new → AllHold P new
+passed-holds P lasts now old new held passed i t there =
     let within : i < length new = slice_get_within new i t there in
     let same : length new ≡ length old = passed.count in
     let low : i < length old = omega arith in
     let was : slice_get old i ≡ Some (get_or old i t) = slice_get-get_or old i t low in
-    let of : IsLimited x y (get_or old i t) = held i (get_or old i t) was in
-    passes-limited x y now (get_or old i t) t (get_or old i t).peer of of (passed.slots i (get_or old i t) t was there)
+    let of : Holds P i (get_or old i t) = held i (get_or old i t) was in
+    passes-holds P lasts i now (get_or old i t) t (get_or old i t).peer of of (passed.slots i (get_or old i t) t was there)
 
 -- ---- an event is taken, and time goes on
 
-pub gave-limited : (x y : ℕ) (slots new : List SlotState) (i : ℕ) (event : Event) → AreLimited x y slots → SlotGivesEvent slots i event new → AreLimited x y new
-gave-limited x y slots new i event old gave =
+pub gave-holds : (P : ℕ → ℕ → Peering → Type 0) → Lasting P → (slots new : List SlotState) (i : ℕ) (event : Event) → AllHold P slots → SlotGivesEvent slots i event new → AllHold P new
+gave-holds P lasts slots new i event old gave =
     let g : GivesEvent i event gave.slot gave.left = gave.gives in
-    let was : HasLimits x y g.peer = of-peer x y gave.slot g.peer g.held (old i gave.slot gave.there) in
-    subst (AreLimited x y) (sym gave.after)
-    (set-limited x y slots i gave.left old (subst (IsLimited x y) (sym g.left) (peer-limited x y gave.slot g.taken.after (taken-limited x y g.peer g.taken was g.next))))
+    let was : P i gave.slot.generation g.peer = of-peer P i gave.slot g.peer g.held (old i gave.slot gave.there) in
+    subst (AllHold P) (sym gave.after)
+    (set-holds P slots i gave.left old
+    (subst (Holds P i) (sym g.left) (peer-holds P i gave.slot g.taken.after (lasts i gave.slot.generation g.peer g.taken.after (λ k h. taken-lasts k g.peer g.taken h g.next) was))))
 
-pub limited-after : (x y now : ℕ) (short : ℕ → Bool) (slots new : List SlotState) → new ≡ all_moved now short slots → AreLimited x y slots → AreLimited x y new
-limited-after x y now short slots new e old =
-    subst (AreLimited x y) (sym e)
-    (each-moved (IsLimited x y) now short slots (λ i s at. changed-in x y (λ (p : Peering). calls.moved (short i) p now) s s.peer (λ p h. moved-limited x y (short i) p now h) refl (old i s at)))
+-- what is true of each slot as it was left is true of all
+each-at : (P : ℕ → ℕ → Peering → Type 0) (now : ℕ) (short : ℕ → Bool) (slots : List SlotState) → ((i : ℕ) (s : SlotState) → slice_get slots i ≡ Some s → Holds P i (slot_moved now (short i) s)) → AllHold P (all_moved now short slots)
+each-at P now short [] each i t there = absurd (cc)
+each-at P now short (x ∷ slots) each zero t there = let same : slot_moved now (short 0) x ≡ t = cc in subst (Holds P zero) same (each 0 x refl)
+each-at P now short (x ∷ slots) each (suc i) t there = each-at (λ k g p. P (suc k) g p) now (λ j. short (suc j)) slots (λ j s at. each (suc j) s at) i t there
 
-pub told-after : (x y incoming outgoing : ℕ) (slots new : List SlotState) → new ≡ map (changed (λ (p : Peering). calls.with_bandwidth p incoming outgoing)) slots → AreLimited x y slots → AreLimited x y new
-told-after x y incoming outgoing slots new e old =
-    subst (AreLimited x y) (sym e) (changed-limited x y (λ (p : Peering). calls.with_bandwidth p incoming outgoing) slots (λ p h. h) old)
+pub holds-after : (P : ℕ → ℕ → Peering → Type 0) → Lasting P → (now : ℕ) (short : ℕ → Bool) (slots new : List SlotState) → new ≡ all_moved now short slots → AllHold P slots → AllHold P new
+holds-after P lasts now short slots new e old =
+    subst (AllHold P) (sym e)
+    (each-at P now short slots (λ i s at. changed-in P (λ (p : Peering). calls.moved (short i) p now) i s s.peer
+    (λ p h. lasts i s.generation p (calls.moved (short i) p now) (λ k was. moved-lasts k (short i) p now was) h) refl (old i s at)))
 
-limited-if : (x y : ℕ) (due : Bool) (ss ts : List SlotState) → AreLimited x y ss → AreLimited x y ts → AreLimited x y (cond due ss ts)
-limited-if x y true ss ts a b = a
-limited-if x y false ss ts a b = b
+pub told-after : (P : ℕ → ℕ → Peering → Type 0) → Lasting P → (incoming outgoing : ℕ) (slots new : List SlotState) → new ≡ map (changed (λ (p : Peering). calls.with_bandwidth p incoming outgoing)) slots → AllHold P slots → AllHold P new
+told-after P lasts incoming outgoing slots new e old =
+    subst (AllHold P) (sym e) (changed-holds P lasts (λ (p : Peering). calls.with_bandwidth p incoming outgoing) slots (λ p k h. h) old)
 
-pub shared-if-limited : (x y : ℕ) (due : Bool) (outgoing : ℕ) (slots new : List SlotState) → new ≡ (if due then map (shared outgoing (count_by is_standing slots)) slots else slots) → AreLimited x y slots
-    → AreLimited x y new
-shared-if-limited x y due outgoing slots new e old =
-    subst (AreLimited x y) (sym e)
-    (limited-if x y due (map (shared outgoing (count_by is_standing slots)) slots) slots (shared-limited x y outgoing (count_by is_standing slots) slots old) old)
+holds-if : (P : ℕ → ℕ → Peering → Type 0) (due : Bool) (ss ts : List SlotState) → AllHold P ss → AllHold P ts → AllHold P (cond due ss ts)
+holds-if P true ss ts a b = a
+holds-if P false ss ts a b = b
+
+pub shared-if-holds : (P : ℕ → ℕ → Peering → Type 0) → Lasting P → (due : Bool) (outgoing : ℕ) (slots new : List SlotState) → new ≡ (if due then map (shared outgoing (count_by is_standing slots)) slots else slots) → AllHold P slots
+    → AllHold P new
+shared-if-holds P lasts due outgoing slots new e old =
+    subst (AllHold P) (sym e)
+    (holds-if P due (map (shared outgoing (count_by is_standing slots)) slots) slots (shared-holds P lasts outgoing (count_by is_standing slots) slots old) old)
+
+-- ---- what is said of a host's peers
+
+-- it keeps the limits, and where it waits for its client and its slot has another generation left, it is noted when it was made
+abbrev pub Minds : ℕ → ℕ → ℕ → Waiting → ℕ → ℕ → Peering → Type 0
+Minds packet waiting generations v i g p = HasLimits packet waiting p × ((is_answering p.state && nat_lt (g + 1) generations) ≡ true → IsNoted v i p.made)
+
+pub minds-lasts : (packet waiting generations : ℕ) (v : Waiting) → Lasting (Minds packet waiting generations v)
+minds-lasts packet waiting generations v i g p q follows h =
+    let k = follows (record { packet = packet; waiting = waiting; answers = is_answering p.state; made = p.made }) (h.0, λ e. (e, refl)) in
+    (k.0, λ e. noted k e)
+  where
+    and-left : (a b : Bool) → (a && b) ≡ true → a ≡ true
+    and-left true b e = refl
+    and-left false b e = absurd (let x : false ≡ true = e in cc)
+
+    and-right : (a b : Bool) → (a && b) ≡ true → b ≡ true
+    and-right true b e = e
+    and-right false b e = absurd (let x : false ≡ true = e in cc)
+
+    noted : (HasLimits packet waiting q × (is_answering q.state ≡ true → (is_answering p.state ≡ true) × (q.made ≡ p.made))) → (is_answering q.state && nat_lt (g + 1) generations) ≡ true → IsNoted v i q.made
+    noted k e =
+        let answers = k.1 (and-left (is_answering q.state) (nat_lt (g + 1) generations) e) in
+        subst (IsNoted v i) (sym answers.1)
+        (h.1 (ap (λ b. b && nat_lt (g + 1) generations) answers.0 ∙ and-right (is_answering q.state) (nat_lt (g + 1) generations) e))
+
+-- slots as they are at first
+pub unused-limited : (packet waiting n : ℕ) → AreLimited packet waiting (replicate n unused_slot)
+unused-limited packet waiting zero i s there = absurd (cc)
+unused-limited packet waiting (suc n) zero s there = let same : unused_slot ≡ s = cc in subst (λ (x : SlotState). IsLimitedIn packet waiting x.peer) same tt
+unused-limited packet waiting (suc n) (suc i) s there = unused-limited packet waiting n i s there
+
+pub unused-nowhere : (generations n : ℕ) → YieldNowhere generations (replicate n unused_slot)
+unused-nowhere generations zero i s there = absurd (cc)
+unused-nowhere generations (suc n) zero s there = let same : unused_slot ≡ s = cc in subst (λ (x : SlotState). yields generations x ≡ false) same refl
+unused-nowhere generations (suc n) (suc i) s there = unused-nowhere generations n i s there
+
+first-limited : (packet waiting : ℕ) (slots : List SlotState) (t : SlotState) → AreLimited packet waiting slots → IsLimitedIn packet waiting t.peer → AreLimited packet waiting (slice_set slots 0 t)
+first-limited packet waiting [] t old one i s there = old i s there
+first-limited packet waiting (z ∷ slots) t old one zero s there = let same : t ≡ s = cc in subst (λ (x : SlotState). IsLimitedIn packet waiting x.peer) same one
+first-limited packet waiting (z ∷ slots) t old one (suc i) s there = old (suc i) s there
+
+first-nowhere : (generations : ℕ) (slots : List SlotState) (t : SlotState) → YieldNowhere generations slots → yields generations t ≡ false → YieldNowhere generations (slice_set slots 0 t)
+first-nowhere generations [] t old one i s there = old i s there
+first-nowhere generations (z ∷ slots) t old one zero s there = let same : t ≡ s = cc in subst (λ (x : SlotState). yields generations x ≡ false) same one
+first-nowhere generations (z ∷ slots) t old one (suc i) s there = old (suc i) s there
+
+pub joined-limited : (c : Config) (address : Addr) → AreLimited c.max_packet c.max_waiting (joined c address).slots
+joined-limited c address =
+    let q : Peering = peers.joined c.clock (joined_terms c) (limits_of c) in
+    first-limited c.max_packet c.max_waiting (replicate c.peers unused_slot) (given unused_slot address q) (unused-limited c.max_packet c.max_waiting c.peers) (refl, refl)
+
+pub joined-nowhere : (c : Config) (address : Addr) → YieldNowhere c.generations (joined c address).slots
+joined-nowhere c address =
+    let q : Peering = peers.joined c.clock (joined_terms c) (limits_of c) in
+    first-nowhere c.generations (replicate c.peers unused_slot) (given unused_slot address q) (unused-nowhere c.generations c.peers) refl
+
+-- of what a host keeps, and back
+pub minds-all : (packet waiting generations now : ℕ) (v : Waiting) (slots : List SlotState) → AreLimited packet waiting slots → KeepsUnproved now generations v slots → AllHold (Minds packet waiting generations v) slots
+minds-all packet waiting generations now v slots limited keeps i s there = by s.peer refl
+  where
+    by : (o : Option Peering) → s.peer ≡ o → HoldsIn (Minds packet waiting generations v) i s.generation o
+    by None held = tt
+    by (Some p) held = (
+      subst (IsLimitedIn packet waiting) held (limited i s there),
+      λ e. keeps.noted i s p there held (ap (λ o. answers_in o && nat_lt (s.generation + 1) generations) held ∙ e),
+    )
+
+pub limited-of : (packet waiting generations : ℕ) (v : Waiting) (slots : List SlotState) → AllHold (Minds packet waiting generations v) slots → AreLimited packet waiting slots
+limited-of packet waiting generations v slots all i s there = by s.peer (all i s there)
+  where
+    by : (o : Option Peering) → HoldsIn (Minds packet waiting generations v) i s.generation o → IsLimitedIn packet waiting o
+    by None h = tt
+    by (Some p) h = h.0
+
+pub keeps-of : (packet waiting generations now : ℕ) (v : Waiting) (slots : List SlotState) → length v.since ≡ length slots → v.clock % 2 ^ 32 ≡ now → AllHold (Minds packet waiting generations v) slots → KeepsUnproved now generations v slots
+keeps-of packet waiting generations now v slots count shown all = record {
+  count = count;
+  shown = shown;
+  noted = λ i s p there held yields.
+      (let h = of-peer (Minds packet waiting generations v) i s p held (all i s there) in h.1 (ap (λ o. answers_in o && nat_lt (s.generation + 1) generations) (sym held) ∙ yields));
+}
+
+-- a datagram comes to a slot: what is noted when peers were made stays true
+abbrev Noting : ℕ → Waiting → ℕ → ℕ → Peering → Type 0
+Noting generations v i g p = (is_answering p.state && nat_lt (g + 1) generations) ≡ true → IsNoted v i p.made
+
+noting-lasts : (generations : ℕ) (v : Waiting) → Lasting (Noting generations v)
+noting-lasts generations v i g p q follows h = (minds-lasts p.inbox.max_packet p.inbox.max_waiting generations v i g p q follows ((refl, refl), h)).1
+
+noting-all : (generations now : ℕ) (v : Waiting) (slots : List SlotState) → KeepsUnproved now generations v slots → AllHold (Noting generations v) slots
+noting-all generations now v slots keeps i s there = by s.peer refl
+  where
+    by : (o : Option Peering) → s.peer ≡ o → HoldsIn (Noting generations v) i s.generation o
+    by None held = tt
+    by (Some p) held = λ e. keeps.noted i s p there held (ap (λ o. answers_in o && nat_lt (s.generation + 1) generations) held ∙ e)
+
+pub heard-noted : (now generations n : ℕ) (v : Waiting) (slots : List SlotState) (s t : SlotState) (a : Arrival) (commands : List ℕ) (answer : Received) → slice_get slots n ≡ Some s → PeerReceives a commands s answer t
+    → KeepsUnproved now generations v slots → KeepsUnproved now generations v (slice_set slots n t)
+heard-noted now generations n v slots s t a commands answer there hears keeps = record {
+  count = keeps.count ∙ sym (length-set slots n t);
+  shown = keeps.shown;
+  noted = λ i u p at held yields. of-peer (Noting generations v) i u p held (all i u at) (ap (λ o. answers_in o && nat_lt (u.generation + 1) generations) (sym held) ∙ yields);
+}
+  where
+    old : AllHold (Noting generations v) slots
+    old = noting-all generations now v slots keeps
+
+    was : Noting generations v n s.generation hears.peer
+    was = of-peer (Noting generations v) n s hears.peer hears.held (old n s there)
+
+    one : Holds (Noting generations v) n t
+    one = subst (Holds (Noting generations v) n) (sym hears.left)
+        (peer-holds (Noting generations v) n s hears.after (noting-lasts generations v n s.generation hears.peer hears.after (λ k h. hears-lasts k a commands hears.peer answer hears.after h hears.heard) was))
+
+    all : AllHold (Noting generations v) (slice_set slots n t)
+    all = set-holds (Noting generations v) slots n t old one
+
+-- a datagram comes: the limits last, and the one that answers an offer has those of the settings
+abbrev Limited : ℕ → ℕ → ℕ → ℕ → Peering → Type 0
+Limited packet waiting i g p = HasLimits packet waiting p
+
+limited-lasts : (packet waiting : ℕ) → Lasting (Limited packet waiting)
+limited-lasts packet waiting i g p q follows h = (follows (record { packet = packet; waiting = waiting; answers = is_answering p.state; made = p.made }) (h, λ e. (e, refl))).0
+
+limited-all : (packet waiting : ℕ) (slots : List SlotState) → AreLimited packet waiting slots → AllHold (Limited packet waiting) slots
+limited-all packet waiting slots limited i s there = by s.peer (limited i s there)
+  where
+    by : (o : Option Peering) → IsLimitedIn packet waiting o → HoldsIn (Limited packet waiting) i s.generation o
+    by None h = tt
+    by (Some p) h = h
+
+all-limited : (packet waiting : ℕ) (slots : List SlotState) → AllHold (Limited packet waiting) slots → AreLimited packet waiting slots
+all-limited packet waiting slots all i s there = by s.peer (all i s there)
+  where
+    by : (o : Option Peering) → HoldsIn (Limited packet waiting) i s.generation o → IsLimitedIn packet waiting o
+    by None h = tt
+    by (Some p) h = h
+
+pub arrives-limited : (basis : Basis) (slots new : List SlotState) (from : Addr) (bytes : List ℕ) (answer : Received) → AreLimited basis.config.max_packet basis.config.max_waiting slots
+    → Arrives (record { basis = basis; slots = slots }) from bytes answer new → AreLimited basis.config.max_packet basis.config.max_waiting new
+arrives-limited basis slots new from bytes answer old arrives =
+    let x : ℕ = basis.config.max_packet in
+    let y : ℕ = basis.config.max_waiting in
+    all-limited x y new
+    (arrives-holds (Limited x y) (limited-lasts x y) basis slots new from bytes answer (limited-all x y slots old) (λ i s o at. (refl, refl)) arrives)

@@ -12,7 +12,7 @@ use Rattle.enet_codec.specs.declared.stop.Stop.TheVariants as stop
 use Rattle.enet_slot.specs.declared.giving.Question.{Question}
 use Rattle.enet_slot.specs.declared.slot.Slot.{Slot}
 use Rattle.enet_slot.specs.declared.all.Seat.{Seat}
-use Rattle.enet_slot.specs.declared.all.Seat.TheVariants.{Known}
+use Rattle.enet_slot.specs.declared.all.Seat.TheVariants.{Known, At, Full}
 use Rattle.enet_slot.specs.Seating.{IsSeat}
 use Rattle.enet_slot.specs.Slot.{SlotState, name_of}
 use Rattle.enet_slot.specs.Giving.{Basis, unused_slot, asking, answering}
@@ -22,7 +22,9 @@ use Rattle.enet_host.specs.declared.credits.Credit.{Credit}
 use Rattle.enet_host.specs.Crediting.{with_came}
 use Rattle.enet_host.specs.Receiving.{Listener, Offers, offer_refused, is_known, handled_one}
 use Rattle.enet_host.specs.Receiving as receiving
-use Rattle.enet_host.specs.Private.Receiving.{OfferCredits}
+use Rattle.enet_slot.specs.Yielding.{readied}
+use Rattle.enet_host.specs.Opening.{or_oldest, seat}
+use Rattle.enet_host.specs.Private.Receiving.{IsSeatOf, OfferCredits}
 use Rattle.enet_host.specs.Private.Receiving as credit
 use Rattle.enet_slot.specs.Slotted.{shown, all_shown}
 use Rattle.enet_slot.proofs.Shown.{get-shown, set-shown, same-shown}
@@ -49,29 +51,41 @@ connects-at basis xs question i x y (Err e) some found inside read asked named s
     (subst (λ (f : Refusal). Connects basis (all_shown xs) question (Err f) (all_shown xs)) (sym why) (no_memory i some found))
 
 pub answers-at : (basis : Basis) (xs : List Slot) (from : Addr) (o : Offer) (i : ℕ) (x y : Slot)
-    → offer_refused o ≡ None → is_known (all_shown xs) from o ≡ false → available basis.config (all_shown xs) ≡ Some i → i < length xs → x ≡ get_or xs i x
-    → shown y ≡ answering basis i (shown x) from o → Offers (record { basis = basis; slots = all_shown xs }) from o handled_one (all_shown (slice_set xs i y))
+    → offer_refused o ≡ None → is_known (all_shown xs) from o ≡ false → seat basis (all_shown xs) ≡ Some i → i < length xs → x ≡ get_or xs i x
+    → shown y ≡ answering basis i (readied (shown x)) from o → Offers (record { basis = basis; slots = all_shown xs }) from o handled_one (all_shown (slice_set xs i y))
 answers-at basis xs from o i x y fine unknown found inside read answered =
-    subst (λ (ss : List SlotState). Offers (record { basis = basis; slots = all_shown xs }) from o handled_one ss) (given-at xs i y (answering basis i (shown x) from o) answered)
+    subst (λ (ss : List SlotState). Offers (record { basis = basis; slots = all_shown xs }) from o handled_one ss) (given-at xs i y (answering basis i (readied (shown x)) from o) answered)
     (receiving.answers i (shown x) fine unknown found (get-shown xs i x inside read))
 
 pub no-memory-at : (basis : Basis) (xs : List Slot) (from : Addr) (o : Offer) (i : ℕ) (x y : Slot) (answer : Received)
-    → offer_refused o ≡ None → is_known (all_shown xs) from o ≡ false → available basis.config (all_shown xs) ≡ Some i → x ≡ get_or xs i x
+    → offer_refused o ≡ None → is_known (all_shown xs) from o ≡ false → seat basis (all_shown xs) ≡ Some i → x ≡ get_or xs i x
     → shown y ≡ shown x → answer ≡ stopped stop.Memory → Offers (record { basis = basis; slots = all_shown xs }) from o answer (all_shown (slice_set xs i y))
 no-memory-at basis xs from o i x y answer fine unknown found read same is =
     subst (λ (ss : List SlotState). Offers (record { basis = basis; slots = all_shown xs }) from o answer ss) (sym (same-shown xs i x y read same))
     (subst (λ (a : Received). Offers (record { basis = basis; slots = all_shown xs }) from o a (all_shown xs)) (sym is) (receiving.no_memory i fine unknown found))
 
 -- what was found for an offer among the slots of a vector
-pub seat-in : (xs ys : List Slot) (from : Addr) (word generations : ℕ) (r seat : Seat) → IsSeat from word generations (all_shown ys) r → ys ≡ xs → r ≡ seat
-    → IsSeat from word generations (all_shown xs) seat
-seat-in xs ys from word generations r seat e same is =
-    subst (λ (zs : List Slot). IsSeat from word generations (all_shown zs) seat) same (subst (λ (t : Seat). IsSeat from word generations (all_shown ys) t) is e)
+pub seat-in : (xs ys : List Slot) (basis : Basis) (from : Addr) (word : ℕ) (r found : Seat) → IsSeatOf basis from word (all_shown ys) r → ys ≡ xs → r ≡ found
+    → IsSeatOf basis from word (all_shown xs) found
+seat-in xs ys basis from word r found e same is =
+    subst (λ (zs : List Slot). IsSeatOf basis from word (all_shown zs) found) same (subst (λ (t : Seat). IsSeatOf basis from word (all_shown ys) t) is e)
+
+-- the seat of an offer, by the slot that is free
+pub seat-free : (basis : Basis) (from : Addr) (word : ℕ) (slots : List SlotState) (i : ℕ) → IsSeat from word basis.config.generations slots (At i) → IsSeatOf basis from word slots (At i)
+seat-free basis from word slots i s = (s.0, ap (λ (o : Option ℕ). or_oldest basis slots o) s.1, s.2)
+
+-- or by the one that gives way, if any
+pub seat-yielding : (basis : Basis) (from : Addr) (word : ℕ) (slots : List SlotState) (i : ℕ) → IsSeat from word basis.config.generations slots Full → or_oldest basis slots None ≡ Some i → i < length slots
+    → IsSeatOf basis from word slots (At i)
+seat-yielding basis from word slots i s found within = (s.0, ap (λ (o : Option ℕ). or_oldest basis slots o) s.1 ∙ found, within)
+
+pub seat-nowhere : (basis : Basis) (from : Addr) (word : ℕ) (slots : List SlotState) → IsSeat from word basis.config.generations slots Full → or_oldest basis slots None ≡ None → IsSeatOf basis from word slots Full
+seat-nowhere basis from word slots s none = (s.0, ap (λ (o : Option ℕ). or_oldest basis slots o) s.1 ∙ none)
 
 -- which credits an offer of a connection that is there leaves
-pub credits-known : (h : Listener) (from : Addr) (o : Offer) (len i generations : ℕ) (credits new : List Credit) (answer : Received) → offer_refused o ≡ None
-    → IsSeat from o.connect_id generations h.slots (Known i) → new ≡ with_came credits i len → OfferCredits h from o len answer credits new
-credits-known h from o len i generations credits new answer fine seat counted =
+pub credits-known : (h : Listener) (from : Addr) (o : Offer) (len i : ℕ) (credits new : List Credit) (answer : Received) → offer_refused o ≡ None
+    → IsSeatOf h.basis from o.connect_id h.slots (Known i) → new ≡ with_came credits i len → OfferCredits h from o len answer credits new
+credits-known h from o len i credits new answer fine seat counted =
     let s : SlotState = get_or h.slots i unused_slot in
     let there : slice_get h.slots i ≡ Some s = slice_get-get_or h.slots i unused_slot seat.1 in
     subst (λ (ks : List Credit). OfferCredits h from o len answer credits ks) (sym counted) (credit.repeated i s credits fine there (seat.2 s there) answer)

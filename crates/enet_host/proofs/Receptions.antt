@@ -1,5 +1,6 @@
 -- A datagram comes to a slot.
 use Rattle.std.proofs.Common.{◌≡◌, ◌≢◌, ℕ, ◌<◌, inl, inr, ◌&&◌, not, if◌then◌else◌, Bool, true, false, Option, Some, None, List, length, slice_get, slice_set, get_or, refl, sym, ap, ap₂, subst, ◌∙◌}
+use Rattle.std.specs.Prelude.{is_some}
 use Rattle.enet_codec.specs.declared.header.Header.{Header}
 use Rattle.enet_codec.specs.declared.address.Addr.{Addr}
 use Rattle.enet_codec.specs.declared.command.Offer.{Offer}
@@ -14,12 +15,13 @@ use Rattle.enet_peer.specs.Heading.{IsRead, IsOffer}
 use Rattle.enet_slot.specs.declared.slot.Slot.{Slot}
 use Rattle.enet_slot.specs.Slot.{SlotState, with_peer_in}
 use Rattle.enet_slot.specs.Giving.{Basis, is_vacant}
-use Rattle.enet_slot.specs.Receiving.{PeerReceives, is_deaf, is_same_address, fits_session, hears_in, no_peer, refused_by_slot, refused_by_peer, stopped}
+use Rattle.enet_slot.specs.Entering.{awaits}
+use Rattle.enet_slot.specs.Receiving.{IsHeardAlike, PeerReceives, is_deaf, is_same_address, fits_session, hears_in, no_peer, refused_by_slot, refused_by_peer, stopped}
 use Rattle.enet_host.specs.declared.credits.Credit.{Credit}
 use Rattle.enet_host.specs.Crediting.{with_came}
-use Rattle.enet_host.specs.Receiving.{Listener, Arrives, Credits, heard, is_at, refused_by}
+use Rattle.enet_host.specs.Receiving.{Listener, Arrives, Credits, heard, is_at, is_most, refused_by, refuses_at}
 use Rattle.enet_host.specs.Receiving as receiving
-use Rattle.enet_host.specs.Private.Receiving.{is_heard, OfferCredits}
+use Rattle.enet_host.specs.Private.Receiving.{is_heard, ComesAsAt, OfferCredits}
 use Rattle.enet_host.specs.Private.Receiving as credit
 use Rattle.enet_slot.specs.Slotted.{shown, all_shown}
 use Rattle.enet_slot.proofs.Shown.{get-shown, set-shown}
@@ -36,16 +38,54 @@ not-vacant : (s : SlotState) (from : Addr) (session : ℕ) (o : Option Peering) 
 not-vacant s from session None h = absurd (cc)
 not-vacant s from session (Some p) h = refl
 
-pub heard-at : (basis : Basis) (xs : List Slot) (from : Addr) (bytes : List ℕ) (header : Header) (commands : List ℕ) (n : ℕ) (x y : Slot) (answer : Received)
-    → IsRead bytes header commands → header.peer ≢ no_peer → refused_by (all_shown xs) from header ≡ None → n ≡ header.peer → n < length xs → x ≡ get_or xs n x
-    → (is_vacant (shown x).peer ≡ false → PeerReceives (record { now = basis.clock; sent = header.sent }) commands (shown x) answer (shown y))
-    → Arrives (record { basis = basis; slots = all_shown xs }) from bytes answer (all_shown (slice_set xs n y))
-heard-at basis xs from bytes header commands n x y answer read known fine e inside is hears =
+-- so the slot that a datagram comes to
+pub held-at : (xs : List Slot) (from : Addr) (header : Header) (n : ℕ) (x : Slot) → refused_by (all_shown xs) from header ≡ None → n ≡ header.peer → n < length xs → x ≡ get_or xs n x → is_vacant (shown x).peer ≡ false
+held-at xs from header n x fine e inside is =
     let there : slice_get (all_shown xs) header.peer ≡ Some (shown x) =
     subst (λ (i : ℕ). slice_get (all_shown xs) i ≡ Some (shown x)) e (get-shown xs n x inside is) in
     let fine_here : refused_by_slot from header.session (Some (shown x)) ≡ None =
     subst (λ (o : Option SlotState). refused_by_slot from header.session o ≡ None) there fine in
-    let hears_it = hears (not-vacant (shown x) from header.session (shown x).peer fine_here) in
+    not-vacant (shown x) from header.session (shown x).peer fine_here
+
+-- whether the host refuses who confirms there
+pub refuses-in : (basis : Basis) (xs ys : List Slot) (n : ℕ) (x : Slot) (commands : List ℕ) (told : Bool)
+    → ((s : SlotState) → slice_get (all_shown ys) n ≡ Some s → ComesAsAt commands s told (refuses_at (record { basis = basis; slots = all_shown ys }) s)) → ys ≡ xs
+    → n < length xs → x ≡ get_or xs n x → ComesAsAt commands (shown x) told (refuses_at (record { basis = basis; slots = all_shown xs }) (shown x))
+refuses-in basis xs ys n x commands told each same inside is =
+    subst (λ (zs : List Slot). (s : SlotState) → slice_get (all_shown zs) n ≡ Some s → ComesAsAt commands s told (refuses_at (record { basis = basis; slots = all_shown zs }) s)) same each (shown x)
+    (get-shown xs n x inside is)
+
+-- where no count is asked for, or no client could confirm
+pub as-none : (commands : List ℕ) (s : SlotState) (most : Option ℕ) (count : ℕ) → is_some most ≡ false → ComesAsAt commands s false (awaits s && is_most most count)
+as-none commands s None count none = by (awaits s)
+  where
+    by : (b : Bool) → ComesAsAt commands s false (b && false)
+    by true = λ now sent answer t h. h
+    by false = λ now sent answer t h. h
+as-none commands s (Some most) count none = absurd (let y : true ≡ false = none in cc)
+
+pub as-unconfirmed : (commands : List ℕ) (s : SlotState) (full : Bool) → IsHeardAlike commands s → ComesAsAt commands s false full
+as-unconfirmed commands s true alike = alike
+as-unconfirmed commands s false alike = λ now sent answer t h. h
+
+pub as-counted : (commands : List ℕ) (s : SlotState) (told full : Bool) → told ≡ full → ComesAsAt commands s told full
+as-counted commands s told full e = subst (ComesAsAt commands s told) e (λ now sent answer t h. h)
+
+pub refuses-then : (waits full most : Bool) (x s : SlotState) → waits ≡ awaits x → waits ≡ true → x ≡ s → full ≡ most → full ≡ (awaits s && most)
+refuses-then waits full most x s told holds same is = is ∙ ap (λ (b : Bool). b && most) (sym holds ∙ told ∙ ap awaits same)
+
+pub refuses-else : (waits most : Bool) (x s : SlotState) → waits ≡ awaits x → waits ≡ false → x ≡ s → false ≡ (awaits s && most)
+refuses-else waits most x s told fails same = ap (λ (b : Bool). b && most) (sym fails ∙ told ∙ ap awaits same)
+
+pub heard-at : (basis : Basis) (xs : List Slot) (from : Addr) (bytes : List ℕ) (header : Header) (commands : List ℕ) (n : ℕ) (x y : Slot) (answer : Received) (full : Bool)
+    → IsRead bytes header commands → header.peer ≢ no_peer → refused_by (all_shown xs) from header ≡ None → n ≡ header.peer → n < length xs → x ≡ get_or xs n x
+    → ComesAsAt commands (shown x) full (refuses_at (record { basis = basis; slots = all_shown xs }) (shown x))
+    → (is_vacant (shown x).peer ≡ false → PeerReceives (record { now = basis.clock; sent = header.sent; full = full }) commands (shown x) answer (shown y))
+    → Arrives (record { basis = basis; slots = all_shown xs }) from bytes answer (all_shown (slice_set xs n y))
+heard-at basis xs from bytes header commands n x y answer full read known fine e inside is refuses hears =
+    let there : slice_get (all_shown xs) header.peer ≡ Some (shown x) =
+    subst (λ (i : ℕ). slice_get (all_shown xs) i ≡ Some (shown x)) e (get-shown xs n x inside is) in
+    let hears_it = refuses basis.clock header.sent answer (shown y) (hears (held-at xs from header n x fine e inside is)) in
     let after : slice_set (all_shown xs) header.peer (shown y) ≡ all_shown (slice_set xs n y) =
     ap (λ (i : ℕ). slice_set (all_shown xs) i (shown y)) (sym e) ∙ sym (set-shown xs n y) in
     subst (λ (ss : List SlotState). Arrives (record { basis = basis; slots = all_shown xs }) from bytes answer ss) after

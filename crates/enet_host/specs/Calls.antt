@@ -1,11 +1,13 @@
 -- What a user's calls make of a host.
-use Rattle.std.specs.Prelude.{◌≡◌, ℕ, Option, Some, None, Result, Ok, Err, List, length, map, slice_set}
+use Rattle.std.specs.Prelude.{◌≡◌, ℕ, true, false, Option, Some, None, Result, Ok, Err, List, length, map, slice_set}
 use Rattle.enet_codec.specs.declared.address.Addr.{Addr}
+use Rattle.enet_codec.specs.Config.{admitting, is_admissible}
+use Rattle.enet_codec.specs.declared.config.Admission.{Admission}
 use Rattle.enet_codec.specs.declared.config.Secret.{Secret}
 use Rattle.enet_codec.specs.declared.event.Event.{Event}
 use Rattle.enet_codec.specs.declared.event.PeerRef.{PeerRef}
 use Rattle.enet_codec.specs.declared.refusal.Refusal.{Refusal}
-use Rattle.enet_codec.specs.declared.refusal.Refusal.TheVariants.{NoSuchPeer}
+use Rattle.enet_codec.specs.declared.refusal.Refusal.TheVariants.{BadConfig, NoSuchPeer}
 use Rattle.enet_peer.specs.Peering.{Peering}
 use Rattle.enet_peer.specs.Calls as peers
 use Rattle.enet_slot.specs.Slot.{SlotState, changed}
@@ -47,6 +49,14 @@ with_bandwidth h incoming outgoing = record h {
 -- what the host draws by from now on. What peers that are there have drawn stays
 abbrev pub with_secret : Host → Secret → Host
 with_secret h secret = record h { config = record h.config { secret = Some secret } }
+
+-- whom the host lets in from now on
+abbrev pub with_admission : Host → Admission → Host
+with_admission h what = record h { config = admitting h.config what }
+
+abbrev pub Admits : Admission → Result (Unit {0}) Refusal → Host → Host → Type 0
+Admits what (Ok done) old new = (is_admissible old.config what ≡ true) × (new ≡ with_admission old what)
+Admits what (Err why) old new = (is_admissible old.config what ≡ false) × (why ≡ BadConfig) × (new ≡ old)
 
 -- the first slot in turn that has an event gave it
 pub record TakesOne (old : Host) (event : Event) (new : Host) : Type 0 where

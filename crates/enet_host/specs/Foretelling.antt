@@ -11,12 +11,18 @@ use Rattle.enet_slot.specs.Slot.{SlotState, name_of}
 use Rattle.enet_slot.specs.Calls.{tells, refused_in}
 use Rattle.enet_host.specs.Host.{Host, named}
 use Rattle.enet_host.specs.Turns.{IsFirst}
-use Rattle.enet_host.specs.Opening.{available}
+use Rattle.enet_host.specs.Opening.{available, seat}
+use Rattle.enet_slot.specs.Giving.{Basis}
+use Rattle.enet_slot.specs.Yielding.{readied}
 use Rattle.enet_host.specs.Calls.{Takes}
 
 -- the name that the next peer gets: that of the lowest slot that is free and has a generation left
 abbrev pub next_name : Config → List SlotState → Option PeerRef
 next_name c slots = option_and_then (λ i. option_map (name_of i) (slice_get slots i)) (available c slots)
+
+-- and the one that the peer gets which answers the next CONNECT
+abbrev pub guest_name : Basis → List SlotState → Option PeerRef
+guest_name basis slots = option_and_then (λ i. option_map (λ (s : SlotState). name_of i (readied s)) (slice_get slots i)) (seat basis slots)
 
 -- the first refusal but want of memory that a submission of so many bytes meets at the peer of this name
 abbrev pub submission_refusal : List SlotState → PeerRef → ℕ → ℕ → Option Refusal

@@ -1,5 +1,5 @@
 -- A datagram comes to a host.
-use Rattle.std.specs.Prelude.{◌≡◌, ◌≢◌, ℕ, ◌+◌, not, min, Bool, true, false, nat_le, if◌then◌else◌, Option, Some, None, List, length, slice_get, slice_set}
+use Rattle.std.specs.Prelude.{◌≡◌, ◌≢◌, ℕ, ◌+◌, ◌&&◌, not, min, Bool, true, false, nat_le, if◌then◌else◌, Option, Some, None, List, length, slice_get, slice_set}
 use Rattle.std.specs.List.{list_any}
 use Rattle.enet_codec.specs.declared.address.Addr.{Addr}
 use Rattle.enet_codec.specs.declared.event.Received.{Received}
@@ -11,12 +11,14 @@ use Rattle.enet_connect.specs.Terms.{is_channel_count}
 use Rattle.enet_peer.specs.Heading.{IsUnreadable, IsRead, IsOffer, IsNoOffer}
 use Rattle.enet_slot.specs.Slot.{SlotState}
 use Rattle.enet_slot.specs.Giving.{Basis, answering}
+use Rattle.enet_slot.specs.Yielding.{readied}
 use Rattle.enet_slot.specs.Receiving.{no_peer, hears, refused_by_slot, is_connection, stopped, PeerReceives}
 use Rattle.enet_host.specs.declared.credits.Credit.{Credit}
 use Rattle.enet_host.specs.declared.totals.Totals.{Totals}
 use Rattle.enet_host.specs.Crediting.{with_came, with_first}
+use Rattle.enet_slot.specs.Entering.{awaits, entered}
 use Rattle.enet_host.specs.Host.{Host}
-use Rattle.enet_host.specs.Opening.{host_basis, available}
+use Rattle.enet_host.specs.Opening.{host_basis, seat}
 
 abbrev pub refused_by : List SlotState → Addr → Header → Option Stop
 refused_by slots from header = refused_by_slot from header.session (slice_get slots header.peer)
@@ -41,14 +43,26 @@ pub record Listener : Type 0 where
   pub slots : List SlotState
 
 -- what comes of an offer from an address: the answer, and the slots after it. A repeated one has no effect; memory may be
--- refused where nothing else is
+-- refused where nothing else is. The peer of a slot that gives way is let go
 pub data Offers (h : Listener) (from : Addr) (o : Offer) : Received → List SlotState → Type 0 where
   refused : (why : Stop) → offer_refused o ≡ Some why → Offers h from o (stopped why) h.slots
   repeated : offer_refused o ≡ None → is_known h.slots from o ≡ true → Offers h from o handled_one h.slots
-  no_slot : offer_refused o ≡ None → is_known h.slots from o ≡ false → available h.basis.config h.slots ≡ None → Offers h from o (stopped stop.NoSlot) h.slots
-  no_memory : (i : ℕ) → offer_refused o ≡ None → is_known h.slots from o ≡ false → available h.basis.config h.slots ≡ Some i → Offers h from o (stopped stop.Memory) h.slots
-  answers : (i : ℕ) (s : SlotState) → offer_refused o ≡ None → is_known h.slots from o ≡ false → available h.basis.config h.slots ≡ Some i → slice_get h.slots i ≡ Some s
-      → Offers h from o handled_one (slice_set h.slots i (answering h.basis i s from o))
+  no_slot : offer_refused o ≡ None → is_known h.slots from o ≡ false → seat h.basis h.slots ≡ None → Offers h from o (stopped stop.NoSlot) h.slots
+  no_memory : (i : ℕ) → offer_refused o ≡ None → is_known h.slots from o ≡ false → seat h.basis h.slots ≡ Some i → Offers h from o (stopped stop.Memory) h.slots
+  answers : (i : ℕ) (s : SlotState) → offer_refused o ≡ None → is_known h.slots from o ≡ false → seat h.basis h.slots ≡ Some i → slice_get h.slots i ≡ Some s
+      → Offers h from o handled_one (slice_set h.slots i (answering h.basis i (readied s) from o))
+
+-- whether as many peers that began by a CONNECT have a client that confirmed as may be there
+abbrev pub is_most : Option ℕ → ℕ → Bool
+is_most None count = false
+is_most (Some most) count = nat_le most count
+
+abbrev pub is_full : Listener → Bool
+is_full h = is_most h.basis.config.most (entered h.slots)
+
+-- so that it refuses who confirms at this slot
+abbrev pub refuses_at : Listener → SlotState → Bool
+refuses_at h s = awaits s && is_full h
 
 -- what comes of a datagram from an address: the answer, and the slots after it
 pub data Arrives (h : Listener) (from : Addr) (bytes : List ℕ) : Received → List SlotState → Type 0 where
@@ -60,7 +74,7 @@ pub data Arrives (h : Listener) (from : Addr) (bytes : List ℕ) : Received → 
   turned_away : (header : Header) (commands : List ℕ) (why : Stop) → IsRead bytes header commands → header.peer ≢ no_peer
       → refused_by h.slots from header ≡ Some why → Arrives h from bytes (stopped why) h.slots
   heard : (header : Header) (commands : List ℕ) (s t : SlotState) (answer : Received) → IsRead bytes header commands → header.peer ≢ no_peer
-      → refused_by h.slots from header ≡ None → slice_get h.slots header.peer ≡ Some s → PeerReceives (record { now = h.basis.clock; sent = header.sent }) commands s answer t
+      → refused_by h.slots from header ≡ None → slice_get h.slots header.peer ≡ Some s → PeerReceives (record { now = h.basis.clock; sent = header.sent; full = refuses_at h s }) commands s answer t
       → Arrives h from bytes answer (slice_set h.slots header.peer t)
 
 -- the greatest number of 64 bits, where totals stop
@@ -96,7 +110,7 @@ pub data Counts (h : Listener) (from : Addr) (bytes : List ℕ) : Received → C
   unanswered : (header : Header) (commands : List ℕ) (o : Offer) (why : Stop) → IsRead bytes header commands → header.peer ≡ no_peer
       → IsOffer commands o → is_known h.slots from o ≡ false → Counts h from bytes (stopped why) Nowhere
   answered : (header : Header) (commands : List ℕ) (o : Offer) (i : ℕ) → IsRead bytes header commands → header.peer ≡ no_peer
-      → IsOffer commands o → is_known h.slots from o ≡ false → available h.basis.config h.slots ≡ Some i → Counts h from bytes handled_one (First i)
+      → IsOffer commands o → is_known h.slots from o ≡ false → seat h.basis h.slots ≡ Some i → Counts h from bytes handled_one (First i)
   elsewhere : (header : Header) (commands : List ℕ) → IsRead bytes header commands → header.peer ≢ no_peer
       → is_at from (slice_get h.slots header.peer) ≡ false → (answer : Received) → Counts h from bytes answer Nowhere
   here : (header : Header) (commands : List ℕ) → IsRead bytes header commands → header.peer ≢ no_peer

@@ -5,10 +5,12 @@ ghost use Rattle.std.specs.Option.{option_copied};
 ghost use Rattle.enet_host.specs.Turns.{IsFirst, HoldsNowhere};
 ghost use Rattle.enet_slot.specs.Calls.{tells};
 ghost use Rattle.enet_host.specs.Ticking.{IsDueIn};
-ghost use Rattle.enet_host.specs.Foretelling.{next_name, teller_of, packet_of, body_of, Foretells, IsTeller};
+ghost use Rattle.enet_host.specs.Opening.{host_basis};
+ghost use Rattle.enet_host.specs.Foretelling.{guest_name, next_name, teller_of, packet_of, body_of, Foretells, IsTeller};
 
 use crate::events::{name_at, packet_of, teller};
 use crate::host::HostCore;
+use crate::receiving::oldest_seat;
 use crate::ticking::SHARING_INTERVAL;
 use bytes::Bytes;
 use enet_codec::{Packet, PeerRef};
@@ -24,6 +26,23 @@ impl HostCore {
             .sleepers
             .first_available(&self.slots, self.start.config.generations)?;
         Some(name_at(&self.slots, place as u16))
+    }
+
+    /// The name that the peer gets which answers the next CONNECT: that of `next_peer`, or, where there is none and the host lets peers give
+    /// way, the next one of the slot whose peer gives way. None where neither is there.
+    pub fn next_guest(&mut self) -> Option<PeerRef>
+        ensures guest { result ≡ guest_name (host_basis self.old) self.old.slots }
+        ensures same { self.new ≡ self.old }
+    {
+        if let Some(name) = self.next_peer() {
+            return Some(name);
+        }
+        let place = oldest_seat(&self.slots, &mut self.unproved, &self.start)?;
+        let name = name_at(&self.slots, place as u16);
+        Some(PeerRef {
+            generation: name.generation.saturating_add(1),
+            ..name
+        })
     }
 
     /// In how many milliseconds time brings the host anything, at most 1,000: a tick of fewer changes its clock alone, and one of

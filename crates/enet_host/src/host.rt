@@ -10,7 +10,7 @@ ghost use Rattle.enet_slot.specs.Sharing.{wants_room};
 ghost use Rattle.enet_slot.specs.Slotted.{all_shown};
 ghost use Rattle.enet_host.specs.Serving.{Serves};
 ghost use Rattle.enet_host.specs.Ticking.{ticked, clock_after};
-ghost use Rattle.enet_host.specs.Calls.{with_bandwidth, with_secret, Takes};
+ghost use Rattle.enet_host.specs.Calls.{with_bandwidth, with_secret, Admits, Takes};
 
 use crate::connecting::connect;
 use crate::credits::{Credit, count_went, no_credits};
@@ -20,8 +20,8 @@ use crate::receiving::receive;
 use crate::ticking::pass_time;
 use crate::totals::Totals;
 use crate::turns::slot_after;
-use enet_codec::{Addr, Config, Event, PeerRef, Received, Refusal, Secret};
-use enet_sleepers::Sleepers;
+use enet_codec::{Addr, Admission, Config, Event, PeerRef, Received, Refusal, Secret};
+use enet_sleepers::{Sleepers, Unproved};
 use enet_slot::{Question, Slot, Start, joined_slots, set_bandwidth, unused_slots};
 use std::alloc::Global;
 use std::marker::Model;
@@ -52,6 +52,8 @@ pub struct HostCore {
     pub(crate) slots: Vec<Slot>,
     /// Which of the slots sleep.
     pub(crate) sleepers: Sleepers,
+    /// Since when the peers of slots wait for their clients.
+    pub(crate) unproved: Unproved,
     /// By slot, what its peer's address sent for it and got.
     pub(crate) credits: Vec<Credit>,
 }
@@ -78,7 +80,7 @@ impl Model for HostCore {
       credits = h.credits.items;
     } };
 
-    ghost invariant = { λ h. KeepsHost (record { peers = h.start.config.peers; clock = h.start.clock; generations = h.start.config.generations; max_packet = h.start.config.max_packet; max_waiting = h.start.config.max_waiting; service_from = h.service_from; event_from = h.event_from }) h.sleepers h.slots.items };
+    ghost invariant = { λ h. KeepsHost (record { peers = h.start.config.peers; clock = h.start.clock; generations = h.start.config.generations; max_packet = h.start.config.max_packet; max_waiting = h.start.config.max_waiting; service_from = h.service_from; event_from = h.event_from }) h.sleepers h.unproved h.slots.items };
 }
 
 impl HostCore {
@@ -92,8 +94,9 @@ impl HostCore {
         }
         let slots = unused_slots(alloc, config.peers)?;
         let sleepers = Sleepers::new(alloc, config.peers, config.clock)?;
+        let unproved = Unproved::new(alloc, config.peers, config.clock)?;
         let credits = no_credits(alloc, config.peers)?;
-        Ok(HostCore::with_slots(alloc, config, slots, sleepers, credits))
+        Ok(HostCore::with_slots(alloc, config, slots, sleepers, unproved, credits))
     }
 
     /// A law: a slot has at most 4,294,967,295 generations, and none holds a peer that is free.
@@ -114,8 +117,9 @@ impl HostCore {
         }
         let slots = joined_slots(alloc, &config, address)?;
         let sleepers = Sleepers::new(alloc, config.peers, config.clock)?;
+        let unproved = Unproved::new(alloc, config.peers, config.clock)?;
         let credits = no_credits(alloc, config.peers)?;
-        Ok(HostCore::with_slots(alloc, config, slots, sleepers, credits))
+        Ok(HostCore::with_slots(alloc, config, slots, sleepers, unproved, credits))
     }
 
     /// A host with these settings and slots, to which nothing has happened.
@@ -124,9 +128,10 @@ impl HostCore {
         config: Config,
         slots: Vec<Slot>,
         sleepers: Sleepers,
+        unproved: Unproved,
         credits: Vec<Credit>,
     ) -> HostCore
-        requires { KeepsHost (record { peers = config.peers; clock = config.clock; generations = config.generations; max_packet = config.max_packet; max_waiting = config.max_waiting; service_from = 0; event_from = 0 }) sleepers slots.items }
+        requires { KeepsHost (record { peers = config.peers; clock = config.clock; generations = config.generations; max_packet = config.max_packet; max_waiting = config.max_waiting; service_from = 0; event_from = 0 }) sleepers unproved slots.items }
         ensures { result ≡ record (opened config) { slots = all_shown slots.items; credits = credits.items } }
     {
         HostCore {
@@ -141,6 +146,7 @@ impl HostCore {
             totals: Totals::none(),
             slots,
             sleepers,
+            unproved,
             credits,
         }
     }
@@ -172,7 +178,8 @@ impl HostCore {
     /// compressed, S3 for a stranger's datagram that is anything but one CONNECT and where the slot is free, has ended or is
     /// parting, S4 where the peer is at another address, S5 where its session is another, once the other end's slot is known.
     /// Of an offer S6 where it names no slot, S8 where it asks for no channel or for more than 255, S13 where no slot is free
-    /// that has a generation left, S11 where memory is refused; an offer of a connection that is there has no effect. Else it
+    /// that has a generation left and none is given up (`Config::gives_way`), S11 where memory is refused; an offer of a connection that is
+    /// there has no effect. Else it
     /// is the stop of the first command that the peer stops: the commands before it have taken effect, and the stopped one has
     /// none, that of S12 excepted. Each datagram counts in the totals. Its bytes count for the peer to whose slot it comes from the peer's
     /// address, and an offer's for the peer that it is or becomes, also where the datagram is stopped: see `tick`.
@@ -183,6 +190,7 @@ impl HostCore {
         receive(
             &mut self.slots,
             &mut self.sleepers,
+            &mut self.unproved,
             &mut self.credits,
             &self.start,
             from,
@@ -230,6 +238,7 @@ impl HostCore {
             &self.start,
             self.shared_at,
         );
+        self.unproved.advance(&self.slots, self.start.clock);
     }
 
     /// Sets the host's bandwidths, in bytes per second, where 0 says that no limit is known. Each connected peer is told (ENet
@@ -245,6 +254,18 @@ impl HostCore {
         self.start.config.incoming = incoming;
         self.start.config.outgoing = outgoing;
         self.sleepers.wake_held();
+        Ok(())
+    }
+
+    /// Sets whom the host lets in (`Config::gives_way`, `Config::most`). Peers that are there stay. E8, with nothing changed, where more peers
+    /// may be connected or leaving than there are slots, or none.
+    pub fn admit(&mut self, admission: Admission) -> Result<(), Refusal>
+        ensures { Admits admission result self.old self.new }
+    {
+        if !self.start.config.is_admissible(admission) {
+            return Err(Refusal::BadConfig);
+        }
+        self.start.config = self.start.config.admitting(admission);
         Ok(())
     }
 

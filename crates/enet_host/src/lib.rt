@@ -9,8 +9,10 @@
 //! - One that names a peer is that peer's call on the one slot of that number and generation (`on_named`), with E2 where there is none,
 //!   and leaves all else as it was (`rest`). `submission_refusal` is the refusal of `submit` but E1.
 //! - `receive` is `Arrives`: the tests of a datagram in their order; a stranger's offer, which takes the lowest slot that is free and has
-//!   a generation left; or the commands of a datagram at the one slot that its header names. `next_peer` is the name that an accepted
-//!   connection gets.
+//!   a generation left; or the commands of a datagram at the one slot that its header names. If no slot is free and the host lets peers
+//!   give way, an offer takes the slot of the peer that has waited longest for its client (`seat`). If as many are connected or leaving as
+//!   may be, a client that confirms is told so, and isn't connected (`refuses_at`). `admit` sets both (`with_admission`). `next_peer` is
+//!   the name that a connection of our own gets, `next_guest` the one that the next offer's peer gets.
 //! - `service` asks slot after slot, beginning after the one served last, up to the first that gives a datagram, and names its peer as it
 //!   was before (`EmitsInTurn`).
 //! - `next_event` goes by the first slot in turn that has an event (`IsFirst`). `next_event_of`, `next_packet` and `next_body` say of the
@@ -49,6 +51,7 @@
 //! - That those asleep, free ones and those whose peer only waits, are looked at by no call of `service` or of those that tell events, by
 //!   `due_in` not at all, and by `tick` only where bandwidth is shared out or time brings that slot something.
 //! - That an offer looks at one of them at most, unless two of them have one mark, and at the free ones up to the one that it gets.
+//! - That an offer finds the peer that gives way without a look at each slot.
 #![tactic(auto)]
 
 mod broadcast;

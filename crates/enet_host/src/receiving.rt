@@ -1,20 +1,24 @@
 //! A datagram comes to a host.
 
-ghost use Rattle.std.specs.Prelude.{◌≡◌, ◌<◌, ◌≤◌, if◌then◌else◌, Some, length, IfNone};
+ghost use Rattle.std.specs.Prelude.{◌≡◌, ◌<◌, ◌≤◌, if◌then◌else◌, slice_get, Some, None, length, IfSome, IfNone};
+ghost use Rattle.enet_host.specs.Opening.{or_oldest};
 ghost use Rattle.enet_slot.specs.Giving.{basis_of};
 ghost use Rattle.enet_slot.specs.Receiving.{stopped};
-ghost use Rattle.enet_host.specs.Receiving.{refused_by, offer_refused, Offers, Arrives, Credits};
+ghost use Rattle.enet_host.specs.Receiving.{is_most, refuses_at, refused_by, offer_refused, Offers, Arrives, Credits};
 ghost use Rattle.enet_host.specs.Crediting.{with_came};
-ghost use Rattle.enet_host.specs.Private.Receiving.{is_heard, OfferCredits};
+ghost use Rattle.enet_slot.specs.Entering.{entered};
+ghost use Rattle.enet_slot.specs.Slot.{SlotState};
+ghost use Rattle.enet_host.specs.Private.Receiving.{is_heard, ComesAsAt, IsSeatOf, OfferCredits};
 ghost use Rattle.enet_sleepers.specs.Sleeping.{KeepsSleepers};
+ghost use Rattle.enet_sleepers.specs.Unproved.{KeepsUnproved};
 ghost use Rattle.enet_slot.specs.Slotted.{all_shown};
 
 use crate::credits::{Credit, count_came, count_offer};
 use enet_codec::{Addr, Header, MAX_CHANNELS, NO_PEER, Received, Stop};
 use enet_connect::Offer;
 use enet_peer::{read_heading, read_offer};
-use enet_sleepers::Sleepers;
-use enet_slot::{Seat, Slot, Start};
+use enet_sleepers::{Sleepers, Unproved};
+use enet_slot::{Seat, Slot, Start, count_entered};
 
 /// The answer to a datagram of which nothing was looked at.
 const fn stopped(why: Stop) -> Received
@@ -84,10 +88,50 @@ fn offer_refused(offer: &Offer) -> Option<Stop>
     None
 }
 
+/// The slot whose peer gives way to an offer, if the host lets peers give way and one can.
+pub(crate) fn oldest_seat(slots: &[Slot], unproved: &mut Unproved, start: &Start) -> Option<usize>
+    requires { KeepsUnproved start.now.clock start.now.config.generations unproved.old (all_shown slots.now) }
+    ensures seat { result ≡ or_oldest (basis_of start.now) (all_shown slots.now) None }
+    ensures within { IfSome result (λ i. i < length slots.now) }
+    ensures kept { KeepsUnproved start.now.clock start.now.config.generations unproved.new (all_shown slots.now) }
+{
+    if start.config.gives_way {
+        unproved.oldest(slots, start.config.generations)
+    } else {
+        None
+    }
+}
+
+/// Where an offer from this address with this connect id is to go.
+fn find_seat(
+    slots: &[Slot],
+    sleepers: &mut Sleepers,
+    unproved: &mut Unproved,
+    start: &Start,
+    from: Addr,
+    connect_id: u32,
+) -> Seat
+    requires sleepers { KeepsSleepers start.now.clock sleepers.old (all_shown slots.now) }
+    requires unproved { KeepsUnproved start.now.clock start.now.config.generations unproved.old (all_shown slots.now) }
+    ensures seat { IsSeatOf (basis_of start.now) from connect_id (all_shown slots.now) result }
+    ensures sleepers { KeepsSleepers start.now.clock sleepers.new (all_shown slots.now) }
+    ensures unproved { KeepsUnproved start.now.clock start.now.config.generations unproved.new (all_shown slots.now) }
+{
+    match sleepers.seat_for(slots, from, connect_id, start.config.generations) {
+        Seat::Known(place) => Seat::Known(place),
+        Seat::At(place) => Seat::At(place),
+        Seat::Full => match oldest_seat(slots, unproved, start) {
+            Some(place) => Seat::At(place),
+            None => Seat::Full,
+        },
+    }
+}
+
 /// An offer comes.
 fn take_offer(
     slots: &mut Vec<Slot>,
     sleepers: &mut Sleepers,
+    unproved: &mut Unproved,
     credits: &mut Vec<Credit>,
     start: &Start,
     from: Addr,
@@ -97,15 +141,17 @@ fn take_offer(
     requires many { length slots.old.items ≤ 4095 }
     requires all { length slots.old.items ≡ start.now.config.peers }
     requires sleepers { KeepsSleepers start.now.clock sleepers.old (all_shown slots.old.items) }
+    requires unproved { KeepsUnproved start.now.clock start.now.config.generations unproved.old (all_shown slots.old.items) }
     ensures count { length slots.new.items ≡ length slots.old.items }
     ensures sleepers { KeepsSleepers start.now.clock sleepers.new (all_shown slots.new.items) }
+    ensures unproved { KeepsUnproved start.now.clock start.now.config.generations unproved.new (all_shown slots.new.items) }
     ensures offers { Offers (record { basis = basis_of start.now; slots = all_shown slots.old.items }) from offer result (all_shown slots.new.items) }
     ensures credits { OfferCredits (record { basis = basis_of start.now; slots = all_shown slots.old.items }) from offer len result credits.old.items credits.new.items }
 {
     if let Some(why) = offer_refused(&offer) {
         return stopped(why);
     }
-    let place = match sleepers.seat_for(slots, from, offer.connect_id, start.config.generations) {
+    let place = match find_seat(slots, sleepers, unproved, start, from, offer.connect_id) {
         Seat::Known(place) => {
             count_offer(credits, place, true, len);
             return HANDLED_ONE;
@@ -119,6 +165,7 @@ fn take_offer(
     let slot = &mut slots[place];
     match slot.answer(start, place as u16, from, offer) {
         Ok(()) => {
+            unproved.note(place);
             count_offer(credits, place, false, len);
             HANDLED_ONE
         }
@@ -126,10 +173,48 @@ fn take_offer(
     }
 }
 
+/// Whether as many peers that began by a CONNECT have a client that confirmed as may be there. Each slot is looked at, if that is bounded.
+fn is_full(slots: &[Slot], most: Option<u16>) -> bool
+    requires { length slots.now ≤ 4095 }
+    ensures { result ≡ is_most most (entered (all_shown slots.now)) }
+{
+    match most {
+        Some(most) => count_entered(slots) >= u32::from(most),
+        None => false,
+    }
+}
+
+/// Whether the host refuses who confirms at the slot of this number.
+fn refuses_at(slots: &[Slot], start: &Start, number: usize) -> bool
+    requires many { length slots.now ≤ 4095 }
+    requires within { number < length slots.now }
+    ensures { (s : SlotState) → slice_get (all_shown slots.now) number ≡ Some s → result ≡ refuses_at (record { basis = basis_of start.now; slots = all_shown slots.now }) s }
+{
+    slots[number].awaits() && is_full(slots, start.config.most)
+}
+
+/// The same where these commands come to the slot. Where by none of them a client could confirm, they come alike to it, and the slots
+/// aren't counted: else who forges datagrams could have that done for each.
+fn refuses_by(slots: &[Slot], start: &Start, number: usize, commands: &[u8]) -> bool
+    requires many { length slots.now ≤ 4095 }
+    requires within { number < length slots.now }
+    ensures { (s : SlotState) → slice_get (all_shown slots.now) number ≡ Some s
+        → ComesAsAt commands.now s result (refuses_at (record { basis = basis_of start.now; slots = all_shown slots.now }) s) }
+{
+    if start.config.most.is_none() {
+        return false;
+    }
+    if !slots[number].may_confirm(commands) {
+        return false;
+    }
+    refuses_at(slots, start, number)
+}
+
 /// A datagram comes to the slot that it names, or is one of a stranger, who may offer a connection.
 pub(crate) fn receive(
     slots: &mut Vec<Slot>,
     sleepers: &mut Sleepers,
+    unproved: &mut Unproved,
     credits: &mut Vec<Credit>,
     start: &Start,
     from: Addr,
@@ -138,8 +223,10 @@ pub(crate) fn receive(
     requires many { length slots.old.items ≤ 4095 }
     requires all { length slots.old.items ≡ start.now.config.peers }
     requires sleepers { KeepsSleepers start.now.clock sleepers.old (all_shown slots.old.items) }
+    requires unproved { KeepsUnproved start.now.clock start.now.config.generations unproved.old (all_shown slots.old.items) }
     ensures count { length slots.new.items ≡ length slots.old.items }
     ensures sleepers { KeepsSleepers start.now.clock sleepers.new (all_shown slots.new.items) }
+    ensures unproved { KeepsUnproved start.now.clock start.now.config.generations unproved.new (all_shown slots.new.items) }
     ensures arrives { Arrives (record { basis = basis_of start.now; slots = all_shown slots.old.items }) from bytes.now result (all_shown slots.new.items) }
     ensures credits { Credits (record { basis = basis_of start.now; slots = all_shown slots.old.items }) from bytes.now result credits.old.items credits.new.items }
 {
@@ -149,7 +236,16 @@ pub(crate) fn receive(
     };
     if header.peer == NO_PEER {
         return match read_offer(commands) {
-            Some(offer) => take_offer(slots, sleepers, credits, start, from, offer, bytes.len()),
+            Some(offer) => take_offer(
+                slots,
+                sleepers,
+                unproved,
+                credits,
+                start,
+                from,
+                offer,
+                bytes.len(),
+            ),
             None => stopped(Stop::UnknownPeer),
         };
     }
@@ -159,7 +255,8 @@ pub(crate) fn receive(
     if let Some(why) = refusal {
         return stopped(why);
     }
-    let answer = slots[number].receive(start.clock, header.sent, commands);
+    let full = refuses_by(slots, start, number, commands);
+    let answer = slots[number].receive(start.clock, header.sent, full, commands);
     sleepers.hear(slots, number, start.clock);
     answer
 }

@@ -1,12 +1,15 @@
-use Rattle.std.proofs.Common.{List, length, arith, refl, sym, subst}
+use Rattle.std.proofs.Common.{◌<◌, List, length, arith, refl, sym, subst}
 use Rattle.enet_codec.specs.declared.event.Received.{Received}
 use Rattle.enet_host.specs.Receiving.{Arrives, unreadable, no_offer, offered, turned_away}
 use Rattle.enet_host.specs.Receiving as receiving
 use Rattle.enet_slot.specs.declared.slot.Slot.{Slot}
 use Rattle.enet_slot.specs.Giving.{basis_of}
-use Rattle.enet_slot.specs.Slotted.{all_shown}
-use Rattle.enet_host.proofs.Receptions.{refused-in, heard-at, keeps-heard, credits-heard, credits-offered}
+use Rattle.enet_slot.specs.Slotted.{shown, all_shown}
+use Rattle.enet_slot.proofs.Shown.{get-shown, set-shown}
+use Rattle.enet_host.proofs.Receptions.{refused-in, refuses-in, held-at, heard-at, keeps-heard, credits-heard, credits-offered}
+use Rattle.enet_host.proofs.Limits.{heard-noted}
 use Rattle.enet_sleepers.specs.Sleeping.{KeepsOthers}
+use Rattle.enet_sleepers.specs.Unproved.{KeepsUnproved}
 use Rattle.enet_host.proofs.receiving.receive.Goals as goal
 
 pub returns-in-Err-clause-arrives : goal.returns-in-Err-clause-arrives
@@ -32,19 +35,33 @@ returns-in-Some-refusal-clause-arrives c =
 
 pub hear-requires-clause-others : goal.hear-requires-clause-others
 hear-requires-clause-others c =
-    subst (λ (xs : List Slot). KeepsOthers c.args.start.now.clock c.from-number.result c.args.sleepers.now (all_shown xs)) (sym c.deref-2.ensures.value)
+    subst (λ (xs : List Slot). KeepsOthers c.args.start.now.clock c.from-number.result c.args.sleepers.now (all_shown xs)) (sym c.deref-3.ensures.value)
     (keeps-heard c.args.start.now.clock c.from-number.result c.args.sleepers.now c.args.slots.now.items c.index_mut.result.now c.receive-answer.new.self
-    (record { now = c.args.start.now.clock; sent = c.in-Ok.found.0.sent }) c.in-Ok.found.1.now c.receive-answer.result
+    (record { now = c.args.start.now.clock; sent = c.in-Ok.found.0.sent; full = c.refuses_by-full.result }) c.in-Ok.found.1.now c.receive-answer.result
     (let within = c.in_default.ensures.within in let len = c.deref.ensures.len in let e = c.from-number.ensures in grind (arith, within, len, e)) c.index_mut.ensures.value
     c.receive-answer.ensures.receives c.receive-answer.ensures.vacant c.requires.sleepers)
 
 pub returns-clause-arrives : goal.returns-clause-arrives
 returns-clause-arrives c =
     heard-at (basis_of c.args.start.now) c.args.slots.now.items c.args.from c.args.bytes.now c.in-Ok.found.0 c.in-Ok.found.1.now c.from-number.result c.index_mut.result.now
-    c.receive-answer.new.self c.receive-answer.result c.in-Ok.ensures.read c.if-header-eq-NO_PEER.false
+    c.receive-answer.new.self c.receive-answer.result c.refuses_by-full.result c.in-Ok.ensures.read c.if-header-eq-NO_PEER.false
     (refused-in c.args.slots.now.items c.deref.result.now c.args.from c.in-Ok.found.0 _ _ c.refused_by-refusal.ensures.stop c.deref.ensures.value c.in_default.is) c.from-number.ensures
     (let within = c.in_default.ensures.within in let len = c.deref.ensures.len in let e = c.from-number.ensures in grind (arith, within, len, e)) c.index_mut.ensures.value
+    (refuses-in (basis_of c.args.start.now) c.args.slots.now.items c.deref-2.result.now c.from-number.result c.index_mut.result.now c.in-Ok.found.1.now c.refuses_by-full.result c.refuses_by-full.ensures c.deref-2.ensures.value
+    (let within = c.in_default.ensures.within in let len = c.deref.ensures.len in let e = c.from-number.ensures in grind (arith, within, len, e)) c.index_mut.ensures.value)
     c.receive-answer.ensures.receives
+
+pub returns-clause-unproved : goal.returns-clause-unproved
+returns-clause-unproved c =
+    let xs = c.args.slots.now.items in
+    let x = c.index_mut.result.now in
+    let n = c.from-number.result in
+    let inside : n < length xs = (let within = c.in_default.ensures.within in let len = c.deref.ensures.len in let e = c.from-number.ensures in grind (arith, within, len, e)) in
+    let fine = refused-in xs c.deref.result.now c.args.from c.in-Ok.found.0 _ _ c.refused_by-refusal.ensures.stop c.deref.ensures.value c.in_default.is in
+    subst (KeepsUnproved c.args.start.now.clock c.args.start.now.config.generations c.args.unproved.now) (sym (set-shown xs n c.receive-answer.new.self))
+    (heard-noted c.args.start.now.clock c.args.start.now.config.generations n c.args.unproved.now (all_shown xs) (shown x) (shown c.receive-answer.new.self)
+    (record { now = c.args.start.now.clock; sent = c.in-Ok.found.0.sent; full = c.refuses_by-full.result }) c.in-Ok.found.1.now c.receive-answer.result
+    (get-shown xs n x inside c.index_mut.ensures.value) (c.receive-answer.ensures.receives (held-at xs c.args.from c.in-Ok.found.0 n x fine c.from-number.ensures inside c.index_mut.ensures.value)) c.requires.unproved)
 
 -- ---- what counts
 
