@@ -1,5 +1,5 @@
 -- What the clock, the user's calls and an emission make of a peer keeps all links.
-use Rattle.std.proofs.Common.{◌≡◌, ℕ, Bool, true, false, cond, ltb, refl, sym, ap, subst, ◌∙◌, Some, length, arith}
+use Rattle.std.proofs.Common.{◌≡◌, ℕ, Bool, true, false, cond, ltb, ◌&&◌, refl, sym, ap, subst, ◌∙◌, Option, Some, None, length, arith}
 use Rattle.std.specs.List.{slice_get}
 use Rattle.enet_rtt.specs.declared.expiry.Expiry.{Expiry}
 use Rattle.enet_rtt.specs.declared.expiry.Expiry.TheVariants.{No, Resend, End as Ends}
@@ -12,6 +12,9 @@ use Rattle.enet_peer.specs.Peering.{Peering}
 use Rattle.enet_peer.specs.declared.parts.PeerState.{PeerState}
 use Rattle.enet_peer.specs.declared.parts.PeerState.TheVariants as state
 use Rattle.enet_peer.specs.Endings.{ended, freed, disconnecting, parting, settled, cut_off_in}
+use Rattle.enet_codec.specs.Message.{Message}
+use Rattle.enet_peer.specs.CommandEffect.{obeyed}
+use Rattle.enet_peer.specs.Refusing.{confirms, heeded, told_again, told_full, turned_away}
 use Rattle.enet_peer.specs.Calls.{Leave, AtOnce, TellsOnce, Asks, AsksLater, Refused, left, leave_by_asking, leave_now, after_timeouts, after_timeouts_by, expiry_of, held_back, is_held_back, is_pinged, moved, tick_of, ticked, is_connected, pace_of, gone_on_in}
 use Rattle.law_connection.specs.WireLink.{WireLink}
 use Rattle.law_connection.specs.LinkSteps.{Has}
@@ -51,6 +54,29 @@ holds-ticked own other p now h =
 pub holds-moved : (own other : End) (short : Bool) (p : Peering) (now : ℕ) → Holds own other p → Holds own other (moved short p now)
 holds-moved own other short p now h =
     holds-if own other (is_held_back short p now) (held_back p now) (ticked p now) (holds-outbox own other p (outbox.held_back p.outbox (tick_of p now)) refl refl h) (holds-ticked own other p now h)
+
+-- a host that is full, and one that lets a peer give way
+
+holds-told : (own other : End) (p : Peering) → Holds own other p → Holds own other (told_full p)
+holds-told own other p h = holds-outbox own other p (told_full p).outbox refl refl h
+
+holds-refused : (own other : End) (p : Peering) → Holds own other p → Holds own other (turned_away p)
+holds-refused own other p h =
+    let q : Peering = turned_away p in
+    holds-quiet own other p q (quiet-out p q refl refl refl) (record { dispatches = refl; receivers = refl; untaken = λ i few. refl; numbers = λ i few. refl }) h
+
+pub holds-heeded : (own other : End) (full : Bool) (p : Peering) (now : ℕ) (sent : Option ℕ) (m : Message) → Holds own other p → Holds own other (obeyed p now sent m).after → Holds own other (heeded full p now sent m).after
+holds-heeded own other full p now sent m h obeys = by (full && confirms p m)
+  where
+    by : (b : Bool) → Holds own other (cond b (record { stop = None; after = turned_away p }) (obeyed p now sent m)).after
+    by true = holds-refused own other p h
+    by false = obeys
+
+pub holds-given_way : (own other : End) (p : Peering) → Holds own other p → Holds own other (freed p)
+holds-given_way own other p h = holds-stops own other p (freed p) (stops-freed p) h
+
+pub holds-told_again : (own other : End) (p : Peering) → Holds own other p → Holds own other (told_again p)
+holds-told_again own other p h = holds-if own other (ltb 0 (length p.outbox.control.queued)) p (told_full p) h (holds-told own other p h)
 
 -- a disconnect
 

@@ -13,11 +13,11 @@ use Rattle.enet_peer.specs.declared.parts.PeerState.{PeerState}
 use Rattle.enet_peer.specs.declared.parts.PeerState.TheVariants as state
 use Rattle.enet_peer.specs.Calls.{Taken, is_connected, next_event, event_after, packet_event, last_event}
 use Rattle.law_connection.specs.Connection.{End}
-use Rattle.law_connection.specs.Steps.{Event, Answer, Submit, Emit, Come, Tick, Take, Disconnect, Set, Happens, with_peer}
+use Rattle.law_connection.specs.Steps.{Event, Answer, Submit, Emit, Come, Tick, Take, Disconnect, Set, GiveWay, TellAgain, Happens, with_peer}
 use Rattle.law_connection.specs.Linked.{sends_in, dispatches_in, IsClean}
 use Rattle.law_connection.specs.Invariant.{IsTidy, is_agreed, AreLinked}
 use Rattle.law_connection.proofs.Moves.{both-taken}
-use Rattle.law_connection.proofs.Calls.{holds-moved, holds-left, holds-set, both-emitted}
+use Rattle.law_connection.proofs.Calls.{holds-moved, holds-left, holds-set, holds-heeded, holds-given_way, holds-told_again, both-emitted}
 use Rattle.law_connection.proofs.Submits.{both-submitted}
 use Rattle.law_connection.proofs.Beginnings.{both-answered}
 use Rattle.law_connection.proofs.Arrivals.{holds-coming}
@@ -124,8 +124,11 @@ both-happens own other new (Emit now) tidy clean b h =
 both-happens own other new (Come put now sent) tidy clean b h =
     let p : Peering = h.0 in
     let i = h.2 in
-    subst (λ x. AreLinked x other) (sym h.3) (holds-coming own other p put.message.head put.sent_then now sent put.message.body i.logged clean (tidy p h.1) i.of_data i.of_acknowledgement (named own other p h.1 b))
+    subst (λ x. AreLinked x other) (sym h.4) (holds-heeded own other h.3 p now sent put.message (named own other p h.1 b)
+    (holds-coming own other p put.message.head put.sent_then now sent put.message.body i.logged clean (tidy p h.1) i.of_data i.of_acknowledgement (named own other p h.1 b)))
 both-happens own other new (Tick now) tidy clean b h = subst (λ x. AreLinked x other) (sym h.3) (holds-moved own other h.2 h.0 now (named own other h.0 h.1 b))
 both-happens own other new Take tidy clean b h = subst (λ x. AreLinked x other) (sym h.5) (both-took own other h.0 h.1 h.2 h.3 h.4 b)
 both-happens own other new (Disconnect way info) tidy clean b h = subst (λ x. AreLinked x other) (sym h.4) (holds-left own other h.0 h.1 way info h.3 (named own other h.0 h.2 b))
 both-happens own other new (Set setting) tidy clean b h = subst (λ x. AreLinked x other) (sym h.3) (holds-set own other h.0 setting (named own other h.0 h.1 b))
+both-happens own other new GiveWay tidy clean b h = subst (λ x. AreLinked x other) (sym h.3) (holds-given_way own other h.0 (named own other h.0 h.1 b))
+both-happens own other new TellAgain tidy clean b h = subst (λ x. AreLinked x other) (sym h.3) (holds-told_again own other h.0 (named own other h.0 h.1 b))

@@ -81,7 +81,7 @@ a-packet-is-taken = (
       ((peer_of submitted.peer, refl, refl), refl),
       (
         record { one = emitted; two = arrived },
-        ((here, refl, in-time, comes), refl),
+        ((here, refl, in-time, false, comes), refl),
         (
           record { one = emitted; two = took },
           ((with_untaken here (example_packet ∷ rest), with_untaken here rest, told.Receive example_packet, refl, refl, refl), refl),
@@ -169,13 +169,13 @@ both-ends-connect = (
         ((peer_of answered.peer, refl, refl), refl),
         (
           record { one = client; two = verified },
-          ((peer_of asked.peer, refl, record { logged = inl refl; of_data = λ few c e. absurd (cc); of_acknowledgement = λ few number time e. absurd (cc) }, refl), refl),
+          ((peer_of asked.peer, refl, record { logged = inl refl; of_data = λ few c e. absurd (cc); of_acknowledgement = λ few number time e. absurd (cc) }, false, refl), refl),
           (
             record { one = confirmed; two = verified },
             ((peer_of client.peer, refl, refl), refl),
             (
               record { one = confirmed; two = host },
-              ((peer_of verified.peer, refl, record { logged = inr (inl refl); of_data = λ few c e. absurd (cc); of_acknowledgement = λ few number time e. absurd (far few) }, refl), refl),
+              ((peer_of verified.peer, refl, record { logged = inr (inl refl); of_data = λ few c e. absurd (cc); of_acknowledgement = λ few number time e. absurd (far few) }, false, refl), refl),
               refl,
             ),
           ),

@@ -16,10 +16,12 @@ use Rattle.enet_peer.specs.declared.parts.PeerEvent.TheVariants as told
 use Rattle.enet_peer.specs.declared.parts.PeerState.TheVariants as state
 use Rattle.enet_peer.specs.Calls.{next_event, is_connected, submitted, moved}
 use Rattle.enet_peer.specs.CommandEffect.{obeyed}
+use Rattle.enet_peer.specs.Endings.{freed}
+use Rattle.enet_peer.specs.Refusing.{heeded, told_again}
 use Rattle.law_connection.specs.Connection.{End, packets_of, in_sequence}
-use Rattle.law_connection.specs.Steps.{Event, Answer, Submit, Emit, Come, Tick, Take, Disconnect, Set, Happens, with_peer, with_submission, with_setting}
+use Rattle.law_connection.specs.Steps.{Event, Answer, Submit, Emit, Come, Tick, Take, Disconnect, Set, GiveWay, TellAgain, Happens, with_peer, with_submission, with_setting}
 use Rattle.law_connection.specs.Invariant.{IsTidy, AreLow, IsLow, PeerFits, IsFit}
-use Rattle.law_connection.proofs.PeerChanges.{kept-moved, kept-left, kept-set, kept-emitted, kept-obeyed}
+use Rattle.law_connection.proofs.PeerChanges.{kept-moved, kept-left, kept-set, kept-emitted, kept-given_way, kept-heeded, kept-told_again}
 use Rattle.law_connection.proofs.TidyPeers.{tidies, tidy-submitted}
 use Rattle.law_connection.proofs.CleanLogs.{clean-same, clean-emitted}
 use Rattle.law_connection.proofs.LowChannels.{lows, low-append, low-new}
@@ -104,8 +106,8 @@ fit-happens own other new (Emit now) f h =
     })
 fit-happens own other new (Come put now sent) f h =
     let p : Peering = h.0 in let k = fit-peer own p h.1 f in
-    let q : Peering = (obeyed p now sent put.message).after in
-    subst IsFit (sym h.3) (fit-with own q f (kept-obeyed (IsTidy own.submitted) (tidies own.submitted) p put.message.head now sent put.message.body k.0) (kept-obeyed IsLow lows p put.message.head now sent put.message.body k.1))
+    let q : Peering = (heeded h.3 p now sent put.message).after in
+    subst IsFit (sym h.4) (fit-with own q f (kept-heeded (IsTidy own.submitted) (tidies own.submitted) h.3 p put.message.head now sent put.message.body k.0) (kept-heeded IsLow lows h.3 p put.message.head now sent put.message.body k.1))
 fit-happens own other new (Tick now) f h =
     let p : Peering = h.0 in let k = fit-peer own p h.1 f in
     subst IsFit (sym h.3) (fit-with own (moved h.2 p now) f (kept-moved (IsTidy own.submitted) (tidies own.submitted) h.2 p now k.0) (kept-moved IsLow lows h.2 p now k.1))
@@ -116,3 +118,9 @@ fit-happens own other new (Disconnect way info) f h =
 fit-happens own other new (Set setting) f h =
     let p : Peering = h.0 in let k = fit-peer own p h.1 f in
     subst IsFit (sym h.3) (fit-with own (with_setting setting p) f (kept-set (IsTidy own.submitted) (tidies own.submitted) p setting h.2 k.0) (kept-set IsLow lows p setting h.2 k.1))
+fit-happens own other new GiveWay f h =
+    let p : Peering = h.0 in let k = fit-peer own p h.1 f in
+    subst IsFit (sym h.3) (fit-with own (freed p) f (kept-given_way (IsTidy own.submitted) (tidies own.submitted) p k.0) (kept-given_way IsLow lows p k.1))
+fit-happens own other new TellAgain f h =
+    let p : Peering = h.0 in let k = fit-peer own p h.1 f in
+    subst IsFit (sym h.3) (fit-with own (told_again p) f (kept-told_again (IsTidy own.submitted) (tidies own.submitted) p h.2 k.0) (kept-told_again IsLow lows p h.2 k.1))

@@ -28,15 +28,16 @@ use Rattle.enet_peer.specs.Calls.{is_connected, next_event}
 use Rattle.enet_inbox.specs.DataEffect.{handed_over, unsequenced_taken}
 use Rattle.enet_inbox.specs.Inbox.{is_full_for, given_way}
 use Rattle.enet_receiver.specs.Foresight.{after_command}
+use Rattle.enet_peer.specs.Refusing.{told_full}
 use Rattle.law_connection.specs.LinkSteps.{Has}
 use Rattle.law_connection.proofs.Lists.{Has-slice_get}
 use Rattle.law_connection.specs.Connection.{End}
-use Rattle.law_connection.specs.Steps.{Event, Answer, Submit, Emit, Come, Tick, Take, Disconnect, Set, Happens}
+use Rattle.law_connection.specs.Steps.{Event, Answer, Submit, Emit, Come, Tick, Take, Disconnect, Set, GiveWay, TellAgain, Happens}
 use Rattle.law_connection.specs.Law.{IsOneLife, AreLast}
 use Rattle.law_connection.specs.Life.{ArePackets, HasBegun, IsUntold, IsUnderway, IsStill, IsOver, LivesIn, Lives, LivesAt, LivesOn}
 use Rattle.law_connection.proofs.Packing.{idle-next}
 use Rattle.law_connection.proofs.Emits.{Has-from_map}
-use Rattle.law_connection.proofs.PeerChanges.{Core, core, Changes, is_gone, stands, kept-moved, kept-left, kept-set, kept-emitted, kept-obeyed}
+use Rattle.law_connection.proofs.PeerChanges.{Core, core, Changes, is_gone, stands, kept-moved, kept-left, kept-set, kept-emitted, kept-given_way, kept-heeded, kept-told_again}
 use Rattle.law_connection.proofs.OneLife.{lives-one, none-life}
 use Rattle.law_connection.proofs.Events.{accepted, took}
 
@@ -231,6 +232,7 @@ lives joined es = record {
   welcomes = λ p v terms e big word h. (let a : LivesIn state.Connecting joined es p = subst (λ (s : PeerState). LivesIn s joined es p) e h in let u = a.1 in inr (a.0, u.none, 0, refl));
   acknowledges = λ p j number in-time h. lives-outbox joined es p (outbox.after_acknowledgement p.outbox j number) (λ gone. absurd (let x : true ≡ false = sym gone ∙ in-time in cc)) h;
   marks = λ p tick h. lives-outbox joined es p (outbox.marked p.outbox tick) (λ gone still. still-marked p.outbox tick still) h;
+  refuses = λ p at h. lives-outbox joined es p (told_full p).outbox (λ gone. absurd (let x : false ≡ true = sym (ap is_gone at) ∙ gone in cc)) h;
   holds_back = λ p tick at h. lives-outbox joined es p (outbox.held_back p.outbox tick) (λ gone. absurd (let x : false ≡ true = sym (ap is_gone at) ∙ gone in cc)) h;
   gives_way = λ p on h. lives-connected joined es p (record p { inbox = given_way p.inbox }) refl refl on h;
   takes = λ p j r c on there h. lives-connected joined es p (record p { inbox = handed_over p.inbox j (after_command r (Some c) (is_full_for p.inbox r c)) }) refl refl on h;
@@ -365,9 +367,11 @@ life-happens joined own other new (Submit q) f h =
     (λ gone. absurd (let x : true ≡ false = sym gone ∙ connected-here p.state a.0 in cc)) (life-peer joined own p h.1 f))
 life-happens joined own other new (Emit now) f h = subst (λ (x : End). LivesOn joined x) (sym h.2) (kept-emitted (Lives joined own.events) (lives joined own.events) h.0 now (life-peer joined own h.0 h.1 f))
 life-happens joined own other new (Come put now sent) f h =
-    subst (λ (x : End). LivesOn joined x) (sym h.3) (kept-obeyed (Lives joined own.events) (lives joined own.events) h.0 put.message.head now sent put.message.body (life-peer joined own h.0 h.1 f))
+    subst (λ (x : End). LivesOn joined x) (sym h.4) (kept-heeded (Lives joined own.events) (lives joined own.events) h.3 h.0 put.message.head now sent put.message.body (life-peer joined own h.0 h.1 f))
 life-happens joined own other new (Tick now) f h = subst (λ (x : End). LivesOn joined x) (sym h.3) (kept-moved (Lives joined own.events) (lives joined own.events) h.2 h.0 now (life-peer joined own h.0 h.1 f))
 life-happens joined own other new Take f h = subst (λ (x : End). LivesOn joined x) (sym h.5) (lives-took joined own.events h.0 h.1 h.2 h.4 (life-peer joined own h.0 h.3 f))
 life-happens joined own other new (Disconnect way info) f h =
     subst (λ (x : End). LivesOn joined x) (sym h.4) (kept-left (Lives joined own.events) (lives joined own.events) h.0 h.1 way info h.3 (life-peer joined own h.0 h.2 f))
 life-happens joined own other new (Set setting) f h = subst (λ (x : End). LivesOn joined x) (sym h.3) (kept-set (Lives joined own.events) (lives joined own.events) h.0 setting h.2 (life-peer joined own h.0 h.1 f))
+life-happens joined own other new GiveWay f h = subst (λ (x : End). LivesOn joined x) (sym h.3) (kept-given_way (Lives joined own.events) (lives joined own.events) h.0 (life-peer joined own h.0 h.1 f))
+life-happens joined own other new TellAgain f h = subst (λ (x : End). LivesOn joined x) (sym h.3) (kept-told_again (Lives joined own.events) (lives joined own.events) h.0 h.2 (life-peer joined own h.0 h.1 f))

@@ -54,6 +54,7 @@ lows = record {
   welcomes = λ p v terms e big word h. record { channels = take-few terms.channels p.inbox.receivers h.channels; untaken = h.untaken };
   acknowledges = λ p j number here h. record { channels = h.channels; untaken = h.untaken };
   marks = λ p tick h. record { channels = h.channels; untaken = h.untaken };
+  refuses = λ p at h. record { channels = h.channels; untaken = h.untaken };
   holds_back = λ p tick at h. record { channels = h.channels; untaken = h.untaken };
   gives_way = λ p on h. record { channels = subst (λ n. n ≤ 255) (sym (length-map p.inbox.receivers given_way_receiver)) h.channels; untaken = h.untaken };
   takes = λ p j r c on there h. record {

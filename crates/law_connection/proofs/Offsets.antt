@@ -9,10 +9,11 @@ use Rattle.enet_peer.specs.Peering.{Peering}
 use Rattle.enet_peer.specs.Endings.{settled}
 use Rattle.enet_peer.specs.CommandEffect.{obeyed}
 use Rattle.enet_peer.specs.Calls.{Leave, AtOnce, TellsOnce, Asks, AsksLater, Refused, left, Taken, last_event, packet_event, event_after, next_event, pace_of, gone_on, moved}
+use Rattle.enet_peer.specs.Refusing.{heeded}
 use Rattle.law_connection.specs.Connection.{End}
 use Rattle.law_connection.specs.Law.{offset_in, offset_of}
-use Rattle.law_connection.specs.Steps.{Event, Answer, Submit, Emit, Come, Tick, Take, Disconnect, Set, Happens, leave_by, Setting, Bandwidth, Throttle, ThrottleLimit, PingInterval, Timeout, with_setting}
-use Rattle.law_connection.proofs.PeerChanges.{Core, Changes, kept-settled, kept-gone_on, kept-moved, kept-emitted, kept-obeyed}
+use Rattle.law_connection.specs.Steps.{Event, Answer, Submit, Emit, Come, Tick, Take, Disconnect, Set, GiveWay, TellAgain, Happens, leave_by, Setting, Bandwidth, Throttle, ThrottleLimit, PingInterval, Timeout, with_setting}
+use Rattle.law_connection.proofs.PeerChanges.{Core, Changes, kept-settled, kept-gone_on, kept-moved, kept-emitted, kept-heeded, kept-obeyed, kept-told_again}
 
 abbrev pub Adds : ℕ → Peering → Type 0
 Adds n p = p.offset ≡ n
@@ -33,6 +34,7 @@ adds n = record {
   welcomes = λ p v terms e big word h. h;
   acknowledges = λ p j number here h. h;
   marks = λ p tick h. h;
+  refuses = λ p at h. h;
   holds_back = λ p tick at h. h;
   gives_way = λ p on h. h;
   takes = λ p j r c on there h. h;
@@ -56,6 +58,9 @@ offset-emitted p now = kept-emitted (Adds p.offset) (adds p.offset) p now refl
 -- the clock
 pub offset-moved : (short : Bool) (p : Peering) (now : ℕ) → (moved short p now).offset ≡ p.offset
 offset-moved short p now = kept-moved (Adds p.offset) (adds p.offset) short p now refl
+
+pub offset-heeded : (full : Bool) (p : Peering) (now : ℕ) (sent : Option ℕ) (m : Message) → (heeded full p now sent m).after.offset ≡ p.offset
+offset-heeded full p now sent m = kept-heeded (Adds p.offset) (adds p.offset) full p m.head now sent m.body refl
 
 -- the user takes an event
 
@@ -109,8 +114,10 @@ pub offset-happens : (own other new : End) (p : Peering) (e : Event) → own.pee
 offset-happens own other new p (Answer put offer now offsets server limits) is h = absurd (let none : None ≡ Some p = sym h.0 ∙ is in cc)
 offset-happens own other new p (Submit q) is h = ap offset_of h.3 ∙ here own p h.0 is h.1
 offset-happens own other new p (Emit now) is h = ap offset_of h.2 ∙ offset-emitted h.0 now ∙ here own p h.0 is h.1
-offset-happens own other new p (Come put now sent) is h = ap offset_of h.3 ∙ offset-obeyed h.0 now sent put.message ∙ here own p h.0 is h.1
+offset-happens own other new p (Come put now sent) is h = ap offset_of h.4 ∙ offset-heeded h.3 h.0 now sent put.message ∙ here own p h.0 is h.1
 offset-happens own other new p (Tick now) is h = ap offset_of h.3 ∙ offset-moved h.2 h.0 now ∙ here own p h.0 is h.1
 offset-happens own other new p Take is h = ap offset_of h.5 ∙ offset-taken h.0 (record { event = h.2; after = h.1 }) h.4 ∙ here own p h.0 is h.3
 offset-happens own other new p (Disconnect way info) is h = ap offset_of h.4 ∙ offset-left (leave_by way h.0.state) h.0 h.1 info h.3 ∙ here own p h.0 is h.2
 offset-happens own other new p (Set setting) is h = ap offset_of h.3 ∙ offset-set h.0 setting ∙ here own p h.0 is h.1
+offset-happens own other new p GiveWay is h = ap offset_of h.3 ∙ here own p h.0 is h.1
+offset-happens own other new p TellAgain is h = ap offset_of h.3 ∙ kept-told_again (Adds h.0.offset) (adds h.0.offset) h.0 h.2 refl ∙ here own p h.0 is h.1

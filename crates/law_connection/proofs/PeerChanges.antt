@@ -31,7 +31,7 @@ use Rattle.enet_sender.specs.Due.{SendingEnd}
 use Rattle.enet_outbox.specs.declared.parts.Matched.{Matched}
 use Rattle.enet_outbox.specs.declared.parts.Matched.TheVariants as matched
 use Rattle.enet_outbox.specs.declared.parts.Pace.{Pace}
-use Rattle.enet_outbox.specs.Outbox.{with_control, after_acknowledgement, is_done, matched_by, has_ended, has_late, has_waited, lateness, released, told_by, with_growth}
+use Rattle.enet_outbox.specs.Outbox.{with_control, after_acknowledgement, is_answer, is_done, matched_by, has_ended, has_late, has_waited, lateness, released, told_by, with_growth}
 use Rattle.enet_outbox.specs.Outbox as outbox
 use Rattle.enet_outbox.specs.Emission.{Filling, occasion, filled}
 use Rattle.enet_codec.specs.declared.packet.Packet.{Packet}
@@ -41,7 +41,8 @@ use Rattle.enet_peer.specs.declared.parts.PeerState.TheVariants as state
 use Rattle.enet_peer.specs.Endings.{dropped, ended, freed, disconnecting, parting, settled, is_later, cut_off_in}
 use Rattle.enet_peer.specs.CommandEffect.{Outcome, answered, answered_at, is_answered_in, is_allowed, is_of_handshake, obeyed, unless_refused, by_body, by_answer, by_arrival, on_data, stopped, sampled, with_answer, on_match, accepted, is_connecting, on_acknowledge, welcomed, on_verify_in, on_last_disconnect, on_disconnect_in, on_bandwidth, on_throttle}
 use Rattle.enet_peer.proofs.Obeying.{unless-holds, unwelcomed-holds}
-use Rattle.enet_peer.specs.Calls.{left, after_timeouts, after_timeouts_by, answering_time, expiry_of, held_back, is_answering, is_held_back, is_over, is_pinged, is_resend, moved, tick_of, ticked, is_connected, pace_of, gone_on, gone_on_in}
+use Rattle.enet_peer.specs.Refusing.{confirms_by, heeded, is_turned_away, told_again, told_full, turned_away}
+use Rattle.enet_peer.specs.Calls.{left, after_timeouts, after_timeouts_by, expiry_of, has_stayed, held_back, is_answering, is_held_back, is_over, is_pinged, is_resend, moved, tick_of, ticked, is_connected, pace_of, gone_on, gone_on_in}
 use Rattle.law_connection.specs.Steps.{Way, Asking, Now, Later, leave_by, Setting, Bandwidth, Throttle, ThrottleLimit, PingInterval, Timeout, with_setting, MaySet}
 use Rattle.enet_outbox.proofs.Filled.{by-filling}
 use Rattle.law_connection.proofs.Runs.{either, and-left, and-right}
@@ -95,6 +96,7 @@ pub record Changes (P : Peering → Type 0) : Type 0 where
   pub acknowledges : (p : Peering) (channel number : ℕ) → is_gone p.state ≡ false → P p → P (record p { outbox = after_acknowledgement p.outbox channel number })
   pub marks : (p : Peering) (tick : Tick) → P p → P (record p { outbox = outbox.marked p.outbox tick })
   pub holds_back : (p : Peering) (tick : Tick) → p.state ≡ state.Answering → P p → P (record p { outbox = outbox.held_back p.outbox tick })
+  pub refuses : (p : Peering) → p.state ≡ state.Answering → P p → P (told_full p)
   pub gives_way : (p : Peering) → is_connected p.state ≡ true → P p → P (record p { inbox = given_way p.inbox })
   pub takes : (p : Peering) (channel : ℕ) (r : ReceivingEnd) (c : DataCommand) → is_connected p.state ≡ true → slice_get p.inbox.receivers channel ≡ Some r → P p
       → P (record p { inbox = handed_over p.inbox channel (after_command r (Some c) (is_full_for p.inbox r c)) })
@@ -148,7 +150,7 @@ answering-is state.Free e = absurd (cc)
 
 -- only one that waits for its client waits too long
 pub over-answers : (p : Peering) (now : ℕ) → is_over p now ≡ true → p.state ≡ state.Answering
-over-answers p now e = answering-is p.state (and-left (is_answering p.state) (has_waited p.outbox answering_time now) e)
+over-answers p now e = answering-is p.state (and-left (is_answering p.state) (has_stayed p now) e)
 
 -- only such a one is held back
 pub held_back-answers : (short : Bool) (p : Peering) (now : ℕ) → is_held_back short p now ≡ true → p.state ≡ state.Answering
@@ -462,3 +464,24 @@ kept-obeyed P k p h now sent body a = by body
         kept-data P k p (record { head = h; body = send_fragment f payload }) (record { reliable = true; number = h.number; unreliable = 0; fragment = Some f; body = payload }) sent (allowed-connected p.state (send_fragment f payload) refl t) a)
     by (send_unreliable_fragment f payload) = if-allowed (send_unreliable_fragment f payload) (λ t.
         kept-data P k p (record { head = h; body = send_unreliable_fragment f payload }) (record { reliable = false; number = h.number; unreliable = f.start; fragment = Some f; body = payload }) sent (allowed-connected p.state (send_unreliable_fragment f payload) refl t) a)
+
+-- a peer that waits for its client is let go, since its host gives its slot to another
+pub kept-given_way : (P : Peering → Type 0) → Changes P → (p : Peering) → P p → P (freed p)
+kept-given_way P k p h = k.frees p h
+
+-- a command comes to a host that may be full
+
+refuses-answering : (p : Peering) (h : Head) (body : Body) → confirms_by p h body ≡ true → p.state ≡ state.Answering
+refuses-answering p h (acknowledge number told) e =
+    answering-is p.state (and-left (is_answering p.state) (is_answer (matched_by p.outbox h.channel number (meant_time told (p.offset % 2 ^ 16)))) e)
+refuses-answering p h body e = absurd (let y : false ≡ true = e in cc)
+
+pub kept-heeded : (P : Peering → Type 0) → Changes P → (full : Bool) (p : Peering) (h : Head) (now : ℕ) (sent : Option ℕ) (body : Body) → P p → P (heeded full p now sent (record { head = h; body = body })).after
+kept-heeded P k full p h now sent body a =
+    if-outcome P (full && confirms_by p h body) (record { stop = None; after = turned_away p }) (obeyed p now sent (record { head = h; body = body }))
+    (λ t. k.quiet (told_full p) (turned_away p) refl (k.refuses p (refuses-answering p h body (and-right full (confirms_by p h body) t)) a)) (kept-obeyed P k p h now sent body a)
+
+-- one that was refused is told so again
+pub kept-told_again : (P : Peering → Type 0) → Changes P → (p : Peering) → is_turned_away p ≡ true → P p → P (told_again p)
+kept-told_again P k p away h =
+    if-peer P (ltb 0 (length p.outbox.control.queued)) p (told_full p) (λ t. h) (k.refuses p (answering-is p.state (and-left (is_answering p.state) p.refused away)) h)

@@ -186,6 +186,7 @@ tidies qs = record {
     young = λ t. (let y = h.young t in (y.0, (λ i. marked-at tick p.outbox.senders i ∙ ap (with_marked tick) (y.1 i)), y.2));
     big = h.big;
   };
+  refuses = λ p at h. record { places = h.places; few = h.few; receivers = h.receivers; young = h.young; big = h.big };
   holds_back = λ p tick at h. record { places = h.places; few = h.few; receivers = h.receivers; young = h.young; big = h.big };
   gives_way = λ p on h. record {
     places = h.places;

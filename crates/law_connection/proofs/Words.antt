@@ -30,13 +30,14 @@ use Rattle.enet_peer.specs.Peering.{Peering, joined, connecting, answering}
 use Rattle.enet_peer.specs.Endings.{dropped, ended, freed, disconnecting, parting}
 use Rattle.enet_peer.specs.CommandEffect.{obeyed}
 use Rattle.enet_peer.specs.Calls.{submitted, pace_of, gone_on, moved, next_event}
+use Rattle.enet_peer.specs.Refusing.{full_word, heeded, told_again, told_full}
 use Rattle.law_connection.specs.LinkSteps.{Has}
 use Rattle.law_connection.proofs.Lists.{Has-push_cases, Has-append_cases, Has-slice_get}
 use Rattle.law_connection.specs.Connection.{Put, End, put_by}
-use Rattle.law_connection.specs.Steps.{Event, Answer, Submit, Emit, Come, Tick, Take, Disconnect, Set, Happens, with_peer, with_setting, with_emission, no_end}
+use Rattle.law_connection.specs.Steps.{Event, Answer, Submit, Emit, Come, Tick, Take, Disconnect, Set, GiveWay, TellAgain, Happens, with_peer, with_setting, with_emission, no_end}
 use Rattle.law_connection.proofs.Emits.{Has-from_map}
 use Rattle.law_connection.proofs.Events.{took}
-use Rattle.law_connection.proofs.PeerChanges.{Core, Changes, is_offer, kept-moved, kept-left, kept-set, kept-emitted, kept-obeyed}
+use Rattle.law_connection.proofs.PeerChanges.{Core, Changes, is_offer, kept-moved, kept-left, kept-set, kept-emitted, kept-given_way, kept-heeded, kept-told_again}
 
 -- a CONNECT has this connect id
 pub Says : ℕ → Control → Type 0
@@ -203,6 +204,7 @@ words w = record {
   welcomes = λ p v terms e big word h. record { terms = word ∙ h.offer e; offer = λ t. absurd (let y : state.Connected ≡ state.Connecting = t in cc); says = none-say w p.outbox.control.number };
   acknowledges = λ p j number here h. stays-of w p (record p { outbox = outbox.after_acknowledgement p.outbox j number }) refl refl refl (acknowledged-says w p.outbox j number h.says) h;
   marks = λ p tick h. stays-of w p (record p { outbox = outbox.marked p.outbox tick }) refl refl refl (marked-all w tick p.outbox.control h.says) h;
+  refuses = λ p at h. stays-of w p (told_full p) refl refl refl (queued-say w (controlling.cleared p.outbox.control) (control.DisconnectNow full_word) tt (none-say w p.outbox.control.number)) h;
   holds_back = λ p tick at h. stays-of w p (record p { outbox = outbox.held_back p.outbox tick }) refl refl refl (held_back-all w tick p.outbox.control h.says) h;
   gives_way = λ p on h. record { terms = h.terms; offer = h.offer; says = h.says };
   takes = λ p j r c on there h. record { terms = h.terms; offer = h.offer; says = h.says };
@@ -328,11 +330,13 @@ word-happens w own far new (Submit q) f h x = subst (IsWord w) (sym x.3) (record
 })
 word-happens w own far new (Emit now) f h x = subst (IsWord w) (sym x.2) (word-emitted w own far x.0 now x.1 h)
 word-happens w own far new (Come put now sent) f h x =
-    subst (IsWord w) (sym x.3) (word-with w own (obeyed x.0 now sent put.message).after h (kept-obeyed (IsOf w) (words w) x.0 put.message.head now sent put.message.body (h.peer x.0 x.1)))
+    subst (IsWord w) (sym x.4) (word-with w own (heeded x.3 x.0 now sent put.message).after h (kept-heeded (IsOf w) (words w) x.3 x.0 put.message.head now sent put.message.body (h.peer x.0 x.1)))
 word-happens w own far new (Tick now) f h x = subst (IsWord w) (sym x.3) (word-with w own (moved x.2 x.0 now) h (kept-moved (IsOf w) (words w) x.2 x.0 now (h.peer x.0 x.1)))
 word-happens w own far new Take f h x = subst (IsWord w) (sym x.5) (word-took w own x.0 x.1 x.2 x.3 x.4 h)
 word-happens w own far new (Disconnect way info) f h x = subst (IsWord w) (sym x.4) (word-with w own x.1 h (kept-left (IsOf w) (words w) x.0 x.1 way info x.3 (h.peer x.0 x.2)))
 word-happens w own far new (Set setting) f h x = subst (IsWord w) (sym x.3) (word-with w own (with_setting setting x.0) h (kept-set (IsOf w) (words w) x.0 setting x.2 (h.peer x.0 x.1)))
+word-happens w own far new GiveWay f h x = subst (IsWord w) (sym x.3) (word-with w own (freed x.0) h (kept-given_way (IsOf w) (words w) x.0 (h.peer x.0 x.1)))
+word-happens w own far new TellAgain f h x = subst (IsWord w) (sym x.3) (word-with w own (told_again x.0) h (kept-told_again (IsOf w) (words w) x.0 x.2 (h.peer x.0 x.1)))
 
 -- at first
 

@@ -16,8 +16,9 @@ use Rattle.enet_peer.specs.declared.parts.Offsets.{Offsets}
 use Rattle.enet_peer.specs.declared.parts.PeerEvent.{PeerEvent}
 use Rattle.enet_peer.specs.declared.parts.PeerState.{PeerState}
 use Rattle.enet_peer.specs.Peering.{Peering, joined, connecting, answering}
-use Rattle.enet_peer.specs.CommandEffect.{obeyed}
-use Rattle.enet_peer.specs.Calls.{Leave, submission_refusal, submitted, pace_of, gone_on, left, leave_by_asking, leave_now, leave_later, moved, next_event, is_connected, with_bandwidth, with_throttle, with_throttle_limit, with_ping_interval, with_timeout}
+use Rattle.enet_peer.specs.Endings.{freed}
+use Rattle.enet_peer.specs.Refusing.{heeded, is_turned_away, told_again}
+use Rattle.enet_peer.specs.Calls.{Leave, submission_refusal, submitted, pace_of, gone_on, left, leave_by_asking, leave_now, leave_later, moved, next_event, is_answering, is_connected, with_bandwidth, with_throttle, with_throttle_limit, with_ping_interval, with_timeout}
 use Rattle.law_connection.specs.Connection.{Put, End, Connection, sent_on, put_by}
 
 -- how the user ends a connection
@@ -60,6 +61,8 @@ pub data Event : Type 0 where
   Take : Event  -- the user takes the next event
   Disconnect : (way : Way) (info : ℕ) → Event
   Set : (setting : Setting) → Event
+  GiveWay : Event  -- a peer that waits for its client is let go, since its host gives its slot to another
+  TellAgain : Event  -- a datagram comes to a peer that was refused, and it is told again that the host is full
 
 abbrev pub has_peer : End → Peering → Type 0
 has_peer e p = e.peer ≡ Some p
@@ -93,13 +96,15 @@ Happens own other (Submit q) new =
     (p : Peering) × has_peer own p × (submission_refusal p q.channel (length q.body) ≡ None) × (new ≡ with_submission own p q)
 Happens own other (Emit now) new = (p : Peering) × has_peer own p × (new ≡ with_emission own other p now)
 Happens own other (Come put now sent) new =
-    (p : Peering) × has_peer own p × InTime own other put × (new ≡ with_peer own (obeyed p now sent put.message).after)
+    (p : Peering) × has_peer own p × InTime own other put × (full : Bool) × (new ≡ with_peer own (heeded full p now sent put.message).after)
 Happens own other (Tick now) new = (p : Peering) × has_peer own p × (short : Bool) × (new ≡ with_peer own (moved short p now))
 Happens own other Take new =
     (p q : Peering) × (e : PeerEvent) × has_peer own p × (next_event p ≡ Some (record { event = e; after = q })) × (new ≡ record own { peer = Some q; events = own.events ++ e ∷ [] })
 Happens own other (Disconnect way info) new =
     (p q : Peering) × has_peer own p × (left (leave_by way p.state) p info ≡ Some q) × (new ≡ with_peer own q)
 Happens own other (Set setting) new = (p : Peering) × has_peer own p × MaySet setting p × (new ≡ with_peer own (with_setting setting p))
+Happens own other GiveWay new = (p : Peering) × has_peer own p × (is_answering p.state ≡ true) × (new ≡ with_peer own (freed p))
+Happens own other TellAgain new = (p : Peering) × has_peer own p × (is_turned_away p ≡ true) × (new ≡ with_peer own (told_again p))
 
 pub data Side : Type 0 where
   One : Side

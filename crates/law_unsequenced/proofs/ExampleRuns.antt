@@ -118,7 +118,7 @@ a-packet-is-taken = (
       ((peer_of submitted.peer, refl, refl), refl),
       (
         record { one = emitted; two = arrived },
-        ((here, refl, in-time, comes), refl),
+        ((here, refl, in-time, false, comes), refl),
         (
           record { one = emitted; two = took },
           ((record here { inbox = taken }, record here { inbox = record taken { untaken = [] } }, told.Receive loose_packet, refl, refl, refl), refl),

@@ -16,10 +16,11 @@ use Rattle.enet_peer.specs.Peering.{Peering, joined, connecting, answering}
 use Rattle.enet_peer.specs.declared.parts.Limits.{Limits}
 use Rattle.enet_peer.specs.declared.parts.PeerEvent.{PeerEvent}
 use Rattle.enet_peer.specs.Calls.{pace_of, gone_on, submitted, moved, next_event}
-use Rattle.enet_peer.specs.CommandEffect.{obeyed}
+use Rattle.enet_peer.specs.Endings.{freed}
+use Rattle.enet_peer.specs.Refusing.{heeded, told_again}
 use Rattle.law_connection.specs.LinkSteps.{Has}
 use Rattle.law_connection.specs.Connection.{Put, End, Connection, packets_of}
-use Rattle.law_connection.specs.Steps.{Side, One, Two, Event, Answer, Submit, Emit, Come, Tick, Take, Disconnect, Set, Happens, HappensAt, Runs, with_peer, with_setting, no_end, joined_pair, asking_pair}
+use Rattle.law_connection.specs.Steps.{Side, One, Two, Event, Answer, Submit, Emit, Come, Tick, Take, Disconnect, Set, GiveWay, TellAgain, Happens, HappensAt, Runs, with_peer, with_setting, no_end, joined_pair, asking_pair}
 use Rattle.law_connection.specs.Law.{mtu_of, IsLawful}
 use Rattle.law_connection.specs.Numbers.{Agree}
 use Rattle.law_connection.specs.Invariant.{PeerFits, IsFit, Invariant, is_young}
@@ -31,7 +32,7 @@ use Rattle.law_connection.proofs.Lists.{Has-append_cases, Has-filter, Has-from_f
 use Rattle.law_unsequenced.specs.Unsequenced.{going_unsequenced, come_unsequenced, submitted_by, taken_by, come_by, come_at, come_to, carried, TakenAs, ComeAs, Each}
 use Rattle.law_unsequenced.specs.Law.{AreInTime, AreDistinct, GoesAs, EachSubmitted, IsFair, AreFair, JoinedLaw, AskingLaw}
 use Rattle.law_unsequenced.proofs.Parts.{IsPart, part-front, part-has, part-of_map, each-part, each-map, each-found, pairs-part}
-use Rattle.law_unsequenced.proofs.Staying.{core, Stays, Becomes, packet_in, moved-stays, left-stays, set-stays, gone_on-stays, obeyed-becomes}
+use Rattle.law_unsequenced.proofs.Staying.{core, Stays, Becomes, packet_in, moved-stays, left-stays, set-stays, gone_on-stays, heeded-becomes, freed-stays, told_again-stays}
 use Rattle.law_unsequenced.proofs.Sending.{IsOne, one-more, SendsAt, Goes, goes-on, goes-emitted, goes-submitted, goes-answered}
 use Rattle.law_unsequenced.proofs.Taking.{Gets, seen_in, untaken_in, gets-more, gets-took, all-dispatched}
 
@@ -114,8 +115,8 @@ goes-staying own p q is h s = goes-on own own.log p q is (inl h.mtu) h.group h.w
 receivers-of : (own : End) (p : Peering) → own.peer ≡ Some p → IsFit own → (i : ℕ) (r : ReceivingEnd) → slice_get p.inbox.receivers i ≡ Some r → HasSequenced r.receiver
 receivers-of own p is f i r there = let k = fit-peer own p is f in let t = k.0 in let x = t.receivers i r there in x.1
 
-coming : (own : End) (p : Peering) (put : Put) (now : ℕ) (sent : Option ℕ) → own.peer ≡ Some p → IsFit own → Becomes (is_young p.state) (carried put.message) (core p) (core (obeyed p now sent put.message).after)
-coming own p put now sent is f = obeyed-becomes p put.message.head now sent put.message.body (receivers-of own p is f)
+coming : (own : End) (full : Bool) (p : Peering) (put : Put) (now : ℕ) (sent : Option ℕ) → own.peer ≡ Some p → IsFit own → Becomes (is_young p.state) (carried put.message) (core p) (core (heeded full p now sent put.message).after)
+coming own full p put now sent is f = heeded-becomes full p now sent put.message (receivers-of own p is f)
 
 abbrev GoesTo : End → End → Type 0
 GoesTo own x = Goes own x.log x.submitted x.peer
@@ -128,16 +129,18 @@ out own other new (Submit q) f h s = subst (GoesTo own) (sym h.3) (goes-submitte
 out own other new (Emit now) f h s = subst (GoesTo own) (sym h.2) (goes-emitted own other h.0 now h.1 s)
 out own other new (Come put now sent) f h s =
     let p : Peering = h.0 in
-    let q : Peering = (obeyed p now sent put.message).after in
-    let b = coming own p put now sent h.1 f in
+    let q : Peering = (heeded h.3 p now sent put.message).after in
+    let b = coming own h.3 p put now sent h.1 f in
     let k = fit-peer own p h.1 f in
     let t = k.0 in
     let mtu : (q.terms.mtu ≡ p.terms.mtu) ⊎ (own.submitted ≡ []) = elim b.mtu [ inl same ↦ inl same | inr young ↦ (let y = t.young young in inr y.0) ] in
-    subst (GoesTo own) (sym h.3) (goes-on own own.log p q h.1 mtu b.group b.waiting (λ x u there c. inl there) s)
+    subst (GoesTo own) (sym h.4) (goes-on own own.log p q h.1 mtu b.group b.waiting (λ x u there c. inl there) s)
 out own other new (Tick now) f h s = subst (GoesTo own) (sym h.3) (goes-staying own h.0 (moved h.2 h.0 now) h.1 (moved-stays h.2 h.0 now) s)
 out own other new Take f h s = subst (GoesTo own) (sym h.5) (goes-took own h.0 h.1 h.2 h.3 h.4 s)
 out own other new (Disconnect way info) f h s = subst (GoesTo own) (sym h.4) (goes-staying own h.0 h.1 h.2 (left-stays h.0 h.1 way info h.3) s)
 out own other new (Set setting) f h s = subst (GoesTo own) (sym h.3) (goes-staying own h.0 (with_setting setting h.0) h.1 (set-stays h.0 setting) s)
+out own other new GiveWay f h s = subst (GoesTo own) (sym h.3) (goes-staying own h.0 (freed h.0) h.1 (freed-stays h.0) s)
+out own other new TellAgain f h s = subst (GoesTo own) (sym h.3) (goes-staying own h.0 (told_again h.0) h.1 (told_again-stays h.0) s)
 
 -- and at the end that takes
 
@@ -164,13 +167,15 @@ into own other new (Emit now) come f h g =
     subst (GetsTo (come ++ [])) (sym h.2) (gets-more come [] own.events (Some p) (gone_on between) (inl (k.seen, k.untaken)) (with-peer come own (Some p) h.1 g))
 into own other new (Come put now sent) come f h g =
     let p : Peering = h.0 in
-    let b = coming own p put now sent h.1 f in
-    subst (GetsTo (come ++ carried put.message)) (sym h.3) (gets-more come (carried put.message) own.events (Some p) (obeyed p now sent put.message).after b.comes (with-peer come own (Some p) h.1 g))
+    let b = coming own h.3 p put now sent h.1 f in
+    subst (GetsTo (come ++ carried put.message)) (sym h.4) (gets-more come (carried put.message) own.events (Some p) (heeded h.3 p now sent put.message).after b.comes (with-peer come own (Some p) h.1 g))
 into own other new (Tick now) come f h g = subst (GetsTo (come ++ [])) (sym h.3) (gets-staying come own h.0 (moved h.2 h.0 now) h.1 (moved-stays h.2 h.0 now) g)
 into own other new Take come f h g =
     subst (GetsTo (come ++ [])) (sym h.5) (subst (λ l. Gets l (own.events ++ h.2 ∷ []) (Some h.1)) (sym (append-nil come)) (gets-took come own.events h.0 h.1 h.2 h.4 (with-peer come own (Some h.0) h.3 g)))
 into own other new (Disconnect way info) come f h g = subst (GetsTo (come ++ [])) (sym h.4) (gets-staying come own h.0 h.1 h.2 (left-stays h.0 h.1 way info h.3) g)
 into own other new (Set setting) come f h g = subst (GetsTo (come ++ [])) (sym h.3) (gets-staying come own h.0 (with_setting setting h.0) h.1 (set-stays h.0 setting) g)
+into own other new GiveWay come f h g = subst (GetsTo (come ++ [])) (sym h.3) (gets-staying come own h.0 (freed h.0) h.1 (freed-stays h.0) g)
+into own other new TellAgain come f h g = subst (GetsTo (come ++ [])) (sym h.3) (gets-staying come own h.0 (told_again h.0) h.1 (told_again-stays h.0) g)
 
 -- what comes was put out by the other end
 comes-of : (own other new : End) (e : Event) → Happens own other e new → (u : Unsequenced) → Has (come_by e) u → (x : Put) × Has other.log x × Has (carried x.message) u
@@ -182,6 +187,8 @@ comes-of own other new (Tick now) h u c = absurd c
 comes-of own other new Take h u c = absurd c
 comes-of own other new (Disconnect way info) h u c = absurd c
 comes-of own other new (Set setting) h u c = absurd c
+comes-of own other new GiveWay h u c = absurd c
+comes-of own other new TellAgain h u c = absurd c
 
 -- an event at the end that sends, and one at the end that takes
 

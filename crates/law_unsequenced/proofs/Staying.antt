@@ -42,6 +42,7 @@ use Rattle.enet_peer.specs.declared.parts.PeerState.{PeerState}
 use Rattle.enet_peer.specs.declared.parts.PeerState.TheVariants as state
 use Rattle.enet_peer.specs.Endings.{ended, freed, disconnecting, parting, settled, is_later, cut_off_in}
 use Rattle.enet_peer.specs.CommandEffect.{Outcome, answered, answered_at, is_answered_in, is_allowed, obeyed, unless_refused, by_body, by_answer, by_arrival, on_data, stopped, sampled, with_answer, on_match, accepted, is_connecting, on_acknowledge, welcomed, on_verify_in, on_last_disconnect, on_disconnect_in, on_bandwidth, on_throttle}
+use Rattle.enet_peer.specs.Refusing.{confirms, heeded, told_again, told_full, turned_away}
 use Rattle.enet_peer.proofs.Obeying.{unless-holds, unwelcomed-holds}
 use Rattle.enet_peer.specs.Calls.{left, after_timeouts, after_timeouts_by, expiry_of, held_back, is_held_back, is_pinged, moved, ticked, is_connected, gone_on, gone_on_in}
 use Rattle.law_connection.proofs.GivingWay.{sequenced-given_up}
@@ -446,3 +447,18 @@ obeyed-becomes p h now sent body flat = by body
     by (send_unreliable n payload) = if-allowed (send_unreliable n payload) (data-becomes p (message (send_unreliable n payload)) sent flat)
     by (send_fragment f payload) = if-allowed (send_fragment f payload) (data-becomes p (message (send_fragment f payload)) sent flat)
     by (send_unreliable_fragment f payload) = if-allowed (send_unreliable_fragment f payload) (data-becomes p (message (send_unreliable_fragment f payload)) sent flat)
+
+-- a command comes to a host that may be full
+pub heeded-becomes : (full : Bool) (p : Peering) (now : ℕ) (sent : Option ℕ) (m : Message) → AreSequencedIn p.inbox
+    → Becomes (is_young p.state) (carried m) (core p) (core (heeded full p now sent m).after)
+heeded-becomes full p now sent m flat =
+    if-outcome (λ q. Becomes (is_young p.state) (carried m) (core p) (core q)) (full && confirms p m) (record { stop = None; after = turned_away p }) (obeyed p now sent m)
+    (becomes (is_young p.state) (carried m) (core p) (core p) (stays (core p))) (obeyed-becomes p m.head now sent m.body flat)
+
+-- a peer is let go
+pub freed-stays : (p : Peering) → StaysAt p (freed p)
+freed-stays p = stays-forgotten (core p)
+
+-- one that was refused is told so again
+pub told_again-stays : (p : Peering) → StaysAt p (told_again p)
+told_again-stays p = if-peer (StaysAt p) (ltb 0 (length p.outbox.control.queued)) p (told_full p) (stays (core p)) (stays (core p))
