@@ -1,5 +1,5 @@
 -- An attempt to connect or to disconnect is about one command of channel 0xFF, which goes again and again until patience is over.
-use Rattle.std.proofs.Common.{◌≡◌, ℕ, zero, suc, ◌+◌, ◌*◌, ◌%◌, ◌^◌, ◌<◌, ◌≤◌, ◌&&◌, ◌||◌, ◌==◌, not, eqb, leb, ltb, max, min, Bool, true, false, cond, List, [], ◌∷◌, ◌++◌, map, refl, sym, ap, subst, ◌∙◌, inl, inr, ◌⊎◌, arith, Option, Some, None, is_some}
+use Rattle.std.proofs.Common.{◌≡◌, ℕ, zero, suc, ◌+◌, ◌-◌, ◌*◌, ◌%◌, ◌^◌, ◌<◌, ◌≤◌, ◌&&◌, ◌||◌, ◌==◌, not, eqb, leb, ltb, nat_lt, max, min, Bool, true, false, cond, List, [], ◌∷◌, ◌++◌, length, map, refl, sym, ap, subst, ◌∙◌, inl, inr, ◌⊎◌, arith, Option, Some, None, is_some}
 use Rattle.std.specs.List.{position, slice_get, slice_set, list_any, range_with_len}
 use Rattle.enet_codec.specs.declared.packet.Packet.{Packet}
 use Rattle.enet_codec.specs.declared.command.Verify.{Verify}
@@ -26,6 +26,7 @@ use Rattle.enet_senders.specs.declared.control.SentControl.{SentControl}
 use Rattle.enet_sender.specs.declared.sent.Sent.{Sent}
 use Rattle.enet_sender.specs.Sender as sender
 use Rattle.enet_sender.specs.Due.{SendingEnd, new_end}
+use Rattle.enet_outbox.specs.declared.parts.Matched.{Matched}
 use Rattle.enet_outbox.specs.declared.parts.Matched.TheVariants as matched
 use Rattle.enet_outbox.specs.declared.parts.Pace.{Pace}
 use Rattle.enet_outbox.specs.Outbox.{Outbox, matched_by, matched_on, as_data, has_late, marked_sender, cleared_sender}
@@ -39,11 +40,13 @@ use Rattle.enet_peer.specs.declared.parts.Offsets.{Offsets}
 use Rattle.enet_peer.specs.Peering.{Peering, connecting, answering}
 use Rattle.enet_peer.specs.Endings.{settled, disconnecting, cut_off_in, is_later}
 use Rattle.enet_peer.proofs.Obeying.{unless-holds, unwelcomed-holds}
+use Rattle.enet_peer.proofs.Refusals.{heeded-holds, is-answering}
+use Rattle.enet_peer.specs.Refusing.{is_turned_away, told_full, turned_away}
 use Rattle.enet_peer.specs.CommandEffect.{Outcome, obeyed, unless_refused, stopped, is_allowed, is_of_handshake, is_connect, by_body, answered, answered_at, is_answered_in, on_acknowledge, on_match, acknowledged, with_answer, on_verify_in, welcomed, on_disconnect_in}
 use Rattle.enet_peer.specs.Calls.{pace_of, gone_on, gone_on_in, held_back, moved, ticked, pinged, after_timeouts_by, tick_of, growth_bound, is_waiting_for, is_connected, is_answering, next_event, event_after, packet_event, last_event}
-use Rattle.law_progress.specs.Attempts.{Step, Hears, PutsOut, Takes, after_step, after_take, Stays, Turn, Turns, last_of, LastsAtMost}
-use Rattle.law_progress.proofs.Moving.{Lasting, by-expiry, by-moved}
-use Rattle.law_progress.proofs.Timed.{Timed, timed-begun, timed-again, timed-marked}
+use Rattle.law_progress.specs.Attempts.{Step, Hears, TellsAgain, PutsOut, Takes, after_step, after_take, Stays, Turn, Turns, last_of, LastsAtMost}
+use Rattle.law_progress.proofs.Moving.{Lasting, and-both, by-expiry, by-moved}
+use Rattle.law_progress.proofs.Timed.{Timed, elapsed-is, lt-of, timed-begun, timed-again, timed-marked}
 use Rattle.law_progress.proofs.NothingLeft.{nothing-left}
 use Rattle.law_progress.proofs.SomethingGoes.{none-due}
 
@@ -98,11 +101,13 @@ empty-new : (from n : ℕ) → AreEmpty (map new_end (range_with_len from n))
 empty-new from zero = tt
 empty-new from (suc n) = (refl, refl, empty-new (from + 1) n)
 
--- what an attempt is about, when it first went, and what the peer keeps meanwhile: its patience, its estimate, when it last heard, and for
--- how many channels it asked
+-- what an attempt is about, when the peer was made and when it first went, and what the peer keeps meanwhile: its patience, its estimate,
+-- when it last heard, and for how many channels it asked. It is watched where the clock doesn't come round from when the peer was made on
 pub record Attempt : Type 0 where
   pub kind : Kind
   pub command : Numbered
+  pub watched : Bool
+  pub made : ℕ
   pub first : ℕ
   pub patience : Patience
   pub estimate : Estimate
@@ -125,12 +130,20 @@ tick_at a now = record { now = now % 2 ^ 32; heard = a.heard; bound = bound_of a
 abbrev pub is_past : Kind → ℕ → Transmission → Bool
 is_past k n t = is_answering (state_of k) && leb 7500 (elapsed_time n t.first)
 
+-- a server's wait for its client isn't over, and won't be when the clock comes round
+pub record Soon (a : Attempt) (gap now : ℕ) : Type 0 where
+  pub made : a.made ≤ a.first
+  pub begun : a.first ≤ now
+  pub soon : now < a.first + 7500
+  pub near : a.first + 7500 + gap < a.made + 2 ^ 32
+
 -- what is said of how a command goes again and again, from its first send on, moment by moment
 pub record Course (G : ℕ → Transmission → Type 0) (a : Attempt) (gap : ℕ) : Type 0 where
   pub begins : G a.first (transmission.begun (a.first % 2 ^ 32) (wait_of a))
   pub again : (now : ℕ) (t : Transmission) → G now t → t.due ≡ true → G now (transmission.again (now % 2 ^ 32) t)
   pub marks : (before now : ℕ) (t : Transmission) → G before t → t.due ≡ false → before ≤ now → now ≤ before + gap → transmission.ends (now % 2 ^ 32) a.patience a.heard t ≡ false
       → is_past a.kind (now % 2 ^ 32) t ≡ false → G now (transmission.marked (tick_at a now) t)
+  pub soon : (now : ℕ) (t : Transmission) → G now t → is_answering (state_of a.kind) ≡ true → a.watched ≡ true → Soon a gap now
 
 -- by now the command went, and goes on so
 abbrev Went : (ℕ → Transmission → Type 0) → Attempt → ℕ → SentControl → Type 0
@@ -220,6 +233,10 @@ kept-filled pace o R goes empty r = by-filling pace o (Kept R) (record {
   gives_room = λ f i x n there due g. g;
 }) (empty, r)
 
+-- a server's peer was made at this moment, and isn't refused
+abbrev IsFresh : Kind → Bool → ℕ → Peering → Type 0
+IsFresh k watched made p = is_answering (state_of k) ≡ true → (p.refused ≡ false) × (watched ≡ true → p.made ≡ made % 2 ^ 32)
+
 -- what a peer keeps at a moment while the attempt lasts
 record Lasts (G : ℕ → Transmission → Type 0) (a : Attempt) (now : ℕ) (p : Peering) : Type 0 where
   state : p.state ≡ state_of a.kind
@@ -228,7 +245,20 @@ record Lasts (G : ℕ → Transmission → Type 0) (a : Attempt) (now : ℕ) (p 
   estimate : p.estimate ≡ a.estimate
   heard : p.heard ≡ a.heard
   channels : p.offer.channels ≡ a.channels
+  fresh : IsFresh a.kind a.watched a.made p
   shape : Shape G a now p.outbox.control
+
+-- a server's peer was refused, and still waits
+record Refused (a : Attempt) (gap now : ℕ) (p : Peering) : Type 0 where
+  state : p.state ≡ state_of a.kind
+  answers : is_answering (state_of a.kind) ≡ true
+  refused : p.refused ≡ true
+  made : a.watched ≡ true → p.made ≡ a.made % 2 ^ 32
+  soon : a.watched ≡ true → Soon a gap now
+
+-- the attempt lasts, or the peer was refused
+abbrev Waits : (ℕ → Transmission → Type 0) → Attempt → ℕ → ℕ → Peering → Type 0
+Waits G a gap now p = Lasts G a now p ⊎ Refused a gap now p
 
 -- as much of it as a command that comes may change
 record Same (p q : Peering) : Type 0 where
@@ -238,6 +268,8 @@ record Same (p q : Peering) : Type 0 where
   estimate : q.estimate ≡ p.estimate
   heard : q.heard ≡ p.heard
   offer : q.offer ≡ p.offer
+  refused : q.refused ≡ p.refused
+  made : q.made ≡ p.made
 
 same-lasts : (G : ℕ → Transmission → Type 0) (a : Attempt) (now : ℕ) (p q : Peering) → Same p q → q.state ≡ state_of a.kind → Lasts G a now p → Lasts G a now q
 same-lasts G a now p q s e l = record {
@@ -247,11 +279,12 @@ same-lasts G a now p q s e l = record {
   estimate = s.estimate ∙ l.estimate;
   heard = s.heard ∙ l.heard;
   channels = ap (λ (o : Offer). o.channels) s.offer ∙ l.channels;
+  fresh = λ answers. (let f = l.fresh answers in (s.refused ∙ f.0, λ watched. s.made ∙ f.1 watched));
   shape = subst (λ (c : Commands). Shape G a now c) (sym s.control) l.shape;
 }
 
 same-self : (p : Peering) → Same p p
-same-self p = record { control = refl; senders = refl; patience = refl; estimate = refl; heard = refl; offer = refl }
+same-self p = record { control = refl; senders = refl; patience = refl; estimate = refl; heard = refl; offer = refl; refused = refl; made = refl }
 
 -- an acknowledgement that waits changes nothing of it
 answered-same : (p e : Peering) (m : Message) (sent : Option ℕ) → Same p e → Same p (answered e m sent true).after
@@ -260,7 +293,7 @@ answered-same p e m sent k = go (m.head.acknowledge && true && is_answered_in e.
     go : (b : Bool) (o : Option ℕ) → Same p (cond b (answered_at e m.head o) (record { stop = None; after = e })).after
     go false o = k
     go true None = k
-    go true (Some time) = record { control = k.control; senders = k.senders; patience = k.patience; estimate = k.estimate; heard = k.heard; offer = k.offer }
+    go true (Some time) = record { control = k.control; senders = k.senders; patience = k.patience; estimate = k.estimate; heard = k.heard; offer = k.offer; refused = k.refused; made = k.made }
 
 answered-state : (e : Peering) (m : Message) (sent : Option ℕ) (s : PeerState) → (answered e m sent true).after.state ≡ s → e.state ≡ s
 answered-state e m sent s = go (m.head.acknowledge && true && is_answered_in e.state m.body) sent
@@ -326,7 +359,7 @@ abbrev pub in_state : Kind → Peering → Peering
 in_state k p = record p { state = state_of k }
 
 same-in : (k : Kind) (p : Peering) → Same p (in_state k p)
-same-in k p = record { control = refl; senders = refl; patience = refl; estimate = refl; heard = refl; offer = refl }
+same-in k p = record { control = refl; senders = refl; patience = refl; estimate = refl; heard = refl; offer = refl; refused = refl; made = refl }
 
 -- an acknowledgement
 acknowledgement-stands : (G : ℕ → Transmission → Type 0) (a : Attempt) (now moment channel number told : ℕ) (p : Peering) → AreEmpty p.outbox.senders → Shape G a now p.outbox.control → (k : Kind) → is_about k a.command.control ≡ true
@@ -370,40 +403,88 @@ handshake-alone Asks b = refl
 handshake-alone Answers b = refl
 handshake-alone Leaves b = refl
 
--- any command
-hears-stands : (G : ℕ → Transmission → Type 0) (a : Attempt) (now moment : ℕ) (sent : Option ℕ) (m : Message) (p : Peering) → AreEmpty p.outbox.senders → Shape G a now p.outbox.control → (k : Kind) → is_about k a.command.control ≡ true
-    → Stands k p (obeyed (in_state k p) moment sent m).after
-hears-stands G a now moment sent m p empty shape k about = by m.body
+-- any command: what holds of the peer, of it once a command of the handshake took effect, and of one with an acknowledgement more
+hears-holds : (P : Peering → Type 0) (k : Kind) (p : Peering) (moment : ℕ) (sent : Option ℕ) (m : Message) → P (in_state k p)
+    → ((e : Peering) → P e → P (answered e m sent true).after)
+    → ((number told : ℕ) → P (on_acknowledge (in_state k p) moment m.head.channel number told))
+    → ((v : Verify) → P (on_verify_in (state_of k) (in_state k p) v))
+    → ((answerable : Bool) (info : ℕ) → P (on_disconnect_in (state_of k) (in_state k p) answerable info))
+    → P (obeyed (in_state k p) moment sent m).after
+hears-holds P k p moment sent m same answers acknowledges verifies disconnects = by m.body
   where
     old : Peering
     old = in_state k p
 
-    answers : (e : Peering) → Stands k p e → Stands k p (answered e m sent true).after
-    answers e h = λ t. answered-same p e m sent (h (answered-state e m sent (state_of k) t))
-
     effect : Body → Outcome
     effect b = unless_refused old m (by_body old moment sent m b)
 
-    allowed : (b : Body) → Stands k p (cond (is_of_handshake b) (by_body old moment sent m b) (stopped old stop.NotConnected)).after → Stands k p (cond (is_allowed (state_of k) b) (effect b) (stopped old stop.NotConnected)).after
-    allowed b h = subst (λ x. Stands k p (cond x (effect b) (stopped old stop.NotConnected)).after) (sym (handshake-alone k b)) (inner (is_of_handshake b) h)
+    allowed : (b : Body) → P (cond (is_of_handshake b) (by_body old moment sent m b) (stopped old stop.NotConnected)).after → P (cond (is_allowed (state_of k) b) (effect b) (stopped old stop.NotConnected)).after
+    allowed b h = subst (λ x. P (cond x (effect b) (stopped old stop.NotConnected)).after) (sym (handshake-alone k b)) (inner (is_of_handshake b) h)
       where
-        inner : (x : Bool) → Stands k p (cond x (by_body old moment sent m b) (stopped old stop.NotConnected)).after → Stands k p (cond x (effect b) (stopped old stop.NotConnected)).after
-        inner true h = unless-holds (Stands k p) old m (by_body old moment sent m b) (λ h. same-in k p) h
+        inner : (x : Bool) → P (cond x (by_body old moment sent m b) (stopped old stop.NotConnected)).after → P (cond x (effect b) (stopped old stop.NotConnected)).after
+        inner true h = unless-holds P old m (by_body old moment sent m b) same h
         inner false h = h
 
-    by : (b : Body) → Stands k p (cond (is_connect b) (stopped old stop.BadCommand) (cond (is_allowed (state_of k) b) (effect b) (stopped old stop.NotConnected))).after
-    by (acknowledge number time) = allowed (acknowledge number time) (answers (on_acknowledge old moment m.head.channel number time) (acknowledgement-stands G a now moment m.head.channel number time p empty shape k about))
-    by (connect offer) = λ h. same-in k p
-    by (verify_connect v) = allowed (verify_connect v) (answers (on_verify_in (state_of k) old v) (verify-stands k p v))
-    by (disconnect info) = allowed (disconnect info) (answers (on_disconnect_in (state_of k) old (m.head.acknowledge && is_some sent) info) (disconnect-stands k p (m.head.acknowledge && is_some sent) info))
-    by ping = allowed ping (λ h. same-in k p)
-    by (send_reliable payload) = allowed (send_reliable payload) (λ h. same-in k p)
-    by (send_unreliable number payload) = allowed (send_unreliable number payload) (λ h. same-in k p)
-    by (send_fragment fragment payload) = allowed (send_fragment fragment payload) (λ h. same-in k p)
-    by (send_unsequenced group payload) = allowed (send_unsequenced group payload) (λ h. same-in k p)
-    by (send_unreliable_fragment fragment payload) = allowed (send_unreliable_fragment fragment payload) (λ h. same-in k p)
-    by (bandwidth_limit incoming outgoing) = allowed (bandwidth_limit incoming outgoing) (λ h. same-in k p)
-    by (throttle_configure interval acceleration deceleration) = allowed (throttle_configure interval acceleration deceleration) (λ h. same-in k p)
+    by : (b : Body) → P (cond (is_connect b) (stopped old stop.BadCommand) (cond (is_allowed (state_of k) b) (effect b) (stopped old stop.NotConnected))).after
+    by (acknowledge number time) = allowed (acknowledge number time) (answers (on_acknowledge old moment m.head.channel number time) (acknowledges number time))
+    by (connect offer) = same
+    by (verify_connect v) = allowed (verify_connect v) (answers (on_verify_in (state_of k) old v) (verifies v))
+    by (disconnect info) = allowed (disconnect info) (answers (on_disconnect_in (state_of k) old (m.head.acknowledge && is_some sent) info) (disconnects (m.head.acknowledge && is_some sent) info))
+    by ping = allowed ping same
+    by (send_reliable payload) = allowed (send_reliable payload) same
+    by (send_unreliable number payload) = allowed (send_unreliable number payload) same
+    by (send_fragment fragment payload) = allowed (send_fragment fragment payload) same
+    by (send_unsequenced group payload) = allowed (send_unsequenced group payload) same
+    by (send_unreliable_fragment fragment payload) = allowed (send_unreliable_fragment fragment payload) same
+    by (bandwidth_limit incoming outgoing) = allowed (bandwidth_limit incoming outgoing) same
+    by (throttle_configure interval acceleration deceleration) = allowed (throttle_configure interval acceleration deceleration) same
+
+hears-stands : (G : ℕ → Transmission → Type 0) (a : Attempt) (now moment : ℕ) (sent : Option ℕ) (m : Message) (p : Peering) → AreEmpty p.outbox.senders → Shape G a now p.outbox.control → (k : Kind) → is_about k a.command.control ≡ true
+    → Stands k p (obeyed (in_state k p) moment sent m).after
+hears-stands G a now moment sent m p empty shape k about =
+    hears-holds (Stands k p) k p moment sent m (λ h. same-in k p)
+    (λ e h t. answered-same p e m sent (h (answered-state e m sent (state_of k) t)))
+    (λ number told. acknowledgement-stands G a now moment m.head.channel number told p empty shape k about)
+    (λ v. verify-stands k p v)
+    (λ answerable info. disconnect-stands k p answerable info)
+
+-- one that was refused stays so, whatever comes, and was made when it was made
+abbrev StaysRefused : Peering → Peering → Type 0
+StaysRefused p e = e.state ≡ state.Answering → (e.refused ≡ p.refused) × (e.made ≡ p.made)
+
+answered-refused : (p e : Peering) (m : Message) (sent : Option ℕ) → StaysRefused p e → StaysRefused p (answered e m sent true).after
+answered-refused p e m sent k = go (m.head.acknowledge && true && is_answered_in e.state m.body) sent
+  where
+    go : (b : Bool) (o : Option ℕ) → StaysRefused p (cond b (answered_at e m.head o) (record { stop = None; after = e })).after
+    go false o = k
+    go true None = k
+    go true (Some time) = k
+
+acknowledgement-refused : (p : Peering) (moment channel number told : ℕ) → StaysRefused p (on_acknowledge (in_state Answers p) moment channel number told)
+acknowledgement-refused p moment channel number told = by (matched_by p.outbox channel number (meant_time told (p.offset % 2 ^ 16)))
+  where
+    old : Peering
+    old = in_state Answers p
+
+    gone : Peering
+    gone = acknowledged old moment channel number (meant_time told (p.offset % 2 ^ 16))
+
+    by-control : (x : Control) → StaysRefused p (settled (with_answer state.Answering x gone))
+    by-control (control.VerifyConnect verify) = λ h. absurd (cc)
+    by-control x = λ h. (refl, refl)
+
+    by : (x : Matched) → StaysRefused p (on_match x old gone)
+    by matched.Nothing = λ h. (refl, refl)
+    by matched.Data = λ h. (refl, refl)
+    by (matched.Control x) = by-control x
+
+hears-refused : (p : Peering) (moment : ℕ) (sent : Option ℕ) (m : Message) → StaysRefused p (obeyed (in_state Answers p) moment sent m).after
+hears-refused p moment sent m =
+    hears-holds (StaysRefused p) Answers p moment sent m (λ h. (refl, refl))
+    (λ e h. answered-refused p e m sent h)
+    (λ number told. acknowledgement-refused p moment m.head.channel number told)
+    (λ v h. (refl, refl))
+    (λ answerable info h. absurd (cc))
 
 -- the user takes an event
 takes-same : (k : Kind) (p : Peering) → Same p (after_take (in_state k p) (next_event (in_state k p)))
@@ -419,10 +500,10 @@ takes-same k p = by p.greeting
 
     packets : (untaken : List Packet) → Same p (after_take old (packet_event old untaken))
     packets [] = last k
-    packets (q ∷ rest) = record { control = refl; senders = refl; patience = refl; estimate = refl; heard = refl; offer = refl }
+    packets (q ∷ rest) = record { control = refl; senders = refl; patience = refl; estimate = refl; heard = refl; offer = refl; refused = refl; made = refl }
 
     by : (greeting : Option ℕ) → Same p (after_take old (event_after old greeting))
-    by (Some info) = record { control = refl; senders = refl; patience = refl; estimate = refl; heard = refl; offer = refl }
+    by (Some info) = record { control = refl; senders = refl; patience = refl; estimate = refl; heard = refl; offer = refl; refused = refl; made = refl }
     by None = packets p.inbox.untaken
 
 -- a datagram is put out, which ends nothing here
@@ -444,31 +525,97 @@ puts-lasts G a k0 now p l =
     let f = filled (pace_of p (now % 2 ^ 32)) p.outbox in
     let q : Peering = record p { outbox = f.outbox } in
     let k = puts-kept G a now (λ c. Shape G a now c) p (λ c n e h. shape-next G a k0 now c n e h) l l.shape in
-    subst (λ (x : Peering). Lasts G a now x) (sym (waits-on a.kind q l.state)) (record { state = l.state; empty = k.0; patience = l.patience; estimate = l.estimate; heard = l.heard; channels = l.channels; shape = k.1 })
+    subst (λ (x : Peering). Lasts G a now x) (sym (waits-on a.kind q l.state)) (record { state = l.state; empty = k.0; patience = l.patience; estimate = l.estimate; heard = l.heard; channels = l.channels; fresh = l.fresh; shape = k.1 })
+
+puts-refused : (a : Attempt) (gap now moment : ℕ) (p : Peering) → Refused a gap now p → Refused a gap now (after_step moment p PutsOut)
+puts-refused a gap now moment p r =
+    let q : Peering = record p { outbox = (filled (pace_of p moment) p.outbox).outbox } in
+    subst (λ (x : Peering). Refused a gap now x) (sym (waits-on a.kind q r.state)) (record { state = r.state; answers = r.answers; refused = r.refused; made = r.made; soon = r.soon })
+
+-- while the command is queued or sent, it is soon
+shape-soon : (G : ℕ → Transmission → Type 0) (a : Attempt) (gap : ℕ) → Course G a gap → (now : ℕ) (c : Commands) → is_answering (state_of a.kind) ≡ true → a.watched ≡ true → Shape G a now c → Soon a gap now
+shape-soon G a gap k0 now c answers watched (inl q) = subst (λ (n : ℕ). Soon a gap n) (sym q.2) (k0.soon a.first (transmission.begun (a.first % 2 ^ 32) (wait_of a)) k0.begins answers watched)
+shape-soon G a gap k0 now c answers watched (inr (t, none, sent, w)) = k0.soon now t.transmission w.1 answers watched
+
+-- the host is full, and refuses the peer
+turned-away : (G : ℕ → Transmission → Type 0) (a : Attempt) (gap : ℕ) → Course G a gap → (now : ℕ) (p : Peering) → is_answering p.state ≡ true → Lasts G a now p → Refused a gap now (turned_away p)
+turned-away G a gap k0 now p answers l =
+    let here : is_answering (state_of a.kind) ≡ true = sym (ap is_answering l.state) ∙ answers in
+    let f = l.fresh here in
+    record { state = l.state; answers = here; refused = refl; made = f.1; soon = λ watched. shape-soon G a gap k0 now p.outbox.control here watched l.shape }
 
 -- a step keeps what holds while the attempt lasts
-step-lasts : (G : ℕ → Transmission → Type 0) (a : Attempt) {gap : ℕ} (k0 : Course G a gap) (now : ℕ) (p : Peering) (step : Step) → Lasts G a now p → (after_step (now % 2 ^ 32) p step).state ≡ state_of a.kind → Lasts G a now (after_step (now % 2 ^ 32) p step)
-step-lasts G a k0 now p step l e = by step e
+step-lasts : (G : ℕ → Transmission → Type 0) (a : Attempt) (gap : ℕ) → Course G a gap → (now : ℕ) (p : Peering) (step : Step) → Lasts G a now p → (after_step (now % 2 ^ 32) p step).state ≡ state_of a.kind → Waits G a gap now (after_step (now % 2 ^ 32) p step)
+step-lasts G a gap k0 now p step l e = by step e
   where
+    n : ℕ
+    n = now % 2 ^ 32
+
     at : in_state a.kind p ≡ p
     at = ap (λ s. record p { state = s }) (sym l.state)
 
-    by : (step : Step) → (after_step (now % 2 ^ 32) p step).state ≡ state_of a.kind → Lasts G a now (after_step (now % 2 ^ 32) p step)
-    by (Hears sent m) h =
-        let stands : Stands a.kind p (obeyed p (now % 2 ^ 32) sent m).after = subst (λ (x : Peering). Stands a.kind p (obeyed x (now % 2 ^ 32) sent m).after) at (hears-stands G a now (now % 2 ^ 32) sent m p l.empty l.shape a.kind a.about) in
-        same-lasts G a now p (obeyed p (now % 2 ^ 32) sent m).after (stands h) h l
-    by PutsOut h = puts-lasts G a k0 now p l
-    by Takes h = same-lasts G a now p (after_take p (next_event p)) (subst (λ (x : Peering). Same p (after_take x (next_event x))) at (takes-same a.kind p)) h l
+    again : (b c : Bool) → is_turned_away p ≡ b → (cond b (cond c p (told_full p)) p).state ≡ state_of a.kind → Waits G a gap now (cond b (cond c p (told_full p)) p)
+    again false c away h = inl l
+    again true c away h =
+        let both = and-both (is_answering p.state) p.refused away in
+        let f = l.fresh (sym (ap is_answering l.state) ∙ both.0) in
+        absurd (let x : true ≡ false = sym both.1 ∙ f.0 in cc)
+
+    by : (step : Step) → (after_step n p step).state ≡ state_of a.kind → Waits G a gap now (after_step n p step)
+    by (Hears full sent m) h =
+        heeded-holds (λ (o : Outcome). o.after.state ≡ state_of a.kind → Waits G a gap now o.after) full p n sent m
+        (λ h. (let stands : Stands a.kind p (obeyed p n sent m).after = subst (λ (x : Peering). Stands a.kind p (obeyed x n sent m).after) at (hears-stands G a now n sent m p l.empty l.shape a.kind a.about) in
+        inl (same-lasts G a now p (obeyed p n sent m).after (stands h) h l)))
+        (λ answers h. inr (turned-away G a gap k0 now p answers l)) h
+    by TellsAgain h = again (is_turned_away p) (nat_lt 0 (length p.outbox.control.queued)) refl h
+    by PutsOut h = inl (puts-lasts G a k0 now p l)
+    by Takes h = inl (same-lasts G a now p (after_take p (next_event p)) (subst (λ (x : Peering). Same p (after_take x (next_event x))) at (takes-same a.kind p)) h l)
+
+-- and of one that was refused
+step-refused : (a : Attempt) (gap now moment : ℕ) (p : Peering) (step : Step) → Refused a gap now p → (after_step moment p step).state ≡ state_of a.kind → Refused a gap now (after_step moment p step)
+step-refused a gap now moment p step r e = by step e
+  where
+    at : in_state a.kind p ≡ p
+    at = ap (λ s. record p { state = s }) (sym r.state)
+
+    answering : state_of a.kind ≡ state.Answering
+    answering = is-answering (state_of a.kind) r.answers
+
+    waits : in_state Answers p ≡ p
+    waits = ap (λ s. record p { state = s }) (sym (r.state ∙ answering))
+
+    stays : (q : Peering) → StaysRefused p q → q.state ≡ state_of a.kind → Refused a gap now q
+    stays q s h = let k = s (h ∙ answering) in record { state = h; answers = r.answers; refused = k.0 ∙ r.refused; made = λ watched. k.1 ∙ r.made watched; soon = r.soon }
+
+    again : (b c : Bool) → Refused a gap now (cond b (cond c p (told_full p)) p)
+    again false c = r
+    again true true = r
+    again true false = record { state = r.state; answers = r.answers; refused = r.refused; made = r.made; soon = r.soon }
+
+    by : (step : Step) → (after_step moment p step).state ≡ state_of a.kind → Refused a gap now (after_step moment p step)
+    by (Hears full sent m) h =
+        heeded-holds (λ (o : Outcome). o.after.state ≡ state_of a.kind → Refused a gap now o.after) full p moment sent m
+        (λ h. stays (obeyed p moment sent m).after (subst (λ (x : Peering). StaysRefused p (obeyed x moment sent m).after) waits (hears-refused p moment sent m)) h)
+        (λ answers h. record { state = r.state; answers = r.answers; refused = refl; made = r.made; soon = r.soon }) h
+    by TellsAgain h = again (is_turned_away p) (nat_lt 0 (length p.outbox.control.queued))
+    by PutsOut h = puts-refused a gap now moment p r
+    by Takes h =
+        let s : Same p (after_take p (next_event p)) = subst (λ (x : Peering). Same p (after_take x (next_event x))) at (takes-same a.kind p) in
+        stays (after_take p (next_event p)) (λ answers. (s.refused, s.made)) h
+
+step-waits : (G : ℕ → Transmission → Type 0) (a : Attempt) (gap : ℕ) → Course G a gap → (now : ℕ) (p : Peering) (step : Step) → Waits G a gap now p → (after_step (now % 2 ^ 32) p step).state ≡ state_of a.kind → Waits G a gap now (after_step (now % 2 ^ 32) p step)
+step-waits G a gap k0 now p step (inl l) e = step-lasts G a gap k0 now p step l e
+step-waits G a gap k0 now p step (inr r) e = inr (step-refused a gap now (now % 2 ^ 32) p step r e)
 
 stays-state : (s : PeerState) (moment : ℕ) (steps : List Step) (p q : Peering) → Stays s moment steps p q → p.state ≡ s
 stays-state s moment [] p q h = h.0
 stays-state s moment (step ∷ steps) p q h = h.0
 
-stays-lasts : (G : ℕ → Transmission → Type 0) (a : Attempt) {gap : ℕ} (k0 : Course G a gap) (now : ℕ) (steps : List Step) (p q : Peering) → Lasts G a now p → Stays (state_of a.kind) (now % 2 ^ 32) steps p q → Lasts G a now q
-stays-lasts G a k0 now [] p q l h = subst (λ (x : Peering). Lasts G a now x) h.1 l
-stays-lasts G a k0 now (step ∷ steps) p q l h =
+stays-waits : (G : ℕ → Transmission → Type 0) (a : Attempt) (gap : ℕ) → Course G a gap → (now : ℕ) (steps : List Step) (p q : Peering) → Waits G a gap now p → Stays (state_of a.kind) (now % 2 ^ 32) steps p q → Waits G a gap now q
+stays-waits G a gap k0 now [] p q l h = subst (λ (x : Peering). Waits G a gap now x) h.1 l
+stays-waits G a gap k0 now (step ∷ steps) p q l h =
     let r = after_step (now % 2 ^ 32) p step in
-    stays-lasts G a k0 now steps r q (step-lasts G a k0 now p step l (stays-state (state_of a.kind) (now % 2 ^ 32) steps r q h.1)) h.1
+    stays-waits G a gap k0 now steps r q (step-waits G a gap k0 now p step l (stays-state (state_of a.kind) (now % 2 ^ 32) steps r q h.1)) h.1
 
 -- a moment comes
 or-left : (x y : Bool) → (x || y) ≡ false → x ≡ false
@@ -494,9 +641,9 @@ record Marked (G : ℕ → Transmission → Type 0) (a : Attempt) (now : ℕ) (p
   held : Lasting p (now % 2 ^ 32) → Shape G a now (controlling.with_held_back (tick_at a now) p.outbox.control)
   rests : Lasting p (now % 2 ^ 32) → has_late p.outbox (now % 2 ^ 32) ≡ false → Shape G a now p.outbox.control
 
-moved-lasts : (G : ℕ → Transmission → Type 0) (a : Attempt) (now : ℕ) (short : Bool) (p : Peering) → p.state ≡ state_of a.kind → AreEmpty p.outbox.senders → p.patience ≡ a.patience → p.estimate ≡ a.estimate → p.heard ≡ a.heard → p.offer.channels ≡ a.channels → Marked G a now p
+moved-lasts : (G : ℕ → Transmission → Type 0) (a : Attempt) (now : ℕ) (short : Bool) (p : Peering) → p.state ≡ state_of a.kind → AreEmpty p.outbox.senders → p.patience ≡ a.patience → p.estimate ≡ a.estimate → p.heard ≡ a.heard → p.offer.channels ≡ a.channels → IsFresh a.kind a.watched a.made p → Marked G a now p
     → (moved short p (now % 2 ^ 32)).state ≡ state_of a.kind → Lasts G a now (moved short p (now % 2 ^ 32))
-moved-lasts G a now short p at empty patience estimate heard channels k = by-moved Keeps short p n tick held
+moved-lasts G a now short p at empty patience estimate heard channels fresh k = by-moved Keeps short p n tick held
   where
     n : ℕ
     n = now % 2 ^ 32
@@ -515,11 +662,50 @@ moved-lasts G a now short p at empty patience estimate heard channels k = by-mov
         (λ h. absurd (cut-ends a.kind p n (subst (λ s. (pinged (cut_off_in s p) n).state ≡ state_of a.kind) at h)))
         (λ e f h. (let q : Peering = record p { outbox = outbox.marked p.outbox (tick_of p n) } in
         subst (λ (x : Peering). Lasts G a now x) (sym (unpinged a.kind q n at))
-        (record { state = at; empty = empty-marked (tick_of p n) p.outbox.senders empty; patience = patience; estimate = estimate; heard = heard; channels = channels; shape = subst (λ (t : Tick). Shape G a now (controlling.with_marked t p.outbox.control)) (sym tick_is) (k.resent e) })))
-        (λ e f h. subst (λ (x : Peering). Lasts G a now x) (sym (unpinged a.kind p n at)) (record { state = at; empty = empty; patience = patience; estimate = estimate; heard = heard; channels = channels; shape = k.rests e f }))
+        (record { state = at; empty = empty-marked (tick_of p n) p.outbox.senders empty; patience = patience; estimate = estimate; heard = heard; channels = channels; fresh = fresh; shape = subst (λ (t : Tick). Shape G a now (controlling.with_marked t p.outbox.control)) (sym tick_is) (k.resent e) })))
+        (λ e f h. subst (λ (x : Peering). Lasts G a now x) (sym (unpinged a.kind p n at)) (record { state = at; empty = empty; patience = patience; estimate = estimate; heard = heard; channels = channels; fresh = fresh; shape = k.rests e f }))
 
     held : p.state ≡ state.Answering → Lasting p n → Keeps (held_back p n)
-    held answers e h = record { state = at; empty = empty; patience = patience; estimate = estimate; heard = heard; channels = channels; shape = subst (λ (t : Tick). Shape G a now (controlling.with_held_back t p.outbox.control)) (sym tick_is) (k.held e) }
+    held answers e h = record { state = at; empty = empty; patience = patience; estimate = estimate; heard = heard; channels = channels; fresh = fresh; shape = subst (λ (t : Tick). Shape G a now (controlling.with_held_back t p.outbox.control)) (sym tick_is) (k.held e) }
+
+-- one that was refused waits no longer than 7,500 ms after it was made
+moved-refused : (a : Attempt) (gap before now : ℕ) (short : Bool) (p : Peering) → Refused a gap before p → before ≤ now → now ≤ before + gap
+    → (moved short p (now % 2 ^ 32)).state ≡ state_of a.kind → Refused a gap now (moved short p (now % 2 ^ 32))
+moved-refused a gap before now short p r up down = by-moved Keeps short p n tick (λ answers e h. stays (held_back p n) e refl refl h)
+  where
+    n : ℕ
+    n = now % 2 ^ 32
+
+    Keeps : Peering → Type 0
+    Keeps q = q.state ≡ state_of a.kind → Refused a gap now q
+
+    age : a.watched ≡ true → elapsed_time n p.made ≡ now - a.made
+    age watched = ap (elapsed_time n) (r.made watched) ∙ (let s = r.soon watched in elapsed-is a.made now (let x = s.made in let y = s.begun in omega arith) (let x = s.soon in let y = s.near in omega arith))
+
+    -- it has waited so long, or it isn't over
+    young : Lasting p n → leb 7500 (elapsed_time n p.made) ≡ false
+    young e =
+        ap (λ b. b && leb 7500 (elapsed_time n p.made)) (sym (ap is_answering r.state ∙ r.answers))
+        ∙ ap (λ b. is_answering p.state && cond b (leb 7500 (elapsed_time n p.made)) (list_any (controlling.has_waited 7500 n) p.outbox.control.sent)) (sym r.refused)
+        ∙ e.1
+
+    soon : Lasting p n → a.watched ≡ true → Soon a gap now
+    soon e watched =
+        let s = r.soon watched in
+        let x = lt-of 7500 (elapsed_time n p.made) (young e) in
+        let y = age watched in
+        let made = s.made in
+        let begun = s.begun in
+        record { made = s.made; begun = omega arith; soon = omega arith; near = s.near }
+
+    stays : (q : Peering) → Lasting p n → q.refused ≡ p.refused → q.made ≡ p.made → Keeps q
+    stays q e refused made h = record { state = h; answers = r.answers; refused = refused ∙ r.refused; made = λ watched. made ∙ r.made watched; soon = soon e }
+
+    tick : Keeps (ticked p n)
+    tick = by-expiry (λ (e : Expiry). Keeps (pinged (after_timeouts_by e p n) n)) p n
+        (λ h. absurd (cut-ends a.kind p n (subst (λ s. (pinged (cut_off_in s p) n).state ≡ state_of a.kind) r.state h)))
+        (λ e f. (let q : Peering = record p { outbox = outbox.marked p.outbox (tick_of p n) } in subst Keeps (sym (unpinged a.kind q n r.state)) (stays q e refl refl)))
+        (λ e f. subst Keeps (sym (unpinged a.kind p n r.state)) (stays p e refl refl))
 
 -- before the first turn it is queued
 first-marked : (G : ℕ → Transmission → Type 0) (a : Attempt) (p : Peering) → p.outbox.control.queued ≡ a.command ∷ [] → p.outbox.control.sent ≡ [] → Marked G a a.first p
@@ -530,8 +716,8 @@ first-marked G a p queued none = record {
 }
 
 -- later it waits, and where it waited out its timeout it is due to go again, or held back, or patience is over
-later-marked : (G : ℕ → Transmission → Type 0) (a : Attempt) (before now gap : ℕ) (p : Peering) → Course G a gap → Rests G a before p.outbox.control → p.state ≡ state_of a.kind → p.patience ≡ a.patience → p.heard ≡ a.heard → before ≤ now → now ≤ before + gap → Marked G a now p
-later-marked G a before now gap p k0 r at patience heard up down = record {
+later-marked : (G : ℕ → Transmission → Type 0) (a : Attempt) (before now gap : ℕ) (p : Peering) → Course G a gap → Rests G a before p.outbox.control → p.state ≡ state_of a.kind → p.patience ≡ a.patience → p.heard ≡ a.heard → IsFresh a.kind a.watched a.made p → before ≤ now → now ≤ before + gap → Marked G a now p
+later-marked G a before now gap p k0 r at patience heard fresh up down = record {
   resent = λ e. inr (controlling.marked tick t, r.queued, ap (map (controlling.marked tick)) r.alone, (r.went.0, goes e));
   held = λ e. inr (controlling.held_back tick t, r.queued, ap (map (controlling.held_back tick)) r.alone, holds e (transmission.is_late n t.transmission) refl);
   rests = λ e f. inr (t, r.queued, r.alone, (r.went.0, subst (λ (x : Transmission). G now x) (stays f) (goes e)));
@@ -562,12 +748,20 @@ later-marked G a before now gap p k0 r at patience heard up down = record {
         ∙ or-left (transmission.ends n p.patience p.heard t.transmission) false first
 
     not_past : Lasting p n → is_past a.kind n t.transmission ≡ false
-    not_past e = alone (is_answering (state_of a.kind)) (leb 7500 (elapsed_time n t.transmission.first))
-        (ap (λ s. is_answering s && list_any (controlling.has_waited 7500 n) (t ∷ [])) (sym at) ∙ ap (λ l. is_answering p.state && list_any (controlling.has_waited 7500 n) l) (sym r.alone) ∙ e.1)
+    not_past e = by (is_answering (state_of a.kind)) refl
       where
-        alone : (x y : Bool) → (x && (y || false)) ≡ false → (x && y) ≡ false
-        alone false y f = refl
-        alone true y f = or-left y false f
+        waited : List SentControl → Bool
+        waited l = list_any (controlling.has_waited 7500 n) l
+
+        by : (b : Bool) → is_answering (state_of a.kind) ≡ b → (b && leb 7500 (elapsed_time n t.transmission.first)) ≡ false
+        by false answers = refl
+        by true answers =
+            let f = fresh answers in
+            or-left (leb 7500 (elapsed_time n t.transmission.first)) false
+            (ap (λ b. b && waited (t ∷ [])) (sym (ap is_answering at ∙ answers))
+            ∙ ap (λ l. is_answering p.state && waited l) (sym r.alone)
+            ∙ ap (λ b. is_answering p.state && cond b (leb 7500 (elapsed_time n p.made)) (waited p.outbox.control.sent)) (sym f.0)
+            ∙ e.1)
 
     goes : Lasting p n → G now (transmission.marked tick t.transmission)
     goes e = k0.marks before now t.transmission r.went.1 r.waits up down (not_ended e) (not_past e)
@@ -591,39 +785,54 @@ rests-left G a now c none (inr (t, queued, sent, w)) = by t.transmission.due ref
     by false k = record { sent = t; queued = queued; alone = sent; went = w; waits = k }
     by true k = absurd (let f : None ≡ Some _ = sym none ∙ next-again (now % 2 ^ 32) (wait_of a) c t sent k in cc)
 
-turn-rests : (G : ℕ → Transmission → Type 0) (a : Attempt) {gap : ℕ} (k0 : Course G a gap) (now : ℕ) (p q : Peering) → ((short : Bool) → (moved short p (now % 2 ^ 32)).state ≡ state_of a.kind → Lasts G a now (moved short p (now % 2 ^ 32))) → Turn (state_of a.kind) now p q → Rested G a now q
-turn-rests G a k0 now p q first turn = subst (λ (x : Peering). Rested G a now x) (sym turn.after) (subst (λ (x : Peering). Rested G a now x) (sym (waits-on a.kind r l.state)) (record {
-  lasts = record { state = l.state; empty = kept.0; patience = l.patience; estimate = l.estimate; heard = l.heard; channels = l.channels; shape = (let k = kept.1 in inr (k.sent, k.queued, k.alone, k.went)) };
-  rests = kept.1;
-}))
+-- or the peer was refused
+abbrev Ends : (ℕ → Transmission → Type 0) → Attempt → ℕ → ℕ → Peering → Type 0
+Ends G a gap now p = Rested G a now p ⊎ Refused a gap now p
+
+turn-rests : (G : ℕ → Transmission → Type 0) (a : Attempt) (gap : ℕ) → Course G a gap → (now : ℕ) (p q : Peering) → ((short : Bool) → (moved short p (now % 2 ^ 32)).state ≡ state_of a.kind → Waits G a gap now (moved short p (now % 2 ^ 32))) → Turn (state_of a.kind) now p q → Ends G a gap now q
+turn-rests G a gap k0 now p q first turn = subst (λ (x : Peering). Ends G a gap now x) (sym turn.after) (by l)
   where
     n : ℕ
     n = now % 2 ^ 32
 
-    l : Lasts G a now turn.last
-    l = stays-lasts G a k0 now turn.steps (moved turn.short p n) turn.last (first turn.short (stays-state (state_of a.kind) n turn.steps (moved turn.short p n) turn.last turn.stays)) turn.stays
+    l : Waits G a gap now turn.last
+    l = stays-waits G a gap k0 now turn.steps (moved turn.short p n) turn.last (first turn.short (stays-state (state_of a.kind) n turn.steps (moved turn.short p n) turn.last turn.stays)) turn.stays
 
     r : Peering
     r = record turn.last { outbox = (filled (pace_of turn.last n) turn.last.outbox).outbox }
 
-    none : controlling.next n (wait_of a) turn.last.outbox.control ≡ None
-    none = ap (λ w. controlling.next n w turn.last.outbox.control) (sym (ap timeout l.estimate)) ∙ nothing-left (pace_of turn.last n) turn.last.outbox (wide (min turn.last.terms.mtu 4096)) turn.spent
+    none : Lasts G a now turn.last → controlling.next n (wait_of a) turn.last.outbox.control ≡ None
+    none l = ap (λ w. controlling.next n w turn.last.outbox.control) (sym (ap timeout l.estimate)) ∙ nothing-left (pace_of turn.last n) turn.last.outbox (wide (min turn.last.terms.mtu 4096)) turn.spent
       where
         wide : (m : ℕ) → 576 ≤ max 576 m
         wide m = grind arith
 
-    kept : Kept (λ c. Rests G a now c) (filled (pace_of turn.last n) turn.last.outbox)
-    kept = puts-kept G a now (λ c. Rests G a now c) turn.last (λ c x e k. absurd (let f : Some x ≡ None = sym e ∙ next-waits n (wait_of a) c k.sent k.queued k.alone k.waits in cc)) l (rests-left G a now turn.last.outbox.control none l.shape)
+    kept : Lasts G a now turn.last → Kept (λ c. Rests G a now c) (filled (pace_of turn.last n) turn.last.outbox)
+    kept l = puts-kept G a now (λ c. Rests G a now c) turn.last (λ c x e k. absurd (let f : Some x ≡ None = sym e ∙ next-waits n (wait_of a) c k.sent k.queued k.alone k.waits in cc)) l (rests-left G a now turn.last.outbox.control (none l) l.shape)
+
+    by : Waits G a gap now turn.last → Ends G a gap now (after_step n turn.last PutsOut)
+    by (inr x) = inr (puts-refused a gap now n turn.last x)
+    by (inl l) =
+        let k = kept l in
+        inl (subst (λ (x : Peering). Rested G a now x) (sym (waits-on a.kind r l.state)) (record {
+          lasts = record { state = l.state; empty = k.0; patience = l.patience; estimate = l.estimate; heard = l.heard; channels = l.channels; fresh = l.fresh; shape = (let c = k.1 in inr (c.sent, c.queued, c.alone, c.went)) };
+          rests = k.1;
+        }))
+
+-- the next moment comes
+next-waits-on : (G : ℕ → Transmission → Type 0) (a : Attempt) (gap : ℕ) → Course G a gap → (now next : ℕ) (p : Peering) → now ≤ next → next ≤ now + gap → Ends G a gap now p
+    → (short : Bool) → (moved short p (next % 2 ^ 32)).state ≡ state_of a.kind → Waits G a gap next (moved short p (next % 2 ^ 32))
+next-waits-on G a gap k0 now next p up down (inl k) short e =
+    inl (moved-lasts G a next short p k.lasts.state k.lasts.empty k.lasts.patience k.lasts.estimate k.lasts.heard k.lasts.channels k.lasts.fresh
+    (later-marked G a now next gap p k0 k.rests k.lasts.state k.lasts.patience k.lasts.heard k.lasts.fresh up down) e)
+next-waits-on G a gap k0 now next p up down (inr k) short e = inr (moved-refused a gap now next short p k up down e)
 
 -- turn after turn
-turns-last : (G : ℕ → Transmission → Type 0) (a : Attempt) (gap : ℕ) → Course G a gap → (moments : List ℕ) (now : ℕ) (p q : Peering) → ((r : Peering) → Turn (state_of a.kind) now p r → Rested G a now r) → Turns (state_of a.kind) gap now p moments q
-    → Rested G a (last_of now moments) q
+turns-last : (G : ℕ → Transmission → Type 0) (a : Attempt) (gap : ℕ) → Course G a gap → (moments : List ℕ) (now : ℕ) (p q : Peering) → ((r : Peering) → Turn (state_of a.kind) now p r → Ends G a gap now r) → Turns (state_of a.kind) gap now p moments q
+    → Ends G a gap (last_of now moments) q
 turns-last G a gap k0 [] now p q first turn = first q turn
 turns-last G a gap k0 (next ∷ later) now p q first (r, turn, up, down, rest) =
-    let k = first r turn in
-    turns-last G a gap k0 later next r q
-    (λ x t. turn-rests G a k0 next r x (λ short e. moved-lasts G a next short r k.lasts.state k.lasts.empty k.lasts.patience k.lasts.estimate k.lasts.heard k.lasts.channels (later-marked G a now next gap r k0 k.rests k.lasts.state k.lasts.patience k.lasts.heard up down) e) t)
-    rest
+    turns-last G a gap k0 later next r q (λ x t. turn-rests G a gap k0 next r x (λ short e. next-waits-on G a gap k0 now next r up down (first r turn) short e) t) rest
 
 -- a peer of which channel 0xFF has its command queued, alone, and no channel anything
 pub record Begins (k : Kind) (p : Peering) : Type 0 where
@@ -634,31 +843,57 @@ pub record Begins (k : Kind) (p : Peering) : Type 0 where
   pub none : p.outbox.control.sent ≡ []
   pub about : is_about k command.control ≡ true
 
--- the attempt that it begins at this moment, and the command as it goes at the end of a turn
-abbrev pub attempt_of : (k : Kind) (p : Peering) → Begins k p → ℕ → Attempt
-attempt_of k p b now = record { kind = k; command = b.command; first = now; patience = p.patience; estimate = p.estimate; heard = p.heard; channels = p.offer.channels; about = b.about }
+-- the attempt that it begins at this moment, and the command as it goes at the end of a turn, where the peer wasn't refused
+abbrev pub attempt_at : Bool → (k : Kind) (p : Peering) → Begins k p → ℕ → ℕ → Attempt
+attempt_at watched k p b made now = record {
+  kind = k;
+  command = b.command;
+  watched = watched;
+  made = made;
+  first = now;
+  patience = p.patience;
+  estimate = p.estimate;
+  heard = p.heard;
+  channels = p.offer.channels;
+  about = b.about;
+}
 
-pub begun-goes : (G : ℕ → Transmission → Type 0) (k : Kind) (p : Peering) (b : Begins k p) (gap now : ℕ) (moments : List ℕ) (q : Peering) → Course G (attempt_of k p b now) gap → Turns (state_of k) gap now p moments q
+abbrev pub attempt_of : (k : Kind) (p : Peering) → Begins k p → ℕ → ℕ → Attempt
+attempt_of k p b made now = attempt_at true k p b made now
+
+pub begun-goes : (G : ℕ → Transmission → Type 0) (watched : Bool) (k : Kind) (p : Peering) (b : Begins k p) (gap made now : ℕ) (moments : List ℕ) (q : Peering) → IsFresh k watched made p → Course G (attempt_at watched k p b made now) gap
+    → Turns (state_of k) gap now p moments q
+    → ((t : Transmission) × (t.due ≡ false) × G (last_of now moments) t) ⊎ ((is_answering (state_of k) ≡ true) × (q.refused ≡ true) × (watched ≡ true → last_of now moments < now + 7500))
+begun-goes G watched k p b gap made now moments q fresh k0 turns =
+    let a : Attempt = attempt_at watched k p b made now in
+    elim (turns-last G a gap k0 moments now p q (λ r t. turn-rests G a gap k0 now p r (λ short e. inl (moved-lasts G a now short p b.state b.empty refl refl refl refl fresh (first-marked G a p b.queued b.none) e)) t) turns) [
+      | inl last ↦ (let r = last.rests in inl (r.sent.transmission, r.waits, r.went.1))
+      | inr last ↦ inr (last.answers, last.refused, λ w. (let s = last.soon w in s.soon))
+    ]
+
+-- so where it doesn't wait for a client
+pub asked-goes : (G : ℕ → Transmission → Type 0) (k : Kind) (p : Peering) (b : Begins k p) (gap now : ℕ) (moments : List ℕ) (q : Peering) → is_answering (state_of k) ≡ false → Course G (attempt_of k p b now now) gap → Turns (state_of k) gap now p moments q
     → (t : Transmission) × (t.due ≡ false) × G (last_of now moments) t
-begun-goes G k p b gap now moments q k0 turns =
-    let a : Attempt = attempt_of k p b now in
-    let last = turns-last G a gap k0 moments now p q (λ r t. turn-rests G a k0 now p r (λ short e. moved-lasts G a now short p b.state b.empty refl refl refl refl (first-marked G a p b.queued b.none) e) t) turns in
-    let r = last.rests in
-    (r.sent.transmission, r.waits, r.went.1)
+asked-goes G k p b gap now moments q asks k0 turns =
+    elim (begun-goes G true k p b gap now now moments q (λ answers. absurd (let x : true ≡ false = sym answers ∙ asks in cc)) k0 turns) [
+      | inl goes ↦ goes
+      | inr late ↦ absurd (let x : true ≡ false = sym late.0 ∙ asks in cc)
+    ]
 
 -- a timeout grows no faster than the time since the first send
-timed-course : (a : Attempt) (gap : ℕ) → wait_of a + 2 * a.patience.maximum + gap < 2 ^ 32 → Course (Timed a.first (wait_of a) a.patience.maximum) a gap
-timed-course a gap near = record {
+timed-course : (a : Attempt) (gap : ℕ) → is_answering (state_of a.kind) ≡ false → wait_of a + 2 * a.patience.maximum + gap < 2 ^ 32 → Course (Timed a.first (wait_of a) a.patience.maximum) a gap
+timed-course a gap asks near = record {
   begins = timed-begun a.first (wait_of a) (wait_of a) a.patience.maximum (omega arith);
   again = λ now t w due. timed-again a.first (wait_of a) a.patience.maximum now t w due;
   marks = λ before now t w waits up down not_ended not_past. timed-marked a.first (wait_of a) a.patience.maximum before now (tick_at a now) t refl (omega arith) w waits up (let x = w.in_time in omega arith)
       (λ late. or-left (leb a.patience.maximum (elapsed_time (now % 2 ^ 32) t.first)) _ (ap (λ b. b && gives_up a.patience (now % 2 ^ 32) a.heard t) (sym late) ∙ not_ended));
+  soon = λ now t w answers watched. absurd (let x : true ≡ false = sym answers ∙ asks in cc);
 }
 
-begun-lasts : (k : Kind) (p : Peering) → Begins k p → LastsAtMost (state_of k) p (timeout p.estimate + 2 * p.patience.maximum)
-begun-lasts k p b gap now moments q near turns =
-    let a : Attempt = attempt_of k p b now in
-    let last = begun-goes (Timed a.first (wait_of a) a.patience.maximum) k p b gap now moments q (timed-course a gap near) turns in
+begun-lasts : (k : Kind) (p : Peering) → is_answering (state_of k) ≡ false → Begins k p → LastsAtMost (state_of k) p (timeout p.estimate + 2 * p.patience.maximum)
+begun-lasts k p asks b gap now moments q near turns =
+    let a : Attempt = attempt_of k p b now now in
+    let last = asked-goes (Timed a.first (wait_of a) a.patience.maximum) k p b gap now moments q asks (timed-course a gap asks near) turns in
     let w = last.2 in
     let x = w.in_time in
     omega arith
@@ -670,7 +905,7 @@ pub replying : (start : ℕ) (offsets : Offsets) (offer : Offer) (server : Serve
 replying start offsets offer server limits = record { state = refl; empty = empty-new 0 _; command = _; queued = refl; none = refl; about = refl }
 
 pub asking-ends : (start offset : ℕ) (offer : Offer) (limits : Limits) → LastsAtMost state.Connecting (connecting start offset offer limits) 60500
-asking-ends start offset offer limits = begun-lasts Asks (connecting start offset offer limits) (asking start offset offer limits)
+asking-ends start offset offer limits = begun-lasts Asks (connecting start offset offer limits) refl (asking start offset offer limits)
 
 pub leaving-ends : (p : Peering) (info : ℕ) → LastsAtMost state.Disconnecting (disconnecting p info) (timeout p.estimate + 2 * p.patience.maximum)
-leaving-ends p info = begun-lasts Leaves (disconnecting p info) (record { state = refl; empty = empty-cleared p.outbox.senders; command = _; queued = refl; none = refl; about = refl })
+leaving-ends p info = begun-lasts Leaves (disconnecting p info) refl (record { state = refl; empty = empty-cleared p.outbox.senders; command = _; queued = refl; none = refl; about = refl })

@@ -21,7 +21,9 @@ use Rattle.enet_peer.specs.declared.parts.PeerState.TheVariants as state
 use Rattle.enet_peer.specs.Endings.{is_later, disconnecting}
 use Rattle.enet_peer.specs.Peering.{Peering}
 use Rattle.enet_peer.specs.CommandEffect.{Outcome, obeyed}
-use Rattle.enet_peer.specs.Calls.{Taken, pace_of, gone_on, gone_on_in, next_event, event_after, packet_event, last_event}
+use Rattle.enet_peer.specs.Refusing.{heeded}
+use Rattle.enet_peer.specs.Calls.{Taken, pace_of, gone_on, gone_on_in, next_event, event_after, is_answering, packet_event, last_event}
+use Rattle.enet_peer.proofs.Refusals.{heeded-obeyed}
 use Rattle.law_connection.specs.Link.{is_late}
 use Rattle.law_connection.specs.LinkSteps.{fresh_link}
 use Rattle.law_connection.specs.WireLink.{WireLink}
@@ -234,6 +236,14 @@ gone now from to from' p new h is connected logged = record {
     same = sym (same-messages from.log marked to ms) ∙ ap messages_of (sym log_is)
 
 -- ---- what was put out comes
+
+-- a connected peer obeys, whether its host is full or not
+came-obeys : (to new : End) (full : Bool) (p q : Peering) (now : ℕ) (sent : Option ℕ) (m : Message) → p ≡ q → q.state ≡ state.Connected → new ≡ with_peer to (heeded full p now sent m).after
+    → new ≡ with_peer to (obeyed q now sent m).after
+came-obeys to new full p q now sent m same connected e =
+    subst (λ (o : Outcome). new ≡ with_peer to o.after) (heeded-obeyed full q now sent m (ap is_answering connected))
+    (subst (λ (x : Peering). new ≡ with_peer to (heeded full x now sent m).after) same e)
+
 pub record Came (to new : End) (q : Peering) : Type 0 where
   pub peer : Peering
   pub is : new.peer ≡ Some peer
@@ -245,7 +255,7 @@ one-came : (now time : ℕ) (from : End) (put : Put) (to new : End) (q : Peering
 one-came now time from put to new q c is = elim c.after [
   | inl h ↦
       let same : h.0 ≡ q = same-peer to h.0 q h.1 is in
-      let after : new ≡ with_peer to (obeyed q now (Some time) put.message).after = subst (λ (x : Peering). new ≡ with_peer to (obeyed x now (Some time) put.message).after) same h.3 in
+      let after : new ≡ with_peer to (obeyed q now (Some time) put.message).after = came-obeys to new h.3 h.0 q now (Some time) put.message same connected h.4 in
       let peer : new.peer ≡ Some (obeyed q now (Some time) put.message).after = ap (λ (e : End). e.peer) after in
       let stays = c.stays (obeyed q now (Some time) put.message).after peer in
       record { peer = (obeyed q now (Some time) put.message).after; is = peer; connected = stays; kept = hears-kept q now (Some time) put.message connected stays; log = ap (λ (e : End). e.log) after }
@@ -327,7 +337,7 @@ came-answers joined now time from (x ∷ puts) to new p put channel c come (inl 
   | inl h ↦
       let it : h.0 ≡ q = same-peer to h.0 q h.1 k.is in
       let after : come.0 ≡ with_peer to (obeyed q now (Some time) put.message).after =
-      subst (λ (y : Peering). come.0 ≡ with_peer to (obeyed y now (Some time) put.message).after) it (subst (λ (y : Put). come.0 ≡ with_peer to (obeyed h.0 now (Some time) y.message).after) same h.3) in
+      came-obeys to come.0 h.3 h.0 q now (Some time) put.message it k.connected (subst (λ (y : Put). come.0 ≡ with_peer to (heeded h.3 h.0 now (Some time) y.message).after) same h.4) in
       let peer : come.0.peer ≡ Some (obeyed q now (Some time) put.message).after = ap (λ (e : End). e.peer) after in
       let waits = answered.waits in
       let there : Has (obeyed q now (Some time) put.message).after.outbox.acknowledgements a = subst (λ o. Has o.acknowledgements a) (sym waits) (Has-push q.outbox.acknowledgements a) in
@@ -463,7 +473,7 @@ came-less joined now time from (x ∷ puts) to new p put a t come (inl same) j i
   | inl h ↦
       let k = one-came now time from x to come.0 p come.1 is in
       let it : h.0 ≡ p = same-peer to h.0 p h.1 is in
-      let after : come.0 ≡ with_peer to (obeyed p now (Some time) x.message).after = subst (λ (y : Peering). come.0 ≡ with_peer to (obeyed y now (Some time) x.message).after) it h.3 in
+      let after : come.0 ≡ with_peer to (obeyed p now (Some time) x.message).after = came-obeys to come.0 h.3 h.0 p now (Some time) x.message it connected h.4 in
       let peer : k.peer ≡ (obeyed p now (Some time) x.message).after = same-peer come.0 k.peer (obeyed p now (Some time) x.message).after k.is (ap (λ (e : End). e.peer) after) in
       let away : IsRemoved p a.channel a.number w.0 (obeyed p now (Some time) x.message) = took-away joined now time from to p x.message a t j is connected low w number went (ap (λ (y : Put). y.message) same ∙ message) in
       let rest = all-came now time from puts come.0 new k.peer come.2 k.is k.connected in
@@ -517,7 +527,7 @@ came-none joined now time from (x ∷ puts) to new p put a t come (inl same) j i
     gone there w = elim come.1.after [
       | inl h ↦
           let it : h.0 ≡ p = same-peer to h.0 p h.1 is in
-          let after : come.0 ≡ with_peer to (obeyed p now (Some time) x.message).after = subst (λ (y : Peering). come.0 ≡ with_peer to (obeyed y now (Some time) x.message).after) it h.3 in
+          let after : come.0 ≡ with_peer to (obeyed p now (Some time) x.message).after = came-obeys to come.0 h.3 h.0 p now (Some time) x.message it connected h.4 in
           let peer : k.peer ≡ (obeyed p now (Some time) x.message).after = same-peer come.0 k.peer (obeyed p now (Some time) x.message).after k.is (ap (λ (e : End). e.peer) after) in
           let away : IsRemoved p a.channel a.number w.0 (obeyed p now (Some time) x.message) = took-away joined now time from to p x.message a t j is connected low w number went (ap (λ (y : Put). y.message) same ∙ message) in
           away-none joined from to p a (waits-of p.outbox.senders a.channel a.number t w number) (obeyed p now (Some time) x.message) j is connected low away t

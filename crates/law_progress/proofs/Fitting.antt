@@ -47,9 +47,11 @@ use Rattle.enet_peer.specs.declared.parts.Offsets.{Offsets}
 use Rattle.enet_peer.specs.Peering.{Peering, joined, connecting, answering}
 use Rattle.enet_peer.specs.Endings.{ended, freed, parting, settled, disconnecting, is_later, cut_off_in}
 use Rattle.enet_peer.proofs.Obeying.{unless-holds, unwelcomed-holds}
-use Rattle.enet_peer.specs.CommandEffect.{obeyed, unless_refused, stopped, is_allowed, is_connect, by_body, by_answer, by_arrival, on_data, answered, answered_at, is_answered_in, is_connecting, on_acknowledge, on_match, acknowledged, with_answer, on_verify_in, welcomed, on_disconnect_in, on_last_disconnect, on_bandwidth, on_throttle}
+use Rattle.enet_peer.specs.CommandEffect.{Outcome, obeyed, unless_refused, stopped, is_allowed, is_connect, by_body, by_answer, by_arrival, on_data, answered, answered_at, is_answered_in, is_connecting, on_acknowledge, on_match, acknowledged, with_answer, on_verify_in, welcomed, on_disconnect_in, on_last_disconnect, on_bandwidth, on_throttle}
 use Rattle.enet_peer.specs.Calls.{Leave, AtOnce, TellsOnce, Asks, AsksLater, Refused, left, submitted, pace_of, gone_on_in, expiry_of, held_back, moved, ticked, pinged, is_pinged, after_timeouts_by, tick_of, next_event, event_after, packet_event, last_event}
-use Rattle.law_progress.specs.Attempts.{Hears, PutsOut, Takes, after_take}
+use Rattle.enet_peer.specs.Refusing.{heeded, is_turned_away, told_full, turned_away}
+use Rattle.enet_peer.proofs.Refusals.{heeded-holds}
+use Rattle.law_progress.specs.Attempts.{Hears, TellsAgain, PutsOut, Takes, after_take}
 use Rattle.law_progress.specs.Fits.{StaysFit}
 use Rattle.law_progress.specs.Outboxes.{AllFit}
 use Rattle.law_progress.specs.Waits.{Deed, Lives, Submits, Leaves, after_leave, after_deed, after_deeds, Moment, Moments, RoomyBefore}
@@ -347,6 +349,19 @@ fits-obeyed p now sent m f = by (is_connect m.body) (is_allowed p.state m.body)
     by false true = unless-holds Fits p m (by_body p now sent m m.body) f (body m.body)
     by false false = f
 
+-- a host that is full
+fits-told : (p : Peering) → Fits p → Fits (told_full p)
+fits-told p f = fits-same p (told_full p) f refl refl refl refl
+
+pub fits-heeded : (full : Bool) (p : Peering) (now : ℕ) (sent : Option ℕ) (m : Message) → Fits p → Fits (heeded full p now sent m).after
+fits-heeded full p now sent m f =
+    heeded-holds (λ (o : Outcome). Fits o.after) full p now sent m (fits-obeyed p now sent m f) (λ answers. fits-same p (turned_away p) f refl refl refl refl)
+
+pub fits-again : (b c : Bool) (p : Peering) → Fits p → Fits (cond b (cond c p (told_full p)) p)
+fits-again false c p f = f
+fits-again true true p f = f
+fits-again true false p f = fits-told p f
+
 -- what else happens at a peer
 pub fits-takes : (p : Peering) → Fits p → Fits (after_take p (next_event p))
 fits-takes p f = by p.greeting
@@ -383,7 +398,8 @@ fits-left p AsksLater info f = fits-settled (record p { state = state.Disconnect
 fits-left p Refused info f = f
 
 fits-deed : (now : ℕ) (p : Peering) (deed : Deed) → Fits p → Fits (after_deed now p deed)
-fits-deed now p (Lives (Hears sent m)) f = fits-obeyed p now sent m f
+fits-deed now p (Lives (Hears full sent m)) f = fits-heeded full p now sent m f
+fits-deed now p (Lives TellsAgain) f = fits-again (is_turned_away p) (nat_lt 0 (length p.outbox.control.queued)) p f
 fits-deed now p (Lives PutsOut) f =
     let o = (filled (pace_of p now) p.outbox).outbox in
     fits-went (record p { outbox = o }) p.state (record { mtu = f.mtu; small = small-filled (room_of p.terms.mtu) (pace_of p now) p.outbox f.small; awaited = awaited-filled (pace_of p now) p.outbox f.awaited })

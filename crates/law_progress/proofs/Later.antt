@@ -46,10 +46,12 @@ use Rattle.enet_peer.specs.declared.parts.Offsets.{Offsets}
 use Rattle.enet_peer.specs.Peering.{Peering, joined, connecting, answering}
 use Rattle.enet_peer.specs.Endings.{settled, disconnecting, cut_off_in}
 use Rattle.enet_peer.proofs.Obeying.{unless-holds}
-use Rattle.enet_peer.specs.CommandEffect.{obeyed, unless_refused, stopped, is_allowed, is_connect, by_body, by_answer, answered, answered_at, is_answered_in, on_acknowledge, on_match, acknowledged, on_disconnect_in, on_bandwidth, on_throttle}
+use Rattle.enet_peer.specs.CommandEffect.{Outcome, obeyed, unless_refused, stopped, is_allowed, is_connect, by_body, by_answer, answered, answered_at, is_answered_in, on_acknowledge, on_match, acknowledged, on_disconnect_in, on_bandwidth, on_throttle}
 use Rattle.enet_peer.specs.Calls.{pace_of, expiry_of, gone_on, is_answering, is_connected, moved, ticked, pinged, after_timeouts_by, tick_of, next_event, event_after, packet_event}
+use Rattle.enet_peer.specs.Refusing.{told_again}
+use Rattle.enet_peer.proofs.Refusals.{heeded-obeyed}
 use Rattle.law_progress.specs.Outboxes.{AllFit, WaitsForSome}
-use Rattle.law_progress.specs.Attempts.{Step, Hears, PutsOut, Takes, after_take, after_step, Stays, Turn, Turns, last_of}
+use Rattle.law_progress.specs.Attempts.{Step, Hears, TellsAgain, PutsOut, Takes, after_take, after_step, Stays, Turn, Turns, last_of}
 use Rattle.law_progress.specs.Later.{queued_over, sent_over, still_to_do, DisconnectsLater}
 use Rattle.law_progress.proofs.Moving.{Lasting, by-expiry, by-moved, moved-elsewhere}
 use Rattle.law_progress.proofs.Paces.{Paces, paces-begun, paces-again, paces-marked, late-brief}
@@ -634,9 +636,12 @@ step-ahead most gap total start now p step e a h = by step h
     at = ap (λ s. record p { state = s }) (sym e)
 
     by : (step : Step) → (after_step (now % 2 ^ 32) p step).state ≡ state.DisconnectLater → Ahead most gap total start now (after_step (now % 2 ^ 32) p step)
-    by (Hears sent m) h =
+    by (Hears full sent m) h =
+        let plain = heeded-obeyed full p (now % 2 ^ 32) sent m (ap is_answering e) in
         let less : Goes_on p (obeyed p (now % 2 ^ 32) sent m).after = subst (λ (x : Peering). Goes_on p (obeyed x (now % 2 ^ 32) sent m).after) at (hears-fewer p (now % 2 ^ 32) sent m) in
-        ahead-fewer most gap total start now p (obeyed p (now % 2 ^ 32) sent m).after a (λ R f. fair-obeyed R most p (now % 2 ^ 32) sent m f) (less h)
+        subst (λ (o : Outcome). Ahead most gap total start now o.after) (sym plain)
+        (ahead-fewer most gap total start now p (obeyed p (now % 2 ^ 32) sent m).after a (λ R f. fair-obeyed R most p (now % 2 ^ 32) sent m f) (less (ap (λ (o : Outcome). o.after.state) (sym plain) ∙ h)))
+    by TellsAgain h = subst (λ (x : Peering). Ahead most gap total start now x) (ap (λ b. cond b (told_again p) p) (sym (ap (λ (s : PeerState). is_answering s && p.refused) e))) a
     by PutsOut h =
         let q : Peering = record p { outbox = (filled (pace_of p (now % 2 ^ 32)) p.outbox).outbox } in
         subst (λ (x : Peering). Ahead most gap total start now x) (sym (stays-on q e h).0) (filled-ahead most gap total start now p a)

@@ -22,7 +22,7 @@ by-expiry P p n end again none = go (is_over p n) refl (has_ended p.outbox n p.p
     go false over false f true g = again (f, over) g
     go false over false f false g = none (f, over) g
 
-and-both : (a b : Bool) → (a && b) ≡ true → (a ≡ true) × (b ≡ true)
+pub and-both : (a b : Bool) → (a && b) ≡ true → (a ≡ true) × (b ≡ true)
 and-both true b e = (refl, e)
 and-both false b e = absurd (cc)
 

@@ -16,9 +16,10 @@ use Rattle.enet_peer.specs.declared.parts.PeerState.TheVariants as state
 use Rattle.enet_peer.specs.Peering.{Peering}
 use Rattle.enet_peer.specs.Endings.{settled, disconnecting, is_later}
 use Rattle.enet_peer.proofs.Obeying.{unless-holds}
-use Rattle.enet_peer.specs.CommandEffect.{obeyed, unless_refused, stopped, is_allowed, is_connect, by_body, by_answer, answered, answered_at, is_answered_in, on_acknowledge, on_match, acknowledged, on_disconnect_in, on_bandwidth, on_throttle}
+use Rattle.enet_peer.specs.CommandEffect.{Outcome, obeyed, unless_refused, stopped, is_allowed, is_connect, by_body, by_answer, answered, answered_at, is_answered_in, on_acknowledge, on_match, acknowledged, on_disconnect_in, on_bandwidth, on_throttle}
 use Rattle.enet_peer.specs.Calls.{pace_of, expiry_of, moved, ticked, pinged, after_timeouts_by, next_event, event_after, packet_event}
-use Rattle.law_progress.specs.Attempts.{Step, Hears, PutsOut, Takes, after_step, after_take, IsTold}
+use Rattle.enet_peer.proofs.Refusals.{heeded-obeyed}
+use Rattle.law_progress.specs.Attempts.{Step, Hears, TellsAgain, PutsOut, Takes, after_step, after_take, IsTold}
 use Rattle.law_progress.specs.Later.{IsLeaving, LeavesOrTells}
 use Rattle.law_progress.proofs.Moving.{moved-elsewhere}
 use Rattle.law_progress.proofs.Told.{Tells, told-by}
@@ -139,7 +140,8 @@ leaves-or-tells = record {
     tells q (inr (inr t)) = inr (inr (told-by q t))
 
     by : (p : Peering) (now : ℕ) (step : Step) → Goes (after_step now (at_later p) step)
-    by p now (Hears sent m) = hears-goes p now sent m
+    by p now (Hears full sent m) = subst (λ (o : Outcome). Goes o.after) (sym (heeded-obeyed full (at_later p) now sent m refl)) (hears-goes p now sent m)
+    by p now TellsAgain = inl refl
     by p now PutsOut = settled-goes (record (at_later p) { outbox = (filled (pace_of (at_later p) now) p.outbox).outbox }) (inl refl)
     by p now Takes = takes-goes p
 

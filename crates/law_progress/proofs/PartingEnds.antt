@@ -18,9 +18,10 @@ use Rattle.enet_outbox.proofs.Filled.{by-filling}
 use Rattle.enet_peer.specs.declared.parts.PeerState.TheVariants as state
 use Rattle.enet_peer.specs.Peering.{Peering}
 use Rattle.enet_peer.specs.Endings.{freed, parting}
-use Rattle.enet_peer.specs.CommandEffect.{obeyed, stopped, is_connect}
-use Rattle.enet_peer.specs.Calls.{pace_of, expiry_of, gone_on, gone_on_in, moved, pinged, after_timeouts_by, next_event, event_after, packet_event}
-use Rattle.law_progress.specs.Attempts.{Step, Hears, PutsOut, Takes, after_take, after_step, Stays, Turn, Turns, LastsAtMost}
+use Rattle.enet_peer.specs.CommandEffect.{Outcome, obeyed, stopped, is_connect}
+use Rattle.enet_peer.specs.Calls.{pace_of, expiry_of, gone_on, gone_on_in, is_answering, moved, pinged, after_timeouts_by, next_event, event_after, packet_event}
+use Rattle.enet_peer.proofs.Refusals.{heeded-obeyed}
+use Rattle.law_progress.specs.Attempts.{Step, Hears, TellsAgain, PutsOut, Takes, after_take, after_step, Stays, Turn, Turns, LastsAtMost}
 use Rattle.law_progress.proofs.Blocked.{idle-controls}
 use Rattle.law_progress.proofs.Controls.{GoesControl, Heads, Repeats, goes-control}
 use Rattle.law_progress.proofs.Moving.{moved-elsewhere}
@@ -103,7 +104,10 @@ went-unasking q e u h = by (ltb 0 (length q.outbox.control.queued)) refl
     by false k = absurd (let x : gone_on q ≡ freed q = goes ∙ ap (λ b. cond b q (freed q)) k in let y : state.Free ≡ state.Parting = ap (λ (z : Peering). z.state) (sym x) ∙ h in cc)
 
 step-unasking : (now : ℕ) (p : Peering) (step : Step) → p.state ≡ state.Parting → Unasking p.outbox.control → (after_step now p step).state ≡ state.Parting → Unasking (after_step now p step).outbox.control
-step-unasking now p (Hears sent m) e u h = subst (λ (x : Peering). Unasking (obeyed x now sent m).after.outbox.control) (same-peer p e) (hears-unasking p now sent m u)
+step-unasking now p (Hears full sent m) e u h =
+    subst (λ (o : Outcome). Unasking o.after.outbox.control) (sym (heeded-obeyed full p now sent m (ap is_answering e)))
+    (subst (λ (x : Peering). Unasking (obeyed x now sent m).after.outbox.control) (same-peer p e) (hears-unasking p now sent m u))
+step-unasking now p TellsAgain e u h = subst (λ (x : Peering). Unasking (after_step now x TellsAgain).outbox.control) (same-peer p e) u
 step-unasking now p PutsOut e u h = went-unasking (record p { outbox = (filled (pace_of p now) p.outbox).outbox }) e (filled-unasking (pace_of p now) p.outbox u) h
 step-unasking now p Takes e u h = subst (λ (x : Peering). Unasking (after_take x (next_event x)).outbox.control) (same-peer p e) (takes-unasking p u)
 

@@ -91,7 +91,7 @@ forth-comes = record {
   is = refl;
   connected = refl;
   room = inl (record { there = λ c e. (new_end 0 1000, refl, room c e, short); free = refl });
-  after = inl (here, refl, in-time, comes);
+  after = inl (here, refl, in-time, false, comes);
   stays = λ q e. (let s : state.Connected ≡ q.state = ap state_of e in sym s);
 }
 
@@ -150,7 +150,7 @@ back-comes = record {
   is = refl;
   connected = refl;
   room = inl (record { there = λ c e. absurd (cc); free = refl });
-  after = inl (waiter, refl, answer-in-time, refl);
+  after = inl (waiter, refl, answer-in-time, false, refl);
   stays = λ q e. (let s : state.Connected ≡ q.state = ap state_of e in sym s);
 }
 

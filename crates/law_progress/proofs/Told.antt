@@ -1,5 +1,5 @@
 -- An attempt to connect or to disconnect is over only so that the user is told.
-use Rattle.std.proofs.Common.{◌≡◌, ℕ, ◌%◌, ◌^◌, ◌&&◌, Bool, true, false, cond, List, [], ◌∷◌, refl, sym, ap, subst, ◌∙◌, inl, inr, ◌⊎◌, Option, Some, None, is_some}
+use Rattle.std.proofs.Common.{◌≡◌, ℕ, ◌%◌, ◌^◌, ◌&&◌, Bool, true, false, cond, List, [], ◌∷◌, refl, sym, ap, subst, ◌∙◌, inl, inr, ◌⊎◌, Option, Some, None, is_some, length, nat_lt}
 use Rattle.enet_codec.specs.declared.packet.Packet.{Packet}
 use Rattle.enet_codec.specs.declared.command.Verify.{Verify}
 use Rattle.enet_codec.specs.declared.stop.Stop.TheVariants as stop
@@ -23,7 +23,9 @@ use Rattle.enet_peer.specs.Endings.{settled, cut_off_in}
 use Rattle.enet_peer.proofs.Obeying.{unless-holds, unwelcomed-holds}
 use Rattle.enet_peer.specs.CommandEffect.{Outcome, obeyed, unless_refused, stopped, is_allowed, is_of_handshake, is_connect, by_body, answered, answered_at, is_answered_in, on_acknowledge, on_match, acknowledged, with_answer, on_verify_in, welcomed, on_disconnect_in}
 use Rattle.enet_peer.specs.Calls.{pace_of, expiry_of, moved, ticked, pinged, after_timeouts_by, tick_of, next_event, event_after, packet_event, last_event}
-use Rattle.law_progress.specs.Attempts.{Step, Hears, PutsOut, Takes, after_step, after_take, IsTold, TellsWhenLeft}
+use Rattle.enet_peer.specs.Refusing.{is_turned_away, told_full}
+use Rattle.enet_peer.proofs.Refusals.{heeded-holds}
+use Rattle.law_progress.specs.Attempts.{Step, Hears, TellsAgain, PutsOut, Takes, after_step, after_take, IsTold, TellsWhenLeft}
 use Rattle.law_progress.proofs.Moving.{by-moved}
 use Rattle.law_progress.proofs.Attempts.{Kind, Asks, Answers, Leaves, state_of, in_state, handshake-alone, waits-on, unpinged}
 
@@ -198,6 +200,12 @@ told k = record {
     at p e = ap (λ s. record p { state = s }) (sym e)
 
     by : (p : Peering) (now : ℕ) (step : Step) → ((after_step now (in_state k p) step).state ≡ state_of k) ⊎ IsTold (after_step now (in_state k p) step)
-    by p now (Hears sent m) = left-told k _ (hears-goes k p now sent m)
+    by p now (Hears full sent m) = left-told k _ (heeded-holds (λ (o : Outcome). Goes k o.after) full (in_state k p) now sent m (hears-goes k p now sent m) (λ answers. inl refl))
+    by p now TellsAgain = left-told k _ (again-goes (is_turned_away (in_state k p)) (nat_lt 0 (length p.outbox.control.queued)))
+      where
+        again-goes : (b c : Bool) → Goes k (cond b (cond c (in_state k p) (told_full (in_state k p))) (in_state k p))
+        again-goes true true = inl refl
+        again-goes true false = inl refl
+        again-goes false c = inl refl
     by p now PutsOut = left-told k _ (puts-goes k p now)
     by p now Takes = left-told k _ (takes-goes k p)

@@ -12,8 +12,9 @@ use Rattle.enet_peer.specs.declared.parts.PeerState.TheVariants as state
 use Rattle.enet_peer.specs.declared.parts.Limits.{Limits}
 use Rattle.enet_peer.specs.declared.parts.Offsets.{Offsets}
 use Rattle.enet_peer.specs.Peering.{Peering, connecting, answering}
-use Rattle.law_progress.specs.Attempts.{last_of, LastsAtMost, LastsFor, Turns}
-use Rattle.law_progress.proofs.Attempts.{Asks, Answers, Attempt, Begins, wait_of, bound_of, tick_at, Course, attempt_of, begun-goes, asking, replying}
+use Rattle.enet_peer.specs.Calls.{is_answering}
+use Rattle.law_progress.specs.Attempts.{last_of, LastsOnceMade, LastsFor, LastsUnrefused, Turns}
+use Rattle.law_progress.proofs.Attempts.{Asks, Answers, state_of, Attempt, Begins, wait_of, bound_of, tick_at, Course, attempt_at, attempt_of, begun-goes, asked-goes, asking, replying}
 use Rattle.law_progress.proofs.Timed.{elapsed-is, le-of, lt-of}
 
 -- when try j comes, counted from the first, where each waits so long
@@ -168,11 +169,12 @@ tried-marked a extra again most p before now t w waits up down lives = by w.goes
                     let f : true ≡ false = sym up ∙ patient in
                     cc
 
-tried-course : (a : Attempt) (extra again most : ℕ) (p : Plan a extra again most) → Course (Tried a extra again most p) a (extra + 1)
-tried-course a extra again most p = record {
+tried-course : (a : Attempt) (extra again most : ℕ) (p : Plan a extra again most) → is_answering (state_of a.kind) ≡ false → Course (Tried a extra again most p) a (extra + 1)
+tried-course a extra again most p asks = record {
   begins = tried-begins a extra again most p;
   again = tried-again a extra again most p;
   marks = λ before now t w waits up down lives not_past. tried-marked a extra again most p before now t w waits up down lives;
+  soon = λ now t w answers watched. absurd (let x : true ≡ false = sym answers ∙ asks in cc);
 }
 
 -- so long it waits at most
@@ -223,7 +225,7 @@ doubled-most (suc (suc (suc (suc (suc zero))))) h = omega arith
 doubled-most (suc (suc (suc (suc (suc (suc j)))))) h = absurd (omega arith)
 
 asking-plan : (start offset : ℕ) (offer : Offer) (limits : Limits) (now extra : ℕ) → 31500 + 9 * (extra + 1) < 2 ^ 32 → start ≤ now → now ≤ start + (extra + 1)
-    → Plan (attempt_of Asks (connecting (start % 2 ^ 32) offset offer limits) (asking (start % 2 ^ 32) offset offer limits) now) extra 5 31500
+    → Plan (attempt_of Asks (connecting (start % 2 ^ 32) offset offer limits) (asking (start % 2 ^ 32) offset offer limits) now now) extra 5 31500
 asking-plan start offset offer limits now extra close up down = record {
   wait = doubled;
   few = omega arith;
@@ -252,48 +254,68 @@ asking-plan start offset offer limits now extra close up down = record {
     and-false true = refl
     and-false false = refl
 
-    unbounded : bound_of (attempt_of Asks (connecting (start % 2 ^ 32) offset offer limits) (asking (start % 2 ^ 32) offset offer limits) now) ≡ 4294967295
+    unbounded : bound_of (attempt_of Asks (connecting (start % 2 ^ 32) offset offer limits) (asking (start % 2 ^ 32) offset offer limits) now now) ≡ 4294967295
     unbounded = ap (λ b. cond b 1000 4294967295) (and-false (ltb 0 offer.channels))
 
 pub asking-lasts : (offset : ℕ) (offer : Offer) (limits : Limits) → LastsFor state.Connecting (λ start. connecting start offset offer limits) 31500 5
 asking-lasts offset offer limits extra start now moments q close up down turns =
     let p = asking-plan start offset offer limits now extra close up down in
     let b = asking (start % 2 ^ 32) offset offer limits in
-    let a : Attempt = attempt_of Asks (connecting (start % 2 ^ 32) offset offer limits) b now in
-    let last = begun-goes (Tried a extra 5 31500 p) Asks (connecting (start % 2 ^ 32) offset offer limits) b (extra + 1) now moments q (tried-course a extra 5 31500 p) turns in
+    let a : Attempt = attempt_of Asks (connecting (start % 2 ^ 32) offset offer limits) b now now in
+    let last = asked-goes (Tried a extra 5 31500 p) Asks (connecting (start % 2 ^ 32) offset offer limits) b (extra + 1) now moments q refl (tried-course a extra 5 31500 p refl) turns in
     tried-ends a extra 5 31500 p (last_of now moments) last.0 last.1 last.2
 
 -- VERIFY_CONNECT: for less than so long a server waits for its client, however often its answer goes or is held back
 abbrev Brief : ℕ → ℕ → Transmission → Type 0
 Brief first now t = (t.first ≡ first % 2 ^ 32) × (first ≤ now) × (now < first + 7500)
 
-brief-course : (gap first : ℕ) (p : Peering) (b : Begins Answers p) → 7500 + gap < 2 ^ 32 → Course (Brief first) (attempt_of Answers p b first) gap
-brief-course gap first p b near = record {
+brief-course : (watched : Bool) (gap made first : ℕ) (p : Peering) (b : Begins Answers p) → 7500 + gap < 2 ^ 32 → (watched ≡ true → (made ≤ first) × (first + 7500 + gap < made + 2 ^ 32))
+    → Course (Brief first) (attempt_at watched Answers p b made first) gap
+brief-course watched gap made first p b near close = record {
   begins = (refl, omega arith, omega arith);
   again = λ now t w due. w;
-  marks = λ before now t w waits up down lives waited. (let k = late before now t w up down waited in (marked-first (tick_at (attempt_of Answers p b first) now) t ∙ w.0, k.0, k.1));
+  marks = λ earlier now t w waits up down lives waited. (let k = late earlier now t w up down waited in (marked-first (tick_at (attempt_at watched Answers p b made first) now) t ∙ w.0, k.0, k.1));
+  soon = λ now t w answers is. (let k = close is in record { made = k.0; begun = w.1; soon = w.2; near = k.1 });
 }
   where
     marked-first : (tick : Tick) (t : Transmission) → (transmission.marked tick t).first ≡ t.first
     marked-first tick t = elim (transmission.is_late tick.now t) as (λ b. (cond b (record t { timeout = transmission.next_time tick t; due = true }) t).first ≡ t.first) [ true ↦ refl | false ↦ refl ]
 
-    late : (before now : ℕ) (t : Transmission) → Brief first before t → before ≤ now → now ≤ before + gap → leb 7500 (elapsed_time (now % 2 ^ 32) t.first) ≡ false → (first ≤ now) × (now < first + 7500)
-    late before now t w up down waited =
+    late : (earlier now : ℕ) (t : Transmission) → Brief first earlier t → earlier ≤ now → now ≤ earlier + gap → leb 7500 (elapsed_time (now % 2 ^ 32) t.first) ≡ false → (first ≤ now) × (now < first + 7500)
+    late earlier now t w up down waited =
         let low = w.1 in
         let soon = w.2 in
         let since : elapsed_time (now % 2 ^ 32) t.first ≡ now - first = ap (elapsed_time (now % 2 ^ 32)) w.0 ∙ elapsed-is first now (omega arith) (omega arith) in
         let x = lt-of 7500 (elapsed_time (now % 2 ^ 32) t.first) waited in
         (omega arith, omega arith)
 
-brief-turns : (gap now : ℕ) (moments : List ℕ) (p q : Peering) → Begins Answers p → 7500 + gap < 2 ^ 32 → Turns state.Answering gap now p moments q → last_of now moments < now + 7500
-brief-turns gap now moments p q b near turns = (let last = begun-goes (Brief now) Answers p b gap now moments q (brief-course gap now p b near) turns in let w = last.2 in w.2)
+brief-turns : (gap made now : ℕ) (moments : List ℕ) (p q : Peering) → Begins Answers p → p.refused ≡ false → p.made ≡ made % 2 ^ 32 → made ≤ now → now + 7500 + gap < made + 2 ^ 32 → Turns state.Answering gap now p moments q
+    → last_of now moments < now + 7500
+brief-turns gap made now moments p q b fresh is up near turns =
+    elim (begun-goes (Brief now) true Answers p b gap made now moments q (λ answers. (fresh, λ w. is)) (brief-course true gap made now p b (omega arith) (λ w. (up, near))) turns) [
+      | inl goes ↦ (let w = goes.2 in w.2)
+      | inr late ↦ late.2 refl
+    ]
 
-pub answering-ends : (start : ℕ) (offsets : Offsets) (offer : Offer) (server : Server) (limits : Limits) → LastsAtMost state.Answering (answering start offsets offer server limits) 7500
-answering-ends start offsets offer server limits gap now moments q near turns =
-    let x = brief-turns gap now moments (answering start offsets offer server limits) q (replying start offsets offer server limits) near turns in
+-- one that isn't refused by then
+unrefused-turns : (gap now : ℕ) (moments : List ℕ) (p q : Peering) → Begins Answers p → p.refused ≡ false → 7500 + gap < 2 ^ 32 → Turns state.Answering gap now p moments q → q.refused ≡ false → last_of now moments < now + 7500
+unrefused-turns gap now moments p q b fresh near turns kept =
+    elim (begun-goes (Brief now) false Answers p b gap now now moments q (λ answers. (fresh, λ w. absurd (let x : false ≡ true = w in cc))) (brief-course false gap now now p b near (λ w. absurd (let x : false ≡ true = w in cc))) turns) [
+      | inl goes ↦ (let w = goes.2 in w.2)
+      | inr late ↦ absurd (let x : false ≡ true = sym kept ∙ late.1 in cc)
+    ]
+
+pub unrefused-ends : (start : ℕ) (offsets : Offsets) (offer : Offer) (server : Server) (limits : Limits) → LastsUnrefused state.Answering (answering start offsets offer server limits) 7500
+unrefused-ends start offsets offer server limits gap now moments q near turns kept =
+    let x = unrefused-turns gap now moments (answering start offsets offer server limits) q (replying start offsets offer server limits) refl near turns kept in
+    omega arith
+
+pub answering-ends : (offsets : Offsets) (offer : Offer) (server : Server) (limits : Limits) → LastsOnceMade state.Answering (λ start. answering start offsets offer server limits) 7500
+answering-ends offsets offer server limits gap start now moments q up near turns =
+    let x = brief-turns gap start now moments (answering (start % 2 ^ 32) offsets offer server limits) q (replying (start % 2 ^ 32) offsets offer server limits) refl refl up near turns in
     omega arith
 
 pub answering-lasts : (offsets : Offsets) (offer : Offer) (server : Server) (limits : Limits) → LastsFor state.Answering (λ start. answering start offsets offer server limits) 7500 0
 answering-lasts offsets offer server limits extra start now moments q close up down turns =
-    let x = brief-turns (extra + 1) now moments (answering (start % 2 ^ 32) offsets offer server limits) q (replying (start % 2 ^ 32) offsets offer server limits) (omega arith) turns in
+    let x = brief-turns (extra + 1) start now moments (answering (start % 2 ^ 32) offsets offer server limits) q (replying (start % 2 ^ 32) offsets offer server limits) refl refl up (omega arith) turns in
     omega arith

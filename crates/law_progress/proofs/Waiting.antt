@@ -49,9 +49,11 @@ use Rattle.enet_peer.specs.declared.parts.Offsets.{Offsets}
 use Rattle.enet_peer.specs.Peering.{Peering, joined, connecting, answering}
 use Rattle.enet_peer.specs.Endings.{ended, freed, parting, settled, disconnecting, is_later, cut_off_in}
 use Rattle.enet_peer.proofs.Obeying.{unless-holds, unwelcomed-holds}
-use Rattle.enet_peer.specs.CommandEffect.{obeyed, unless_refused, stopped, is_allowed, is_connect, by_body, by_answer, by_arrival, on_data, answered, answered_at, is_answered_in, is_connecting, on_acknowledge, on_match, acknowledged, with_answer, on_verify_in, welcomed, on_disconnect_in, on_last_disconnect, on_bandwidth, on_throttle}
+use Rattle.enet_peer.specs.CommandEffect.{Outcome, obeyed, unless_refused, stopped, is_allowed, is_connect, by_body, by_answer, by_arrival, on_data, answered, answered_at, is_answered_in, is_connecting, on_acknowledge, on_match, acknowledged, with_answer, on_verify_in, welcomed, on_disconnect_in, on_last_disconnect, on_bandwidth, on_throttle}
 use Rattle.enet_peer.specs.Calls.{Leave, AtOnce, TellsOnce, Asks, AsksLater, Refused, left, submitted, pace_of, gone_on_in, held_back, moved, ticked, pinged, is_pinged, after_timeouts_by, tick_of, next_event, event_after, packet_event, last_event}
-use Rattle.law_progress.specs.Attempts.{Hears, PutsOut, Takes, after_take, last_of}
+use Rattle.enet_peer.specs.Refusing.{heeded, is_turned_away, told_full}
+use Rattle.enet_peer.proofs.Refusals.{heeded-holds}
+use Rattle.law_progress.specs.Attempts.{Hears, TellsAgain, PutsOut, Takes, after_take, last_of}
 use Rattle.law_progress.specs.Waits.{Deed, Lives, Submits, Leaves, after_leave, after_deed, after_deeds, has_due, RoomyMoment, RoomyMoments, WaitAtMost, NoneWaitsLonger}
 use Rattle.law_progress.proofs.Moving.{Lasting, by-expiry, by-moved}
 use Rattle.law_progress.proofs.PutsOut.{found-passes, if-some}
@@ -366,6 +368,19 @@ fair-obeyed R most p now sent m h = by (is_connect m.body) (is_allowed p.state m
     by false true = unless-holds (Fair R most) p m (by_body p now sent m m.body) h (body m.body)
     by false false = h
 
+-- a host that is full
+fair-told : (R : Transmission → Type 0) (most : ℕ) (p : Peering) → Fair R most p → Fair R most (told_full p)
+fair-told R most p h = ((λ t k. absurd k, h.0.1), h.1, h.2)
+
+pub fair-heeded : (R : Transmission → Type 0) (most : ℕ) (full : Bool) (p : Peering) (now : ℕ) (sent : Option ℕ) (m : Message) → Fair R most p → Fair R most (heeded full p now sent m).after
+fair-heeded R most full p now sent m h =
+    heeded-holds (λ (o : Outcome). Fair R most o.after) full p now sent m (fair-obeyed R most p now sent m h) (λ answers. fair-told R most p h)
+
+pub fair-again : (R : Transmission → Type 0) (most : ℕ) (b c : Bool) (p : Peering) → Fair R most p → Fair R most (cond b (cond c p (told_full p)) p)
+fair-again R most false c p h = h
+fair-again R most true true p h = h
+fair-again R most true false p h = fair-told R most p h
+
 -- what else happens at a peer
 pub fair-takes : (R : Transmission → Type 0) (most : ℕ) (p : Peering) → Fair R most p → Fair R most (after_take p (next_event p))
 fair-takes R most p h = by p.greeting
@@ -427,7 +442,8 @@ timeout-low e = least (e.round_trip + 4 * e.variance)
 
 -- what is so of what goes first and of what goes again is so of all that is sent, whatever happens at a peer
 pub fair-deed : (R : Transmission → Type 0) (most now : ℕ) (p : Peering) (deed : Deed) → ((wait : ℕ) → wait ≤ 5000 → Sends R (now % 2 ^ 32) wait) → Fair R most p → Fair R most (after_deed (now % 2 ^ 32) p deed)
-fair-deed R most now p (Lives (Hears sent m)) sends h = fair-obeyed R most p (now % 2 ^ 32) sent m h
+fair-deed R most now p (Lives (Hears full sent m)) sends h = fair-heeded R most full p (now % 2 ^ 32) sent m h
+fair-deed R most now p (Lives TellsAgain) sends h = fair-again R most (is_turned_away p) (nat_lt 0 (length p.outbox.control.queued)) p h
 fair-deed R most now p (Lives PutsOut) sends h =
     let f = filled (pace_of p (now % 2 ^ 32)) p.outbox in
     let all = each-filled R (pace_of p (now % 2 ^ 32)) p.outbox (sends (timeout p.estimate) (timeout-low p.estimate)) h.0 in

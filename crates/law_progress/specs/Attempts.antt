@@ -1,17 +1,18 @@
 -- How long an attempt to connect or to disconnect lasts, whatever comes. Times are in milliseconds, on a clock that doesn't wrap; the
 -- peer's own shows its remainder modulo 2^32.
-use Rattle.std.specs.Prelude.{◌≡◌, Bool, ℕ, ◌+◌, ◌*◌, ◌%◌, ◌^◌, ◌<◌, ◌≤◌, List, [], ◌∷◌, Option, Some, None, ◌⊎◌}
+use Rattle.std.specs.Prelude.{◌≡◌, Bool, ℕ, ◌+◌, ◌*◌, ◌%◌, ◌^◌, ◌<◌, ◌≤◌, if◌then◌else◌, List, [], ◌∷◌, Option, Some, None, ◌⊎◌, false}
 use Rattle.enet_codec.specs.Message.{Message}
 use Rattle.enet_outbox.specs.Emission.{filled}
 use Rattle.enet_peer.specs.declared.parts.PeerState.{PeerState}
 use Rattle.enet_peer.specs.declared.parts.PeerState.TheVariants as state
 use Rattle.enet_peer.specs.Peering.{Peering}
-use Rattle.enet_peer.specs.CommandEffect.{obeyed}
+use Rattle.enet_peer.specs.Refusing.{heeded, is_turned_away, told_again}
 use Rattle.enet_peer.specs.Calls.{Taken, pace_of, gone_on, moved, next_event}
 
 -- what can happen at a peer between two moments of its clock
 pub data Step : Type 0 where
-  Hears : (sent : Option ℕ) (message : Message) → Step  -- a command comes, whatever it says
+  Hears : (full : Bool) (sent : Option ℕ) (message : Message) → Step  -- a command comes, whatever it says, to a host that may be full
+  TellsAgain : Step  -- where it was refused, it is told again that the host is full
   PutsOut : Step  -- a datagram is put out, if there is one to go
   Takes : Step  -- the user takes an event, if there is one
 
@@ -20,7 +21,8 @@ after_take p None = p
 after_take p (Some taken) = taken.after
 
 abbrev pub after_step : ℕ → Peering → Step → Peering
-after_step now p (Hears sent message) = (obeyed p now sent message).after
+after_step now p (Hears full sent message) = (heeded full p now sent message).after
+after_step now p TellsAgain = if is_turned_away p then told_again p else p
 after_step now p PutsOut = gone_on (record p { outbox = (filled (pace_of p now) p.outbox).outbox })
 after_step now p Takes = after_take p (next_event p)
 
@@ -53,6 +55,14 @@ last_of now (next ∷ later) = last_of next later
 -- so long that it wraps
 abbrev pub LastsAtMost : PeerState → Peering → ℕ → Type 0
 LastsAtMost s p most = (gap now : ℕ) (moments : List ℕ) (q : Peering) → most + gap < 2 ^ 32 → Turns s gap now p moments q → last_of now moments ≤ now + most
+
+-- nor can one that isn't refused by then
+abbrev pub LastsUnrefused : PeerState → Peering → ℕ → Type 0
+LastsUnrefused s p most = (gap now : ℕ) (moments : List ℕ) (q : Peering) → most + gap < 2 ^ 32 → Turns s gap now p moments q → q.refused ≡ false → last_of now moments ≤ now + most
+
+-- nor can a peer that was made so at a moment, from its first turn on, where its clock doesn't come round from that moment on
+abbrev pub LastsOnceMade : PeerState → (ℕ → Peering) → ℕ → Type 0
+LastsOnceMade s made most = (gap start now : ℕ) (moments : List ℕ) (q : Peering) → start ≤ now → now + most + gap < start + 2 ^ 32 → Turns s gap now (made (start % 2 ^ 32)) moments q → last_of now moments ≤ now + most
 
 -- where the clock goes on by at most one millisecond and `extra` at once, also from the moment at which a peer was made so to its first
 -- turn, the peer can't stay in this state for `most` milliseconds and so many times `extra` from that turn on

@@ -58,7 +58,7 @@ ghost use Rattle.law_progress.specs.Peers.{Awaits, Comes, IsAnswered, IsRemoved,
 ghost use Rattle.law_progress.specs.Counts.{LastCounts, CountsAsBefore};
 ghost use Rattle.law_progress.specs.Settled.{IsSettled};
 ghost use Rattle.law_progress.specs.Delivered.{IsDelivered};
-ghost use Rattle.law_progress.specs.Attempts.{LastsAtMost, LastsFor, TellsWhenLeft};
+ghost use Rattle.law_progress.specs.Attempts.{LastsAtMost, LastsFor, LastsOnceMade, LastsUnrefused, TellsWhenLeft};
 ghost use Rattle.law_progress.specs.Waits.{NoneWaitsLonger};
 ghost use Rattle.law_progress.specs.Fits.{StaysFit};
 ghost use Rattle.law_progress.specs.Later.{DisconnectsLater, LeavesOrTells};
@@ -198,16 +198,19 @@ pub fn acknowledged_was_delivered()
 /// Its clock goes on by any steps of less than some 49 days, whether or not its address has sent enough for another answer, and at each
 /// moment all is put out that may go. Times are in milliseconds.
 ///
-/// `connecting`, `answering`: a client that asks stays so for 60,500 at most, from the first moment at which it puts something out, with
-/// ENet's default patience, and a server that has answered for 7,500. `disconnecting`: so does a peer that has asked for the end, for at
-/// most its first timeout and twice the greatest patience that was set; `acknowledging`, `parting`: one that has to acknowledge the other's
-/// DISCONNECT, and one that leaves by one DISCONNECT which asks for no acknowledgement, no longer than its first turn. `asked`: where the
-/// clock goes on by one millisecond at once, the client stays so for less than 31,500; for each millisecond more at once, by 5 longer.
-/// `answered`: the server does for less than 7,500, however far its clock goes on at once. `told`: a client that asks, a server that has
-/// answered and a peer that has asked for the end cease to be so only so that the user has an event to take, or the peer is free.
+/// `connecting`, `unrefused`: a client that asks stays so for 60,500 at most, from the first moment at which it puts something out, with
+/// ENet's default patience, and a server that has answered for 7,500, if its host doesn't refuse the client meanwhile. `answering`: nor
+/// longer if it does, where the peer's clock doesn't come round from when the peer was made on. `disconnecting`: so does a peer that has
+/// asked for the end, for at most its first timeout and twice the greatest patience that was set; `acknowledging`, `parting`: one that has
+/// to acknowledge the other's DISCONNECT, and one that leaves by one DISCONNECT which asks for no acknowledgement, no longer than its first
+/// turn. `asked`: where the clock goes on by one millisecond at once, the client stays so for less than 31,500; for each millisecond more
+/// at once, by 5 longer. `answered`: the server does for less than 7,500, however far its clock goes on at once. `told`: a client that
+/// asks, a server that has answered and a peer that has asked for the end cease to be so only so that the user has an event to take, or the
+/// peer is free.
 pub fn every_attempt_ends()
     ensures connecting { (start offset : ℕ) (offer : Offer) (limits : Limits) → LastsAtMost state.Connecting (connecting start offset offer limits) 60500 }
-    ensures answering { (start : ℕ) (offsets : Offsets) (offer : Offer) (server : Server) (limits : Limits) → LastsAtMost state.Answering (answering start offsets offer server limits) 7500 }
+    ensures answering { (offsets : Offsets) (offer : Offer) (server : Server) (limits : Limits) → LastsOnceMade state.Answering (λ start. answering start offsets offer server limits) 7500 }
+    ensures unrefused { (start : ℕ) (offsets : Offsets) (offer : Offer) (server : Server) (limits : Limits) → LastsUnrefused state.Answering (answering start offsets offer server limits) 7500 }
     ensures disconnecting { (p : Peering) (info : ℕ) → LastsAtMost state.Disconnecting (disconnecting p info) (timeout p.estimate + 2 * p.patience.maximum) }
     ensures acknowledging { (p : Peering) → LastsAtMost state.AckDisconnect p 0 }
     ensures parting { (p : Peering) (info : ℕ) → LastsAtMost state.Parting (parting p info) 0 }

@@ -2,7 +2,7 @@ use Rattle.law_progress.proofs.Attempts.{Asks, Answers, Leaves, asking-ends, lea
 use Rattle.law_progress.proofs.Told.{told}
 use Rattle.law_progress.proofs.PartingEnds.{parting-ends}
 use Rattle.law_progress.proofs.Acknowledging.{acknowledging-ends}
-use Rattle.law_progress.proofs.Tries.{asking-lasts, answering-ends, answering-lasts}
+use Rattle.law_progress.proofs.Tries.{asking-lasts, answering-ends, answering-lasts, unrefused-ends}
 use Rattle.law_progress.proofs.every_attempt_ends.Goals as goal
 
 pub returns-clause-connecting : goal.returns-clause-connecting
@@ -10,6 +10,9 @@ returns-clause-connecting c = asking-ends
 
 pub returns-clause-answering : goal.returns-clause-answering
 returns-clause-answering c = answering-ends
+
+pub returns-clause-unrefused : goal.returns-clause-unrefused
+returns-clause-unrefused c = unrefused-ends
 
 pub returns-clause-disconnecting : goal.returns-clause-disconnecting
 returns-clause-disconnecting c = leaving-ends
