@@ -1,5 +1,6 @@
 -- A slot fares in one way.
-use Rattle.std.proofs.Common.{◌≡◌, ◌≢◌, ◌<◌, ◌≤◌, ℕ, suc, ◌+◌, ◌⊎◌, inl, inr, true, false, List, [], ◌∷◌, ◌++◌, length, refl, sym, ap, subst, ◌∙◌, arith, length-append, append-nil, Option, Some, None, Result, Ok, Err}
+use Rattle.std.specs.Prelude.{is_some}
+use Rattle.std.proofs.Common.{◌≡◌, ◌≢◌, ◌<◌, ◌≤◌, ℕ, suc, ◌+◌, ◌⊎◌, inl, inr, Bool, true, false, ◌&&◌, List, [], ◌∷◌, ◌++◌, length, refl, sym, ap, subst, ◌∙◌, arith, length-append, append-nil, Option, Some, None, Result, Ok, Err}
 use Rattle.std.proofs.lemmas.List.{append_cancel_left}
 use Rattle.std.specs.Int.{w16, to_be_bytes}
 use Rattle.std.specs.List.{slice_get}
@@ -17,30 +18,35 @@ use Rattle.enet_codec.specs.Message.{Message, Spells}
 use Rattle.enet_codec.proofs.Laws.{one_spelling}
 use Rattle.enet_codec.proofs.Datagrams.{some-bytes}
 use Rattle.enet_peer.specs.Peering.{Peering}
-use Rattle.enet_peer.specs.CommandEffect.{Outcome, Obeys, obeyed, wants_memory}
+use Rattle.enet_peer.specs.CommandEffect.{Outcome, Obeys, wants_memory}
+use Rattle.enet_peer.specs.Refusing.{heeded}
+use Rattle.enet_peer.specs.declared.parts.PeerState.TheVariants as state
 use Rattle.enet_peer.specs.declared.parts.PeerEvent.{PeerEvent}
-use Rattle.enet_peer.specs.Calls.{Taken, Refuses}
-use Rattle.enet_peer.specs.Handling.{one_more}
+use Rattle.enet_peer.specs.Calls.{Taken, Refuses, is_answering}
+use Rattle.enet_peer.specs.Calls as peers
+use Rattle.enet_peer.specs.Handling.{Arrival, one_more}
 use Rattle.enet_peer.specs.Handling as handling
 use Rattle.enet_peer.specs.Heading.{IsRead, IsUnreadable, IsOffer}
 use Rattle.enet_peer.specs.Heading as heading
 use Rattle.enet_slot.specs.Slot.{SlotState, with_peer, name_of, greatest}
 use Rattle.enet_slot.specs.Calls.{Does, DoesWithMemory, IsRefusedBy}
 use Rattle.enet_slot.specs.Giving.{asking, answering}
-use Rattle.enet_slot.specs.Receiving.{no_peer, refused_by_slot}
+use Rattle.enet_slot.specs.Entering.{awaits}
+use Rattle.enet_slot.specs.Receiving.{no_peer, refused_by_slot, was_refused}
 use Rattle.enet_host.specs.Receiving.{handled_one}
+use Rattle.enet_host.specs.Ticking.{clock_after}
 use Rattle.law_connection.specs.Steps as setting
 use Rattle.law_connection.specs.Steps.{Way, Setting}
 use Rattle.law_network.specs.Calls.{Call, Done}
 use Rattle.law_network.specs.Calls as call
 use Rattle.law_network.specs.Common.{Common, common_of, common_basis}
-use Rattle.law_network.specs.Deeds.{Deed, Sets, Alone, AllAlone, Come, put_out}
+use Rattle.law_network.specs.Deeds.{Deed, Sets, Alone, AllAlone, Come, GiveWay, TellAgain, put_out}
 use Rattle.law_network.specs.Deeds as deed
-use Rattle.law_network.specs.Falling.{Falls, nothing_left, no_command, stops, Reaches, unreadable, elsewhere, turned_away, here, Fell, Begins, asks, answers, counted}
+use Rattle.law_network.specs.Falling.{Falls, nothing_left, no_command, stops, Receipt, GetsSeat, Reaches, unreadable, elsewhere, turned_away, here, Fell, Begins, asks, answers, counted, deeds_if, share_of}
 use Rattle.law_network.specs.Falling as falling
-use Rattle.law_network.specs.IsolationLaw.{Stays, Fares, untouched, goes_on, begins, having_emitted}
-use Rattle.law_network.specs.Alike.{asked, is_memory, is_wanting, OneAnswer, IsCounted, IsHeld, Agree, OneWay, Alike}
-use Rattle.law_network.proofs.Agreeing.{fell-same, stays-same, counts-same, begins-same, free-back}
+use Rattle.law_network.specs.IsolationLaw.{Stays, Fares, untouched, goes_on, takes_over, begins, having_emitted}
+use Rattle.law_network.specs.Alike.{asked, is_memory, is_wanting, OneAnswer, IsCounted, IsHeld, AgreeOnPeer, Agree, OneWay, Alike}
+use Rattle.law_network.proofs.Agreeing.{asked-same, taken-same, share-same, receipt, full-same, falls-same, reaches-same, counts-same, answers-same, begins-same, free-back, peer-back}
 use Rattle.law_network.proofs.OneCall.{one-call}
 use Rattle.law_network.proofs.Receiving.{read-once, offer-once}
 use Rattle.law_network.proofs.Slots.{held}
@@ -77,13 +83,15 @@ alone-once : (d : Deed) (p q r : Peering) → Alone d p q → Alone d p r → q 
 alone-once (deed.Submit packet (Ok done)) p q r a b = a.1 ∙ sym b.1
 alone-once (deed.Submit packet (Err e)) p q r a b = a.1 ∙ sym b.1
 alone-once (deed.Emit now given) p q r a b = a.1 ∙ sym b.1
-alone-once (deed.Come now sent m answer) p q r a b = obeys-once answer (obeyed p now sent m) p q r (wants_memory p now sent m) a b
+alone-once (deed.Come at m answer) p q r a b = obeys-once answer (heeded at.full p at.now at.sent m) p q r (wants_memory p at.now at.sent m) a b
 alone-once (deed.Tick now short) p q r a b = a ∙ sym b
 alone-once (deed.Take None) p q r a b = a.1 ∙ sym b.1
 alone-once (deed.Take (Some e)) p q r a b = ap (λ (x : Taken). x.after) (same-some (record { event = e; after = q }) (record { event = e; after = r }) (sym a ∙ b))
 alone-once (deed.Disconnect way info (Ok done)) p q r a b = same-some q r (sym a ∙ b)
 alone-once (deed.Disconnect way info (Err why)) p q r a b = a.2 ∙ sym b.2
 alone-once (deed.Set s answer) p q r a b = sets-once s answer p q r a b
+alone-once deed.GiveWay p q r a b = a.1 ∙ sym b.1
+alone-once deed.TellAgain p q r a b = a.1 ∙ sym b.1
 
 all-once : (ds : List Deed) (p q r : Peering) → AllAlone ds p q → AllAlone ds p r → q ≡ r
 all-once [] p q r a b = sym a ∙ b
@@ -120,11 +128,11 @@ stop_in (Ok done) = None
 stop_in (Err why) = Some why
 
 -- the stop that is answered is the outcome's
-answered-stop : (a : Result (Unit {0}) Stop) (now : ℕ) (sent : Option ℕ) (m : Message) (p r : Peering) → is_wanting (deed.Come now sent m a) ≡ false → Alone (deed.Come now sent m a) p r → (obeyed p now sent m).stop ≡ stop_in a
+answered-stop : (a : Result (Unit {0}) Stop) (at : Arrival) (m : Message) (p r : Peering) → is_wanting (deed.Come at m a) ≡ false → Alone (deed.Come at m a) p r → (heeded at.full p at.now at.sent m).stop ≡ stop_in a
 unfolding stop_in
-answered-stop (Ok done) now sent m p r n h = h.0
-answered-stop (Err stop.Memory) now sent m p r n h = absurd (cc)
-answered-stop (Err why) now sent m p r n h = h.0
+answered-stop (Ok done) at m p r n h = h.0
+answered-stop (Err stop.Memory) at m p r n h = absurd (cc)
+answered-stop (Err why) at m p r n h = h.0
 
 same-stop : (a b : Result (Unit {0}) Stop) → stop_in a ≡ stop_in b → a ≡ b
 unfolding stop_in
@@ -133,9 +141,8 @@ same-stop (Ok done) (Err why) e = absurd (cc)
 same-stop (Err why) (Ok done) e = absurd (cc)
 same-stop (Err why) (Err other) e = ap (λ (w : Stop). Err w) (same-some why other e)
 
-same-obeys : (a b : Result (Unit {0}) Stop) (now : ℕ) (sent : Option ℕ) (m : Message) (p r t : Peering) → is_wanting (deed.Come now sent m a) ≡ false → is_wanting (deed.Come now sent m b) ≡ false
-    → Alone (deed.Come now sent m a) p r → Alone (deed.Come now sent m b) p t → a ≡ b
-same-obeys a b now sent m p r t n k x y = same-stop a b (sym (answered-stop a now sent m p r n x) ∙ answered-stop b now sent m p t k y)
+same-obeys : (a b : Result (Unit {0}) Stop) (at : Arrival) (m : Message) (p r t : Peering) → is_wanting (deed.Come at m a) ≡ false → is_wanting (deed.Come at m b) ≡ false → Alone (deed.Come at m a) p r → Alone (deed.Come at m b) p t → a ≡ b
+same-obeys a b at m p r t n k x y = same-stop a b (sym (answered-stop a at m p r n x) ∙ answered-stop b at m p t k y)
 
 same-takes : (a b : Option PeerEvent) (p r t : Peering) → Alone (deed.Take a) p r → Alone (deed.Take b) p t → a ≡ b
 same-takes None None p r t x y = refl
@@ -173,13 +180,12 @@ same-deed : (d e : Deed) (p r t : Peering) → asked d ≡ asked e → is_wantin
 same-deed (deed.Submit q a) (deed.Submit q' b) p r t is n m x y =
     let s : q ≡ q' = cc in let same : a ≡ b = same-submits q a b p r t n m x (subst (λ (z : codec.Packet). Alone (deed.Submit z b) p t) (sym s) y) in λ i. deed.Submit (s i) (same i)
 same-deed (deed.Emit now a) (deed.Emit now' b) p r t is n m x y = let s : now ≡ now' = cc in let same : a ≡ b = x.0 ∙ ap (λ (z : ℕ). put_out p z) s ∙ sym y.0 in λ i. deed.Emit (s i) (same i)
-same-deed (deed.Come now sent message a) (deed.Come now' sent' message' b) p r t is n m x y =
-    let s : now ≡ now' = cc in
-    let k : sent ≡ sent' = cc in
+same-deed (deed.Come at message a) (deed.Come at' message' b) p r t is n m x y =
+    let s : at ≡ at' = cc in
     let g : message ≡ message' = cc in
-    let whole : ◌≡◌ {A = ℕ × Option ℕ × Message} (now, sent, message) (now', sent', message') = (λ i. (s i, k i, g i)) in
-    let same : a ≡ b = same-obeys a b now sent message p r t n m x (subst (λ (z : ℕ × Option ℕ × Message). Alone (deed.Come z.0 z.1 z.2 b) p t) (sym whole) y) in
-    λ i. deed.Come (s i) (k i) (g i) (same i)
+    let whole : ◌≡◌ {A = Arrival × Message} (at, message) (at', message') = (λ i. (s i, g i)) in
+    let same : a ≡ b = same-obeys a b at message p r t n m x (subst (λ (z : Arrival × Message). Alone (deed.Come z.0 z.1 b) p t) (sym whole) y) in
+    λ i. deed.Come (s i) (g i) (same i)
 same-deed (deed.Tick now short) (deed.Tick now' short') p r t is n m x y = is
 same-deed (deed.Take a) (deed.Take b) p r t is n m x y = ap (λ (z : Option PeerEvent). deed.Take z) (same-takes a b p r t x y)
 same-deed (deed.Disconnect way info a) (deed.Disconnect way' info' b) p r t is n m x y =
@@ -189,6 +195,8 @@ same-deed (deed.Disconnect way info a) (deed.Disconnect way' info' b) p r t is n
     let same : a ≡ b = same-leaves a b way info p r t x (subst (λ (z : Way × ℕ). Alone (deed.Disconnect z.0 z.1 b) p t) (sym whole) y) in λ i. deed.Disconnect (s i) (k i) (same i)
 same-deed (deed.Set set a) (deed.Set set' b) p r t is n m x y =
     let s : set ≡ set' = cc in let same : a ≡ b = same-sets set a b p r t n m x (subst (λ (z : Setting). Alone (deed.Set z b) p t) (sym s) y) in λ i. deed.Set (s i) (same i)
+same-deed deed.GiveWay deed.GiveWay p r t is n m x y = refl
+same-deed deed.TellAgain deed.TellAgain p r t is n m x y = refl
 same-deed d e p r t is n m x y = absurd (cc)
 
 pub one-answer : OneAnswer
@@ -215,11 +223,11 @@ shorter text rest m spells before low =
     let h : before + length (text ++ rest) ≤ greatest = low in (omega arith, omega arith)
 
 -- how many were handled
-handled-low : (now : ℕ) (sent : Option ℕ) (before : ℕ) (bytes : List ℕ) (answer : Received) (ds : List Deed) → before + length bytes ≤ greatest → Falls (record { now = now; sent = sent }) before bytes answer ds
+handled-low : (arrival : Arrival) (before : ℕ) (bytes : List ℕ) (answer : Received) (ds : List Deed) → before + length bytes ≤ greatest → Falls arrival before bytes answer ds
     → (before ≤ answer.handled) × (answer.stop ≡ Some stop.NoSentTime → before + 1 ≤ answer.handled)
-handled-low now sent before bytes answer ds low (nothing_left handled) = (omega arith, λ e. absurd (cc))
-handled-low now sent before bytes answer ds low (no_command handled text some none) = (omega arith, λ e. absurd (cc))
-handled-low now sent before bytes answer ds low (stops handled text rest m why spells) = by why
+handled-low arrival before bytes answer ds low (nothing_left handled) = (omega arith, λ e. absurd (cc))
+handled-low arrival before bytes answer ds low (no_command handled text some none) = (omega arith, λ e. absurd (cc))
+handled-low arrival before bytes answer ds low (stops handled text rest m why spells) = by why
   where
     one : one_more handled ≡ handled + 1
     one = (shorter text rest m spells handled low).0
@@ -227,20 +235,20 @@ handled-low now sent before bytes answer ds low (stops handled text rest m why s
     by : (w : Stop) → (handled ≤ handling.counted handled w) × (◌≡◌ {A = Option Stop} (Some w) (Some stop.NoSentTime) → handled + 1 ≤ handling.counted handled w)
     by stop.NoSentTime = (let l : one_more handled ≡ handled + 1 = one in omega arith, λ e. let l : one_more handled ≡ handled + 1 = one in omega arith)
     by w = (omega arith, λ e. absurd (cc))
-handled-low now sent before bytes answer ds low (falling.goes_on handled text rest m reply es spells more) =
+handled-low arrival before bytes answer ds low (falling.goes_on handled text rest m reply es spells more) =
     let room : (one_more handled ≡ handled + 1) × (handled + 1 + length rest ≤ greatest) = shorter text rest m spells handled low in
     let k : (one_more handled ≤ reply.handled) × (reply.stop ≡ Some stop.NoSentTime → one_more handled + 1 ≤ reply.handled) =
-    handled-low now sent (one_more handled) rest reply es (let a : one_more handled ≡ handled + 1 = room.0 in let b : handled + 1 + length rest ≤ greatest = room.1 in omega arith) more in
+    handled-low arrival (one_more handled) rest reply es (let a : one_more handled ≡ handled + 1 = room.0 in let b : handled + 1 + length rest ≤ greatest = room.1 in omega arith) more in
     let a : one_more handled ≡ handled + 1 = room.0 in
     (let b : one_more handled ≤ reply.handled = k.0 in omega arith, λ e. let b : one_more handled + 1 ≤ reply.handled = k.1 e in omega arith)
 
 -- a stop isn't followed by more
-stop-last : (now : ℕ) (sent : Option ℕ) (before : ℕ) (rest : List ℕ) (answer : Received) (ds : List Deed) (why : Stop) → before + 1 + length rest ≤ greatest → Falls (record { now = now; sent = sent }) (before + 1) rest answer ds
+stop-last : (arrival : Arrival) (before : ℕ) (rest : List ℕ) (answer : Received) (ds : List Deed) (why : Stop) → before + 1 + length rest ≤ greatest → Falls arrival (before + 1) rest answer ds
     → answer ≡ record { handled = handling.counted before why; stop = Some why } → one_more before ≡ before + 1 → ⊥
-stop-last now sent before rest answer ds why low falls is one = by why is
+stop-last arrival before rest answer ds why low falls is one = by why is
   where
     k : (before + 1 ≤ answer.handled) × (answer.stop ≡ Some stop.NoSentTime → before + 1 + 1 ≤ answer.handled)
-    k = handled-low now sent (before + 1) rest answer ds low falls
+    k = handled-low arrival (before + 1) rest answer ds low falls
 
     by : (w : Stop) → answer ≡ record { handled = handling.counted before w; stop = Some w } → ⊥
     by stop.NoSentTime e =
@@ -255,37 +263,37 @@ same-front text rest text' rest' m n a b e =
     let one : (text ≡ text') × (m ≡ n) = one_spelling text text' rest rest' m n a b e in
     (one.1, append_cancel_left text' rest rest' (ap (λ (xs : List ℕ). xs ++ rest) (sym one.0) ∙ e))
 
-falls-once : (now : ℕ) (sent : Option ℕ) (n1 n2 : ℕ) (b1 b2 : List ℕ) (r1 r2 : Received) (ds es : List Deed) → n1 + length b1 ≤ greatest → n1 ≡ n2 → b1 ≡ b2 → r1 ≡ r2 → Falls (record { now = now; sent = sent }) n1 b1 r1 ds → Falls (record { now = now; sent = sent }) n2 b2 r2 es → ds ≡ es
-falls-once now sent n1 n2 b1 b2 r1 r2 ds es low n b r (nothing_left h) (nothing_left k) = refl
-falls-once now sent n1 n2 b1 b2 r1 r2 ds es low n b r (nothing_left h) (no_command k text some none) = refl
-falls-once now sent n1 n2 b1 b2 r1 r2 ds es low n b r (nothing_left h) (stops k text rest m why spells) = absurd (some-bytes text rest m spells (sym b))
-falls-once now sent n1 n2 b1 b2 r1 r2 ds es low n b r (nothing_left h) (falling.goes_on k text rest m reply fs spells more) = absurd (some-bytes text rest m spells (sym b))
-falls-once now sent n1 n2 b1 b2 r1 r2 ds es low n b r (no_command h text some none) (nothing_left k) = refl
-falls-once now sent n1 n2 b1 b2 r1 r2 ds es low n b r (no_command h text some none) (no_command k text' some' none') = refl
-falls-once now sent n1 n2 b1 b2 r1 r2 ds es low n b r (no_command h bytes some none) (stops k text rest m why spells) = absurd (none m text rest b spells)
-falls-once now sent n1 n2 b1 b2 r1 r2 ds es low n b r (no_command h bytes some none) (falling.goes_on k text rest m reply fs spells more) = absurd (none m text rest b spells)
-falls-once now sent n1 n2 b1 b2 r1 r2 ds es low n b r (stops h text rest m why spells) (nothing_left k) = absurd (some-bytes text rest m spells b)
-falls-once now sent n1 n2 b1 b2 r1 r2 ds es low n b r (stops h text rest m why spells) (no_command k bytes some none) = absurd (none m text rest (sym b) spells)
-falls-once now sent n1 n2 b1 b2 r1 r2 ds es low n b r (stops h text rest m why spells) (stops k text' rest' m' why' spells') =
+falls-once : (arrival : Arrival) (n1 n2 : ℕ) (b1 b2 : List ℕ) (r1 r2 : Received) (ds es : List Deed) → n1 + length b1 ≤ greatest → n1 ≡ n2 → b1 ≡ b2 → r1 ≡ r2 → Falls arrival n1 b1 r1 ds → Falls arrival n2 b2 r2 es → ds ≡ es
+falls-once arrival n1 n2 b1 b2 r1 r2 ds es low n b r (nothing_left h) (nothing_left k) = refl
+falls-once arrival n1 n2 b1 b2 r1 r2 ds es low n b r (nothing_left h) (no_command k text some none) = refl
+falls-once arrival n1 n2 b1 b2 r1 r2 ds es low n b r (nothing_left h) (stops k text rest m why spells) = absurd (some-bytes text rest m spells (sym b))
+falls-once arrival n1 n2 b1 b2 r1 r2 ds es low n b r (nothing_left h) (falling.goes_on k text rest m reply fs spells more) = absurd (some-bytes text rest m spells (sym b))
+falls-once arrival n1 n2 b1 b2 r1 r2 ds es low n b r (no_command h text some none) (nothing_left k) = refl
+falls-once arrival n1 n2 b1 b2 r1 r2 ds es low n b r (no_command h text some none) (no_command k text' some' none') = refl
+falls-once arrival n1 n2 b1 b2 r1 r2 ds es low n b r (no_command h bytes some none) (stops k text rest m why spells) = absurd (none m text rest b spells)
+falls-once arrival n1 n2 b1 b2 r1 r2 ds es low n b r (no_command h bytes some none) (falling.goes_on k text rest m reply fs spells more) = absurd (none m text rest b spells)
+falls-once arrival n1 n2 b1 b2 r1 r2 ds es low n b r (stops h text rest m why spells) (nothing_left k) = absurd (some-bytes text rest m spells b)
+falls-once arrival n1 n2 b1 b2 r1 r2 ds es low n b r (stops h text rest m why spells) (no_command k bytes some none) = absurd (none m text rest (sym b) spells)
+falls-once arrival n1 n2 b1 b2 r1 r2 ds es low n b r (stops h text rest m why spells) (stops k text' rest' m' why' spells') =
     let front : (m ≡ m') × (rest ≡ rest') = same-front text rest text' rest' m m' spells spells' b in
     let same : why ≡ why' = same-some why why' (ap (λ (x : Received). x.stop) r) in
-    ap (λ (x : Message). Come now sent x (Err why) ∷ []) front.0 ∙ ap (λ (w : Stop). Come now sent m' (Err w) ∷ []) same
-falls-once now sent n1 n2 b1 b2 r1 r2 ds es low n b r (stops h text rest m why spells) (falling.goes_on k text' rest' m' reply fs spells' more) =
+    ap (λ (x : Message). Come arrival x (Err why) ∷ []) front.0 ∙ ap (λ (w : Stop). Come arrival m' (Err w) ∷ []) same
+falls-once arrival n1 n2 b1 b2 r1 r2 ds es low n b r (stops h text rest m why spells) (falling.goes_on k text' rest' m' reply fs spells' more) =
     let front : (m ≡ m') × (rest ≡ rest') = same-front text rest text' rest' m m' spells spells' b in
     let room : (one_more h ≡ h + 1) × (h + 1 + length rest ≤ greatest) = shorter text rest m spells h low in
     let one : one_more k ≡ h + 1 = ap one_more (sym n) ∙ room.0 in
-    absurd (stop-last now sent h rest' reply fs why (subst (λ (xs : List ℕ). h + 1 + length xs ≤ greatest) front.1 room.1) (subst (λ (x : ℕ). Falls (record { now = now; sent = sent }) x rest' reply fs) one more) (sym r) room.0)
-falls-once now sent n1 n2 b1 b2 r1 r2 ds es low n b r (falling.goes_on h text rest m reply fs spells more) (nothing_left k) = absurd (some-bytes text rest m spells b)
-falls-once now sent n1 n2 b1 b2 r1 r2 ds es low n b r (falling.goes_on h text rest m reply fs spells more) (no_command k bytes some none) = absurd (none m text rest (sym b) spells)
-falls-once now sent n1 n2 b1 b2 r1 r2 ds es low n b r (falling.goes_on h text rest m reply fs spells more) (stops k text' rest' m' why spells') =
+    absurd (stop-last arrival h rest' reply fs why (subst (λ (xs : List ℕ). h + 1 + length xs ≤ greatest) front.1 room.1) (subst (λ (x : ℕ). Falls arrival x rest' reply fs) one more) (sym r) room.0)
+falls-once arrival n1 n2 b1 b2 r1 r2 ds es low n b r (falling.goes_on h text rest m reply fs spells more) (nothing_left k) = absurd (some-bytes text rest m spells b)
+falls-once arrival n1 n2 b1 b2 r1 r2 ds es low n b r (falling.goes_on h text rest m reply fs spells more) (no_command k bytes some none) = absurd (none m text rest (sym b) spells)
+falls-once arrival n1 n2 b1 b2 r1 r2 ds es low n b r (falling.goes_on h text rest m reply fs spells more) (stops k text' rest' m' why spells') =
     let room : (one_more h ≡ h + 1) × (h + 1 + length rest ≤ greatest) = shorter text rest m spells h low in
-    absurd (stop-last now sent h rest reply fs why room.1 (subst (λ (x : ℕ). Falls (record { now = now; sent = sent }) x rest reply fs) room.0 more) (r ∙ ap (λ (x : ℕ). record { handled = handling.counted x why; stop = Some why }) (sym n)) room.0)
-falls-once now sent n1 n2 b1 b2 r1 r2 ds es low n b r (falling.goes_on h text rest m reply fs spells more) (falling.goes_on k text' rest' m' reply' gs spells' more') =
+    absurd (stop-last arrival h rest reply fs why room.1 (subst (λ (x : ℕ). Falls arrival x rest reply fs) room.0 more) (r ∙ ap (λ (x : ℕ). record { handled = handling.counted x why; stop = Some why }) (sym n)) room.0)
+falls-once arrival n1 n2 b1 b2 r1 r2 ds es low n b r (falling.goes_on h text rest m reply fs spells more) (falling.goes_on k text' rest' m' reply' gs spells' more') =
     let front : (m ≡ m') × (rest ≡ rest') = same-front text rest text' rest' m m' spells spells' b in
     let room : (one_more h ≡ h + 1) × (h + 1 + length rest ≤ greatest) = shorter text rest m spells h low in
     let later : fs ≡ gs =
-    falls-once now sent (one_more h) (one_more k) rest rest' reply reply' fs gs (let a : one_more h ≡ h + 1 = room.0 in let l : h + 1 + length rest ≤ greatest = room.1 in omega arith) (ap one_more n) front.1 r more more' in
-    ap (λ (x : Message). Come now sent x (Ok tt) ∷ fs) front.0 ∙ ap (λ (xs : List Deed). Come now sent m' (Ok tt) ∷ xs) later
+    falls-once arrival (one_more h) (one_more k) rest rest' reply reply' fs gs (let a : one_more h ≡ h + 1 = room.0 in let l : h + 1 + length rest ≤ greatest = room.1 in omega arith) (ap one_more n) front.1 r more more' in
+    ap (λ (x : Message). Come arrival x (Ok tt) ∷ fs) front.0 ∙ ap (λ (xs : List Deed). Come arrival m' (Ok tt) ∷ xs) later
 
 -- what reaches a slot of a datagram
 
@@ -303,56 +311,170 @@ read-unread bytes commands header why read (heading.compressed long is) = absurd
 read-unread bytes commands header why read (heading.cut_short long plain none) = none header read.front commands read.split read.spelled
 
 -- a datagram that the slot takes in
-record IsTaken (now i : ℕ) (s : SlotState) (from : Addr) (bytes : List ℕ) (answer : Received) (ds : List Deed) : Type 0 where
+record IsTaken (i : ℕ) (s : SlotState) (r : Receipt) : Type 0 where
   header : Header
   commands : List ℕ
-  read : IsRead bytes header commands
+  read : IsRead r.bytes header commands
   known : header.peer ≢ no_peer
   at : header.peer ≡ i
-  open' : refused_by_slot from header.session (Some s) ≡ None
-  falls : Falls (record { now = now; sent = header.sent }) 0 commands answer ds
+  open' : refused_by_slot r.from header.session (Some s) ≡ None
 
-taken-once : (now i : ℕ) (s : SlotState) (from : Addr) (bytes : List ℕ) (answer : Received) (ds es : List Deed) → length bytes ≤ greatest → IsTaken now i s from bytes answer ds → Reaches i s (record { now = now; from = from; bytes = bytes; answer = answer }) es → es ≡ ds
-taken-once now i s from bytes answer ds es low x (unreadable why u) = absurd (read-unread bytes x.commands x.header why x.read u)
-taken-once now i s from bytes answer ds es low x (elsewhere header commands read away) = by away
+abbrev arrival_of : SlotState → Receipt → Header → Arrival
+arrival_of s r header = record { now = r.host.clock; sent = header.sent; full = awaits s && r.host.full }
+
+-- its commands come to its peer, or this is told again
+reached : (M : List Deed → Type 0) (i : ℕ) (s : SlotState) (r : Receipt) (x : IsTaken i s r) → ((es : List Deed) → was_refused s ≡ false → Falls (arrival_of s r x.header) 0 x.commands r.answer es → M es) → (was_refused s ≡ true → M (deeds_if (is_some x.header.sent) TellAgain))
+    → (es : List Deed) → Reaches i s r es → M es
+reached M i s r x one two es (unreadable why u) = absurd (read-unread r.bytes x.commands x.header why x.read u)
+reached M i s r x one two es (elsewhere header commands read away none) = by away
   where
     same : x.header ≡ header
-    same = (read-once bytes x.commands commands x.header header x.read read).0
+    same = (read-once r.bytes x.commands commands x.header header x.read read).0
 
-    by : (header.peer ≡ no_peer) ⊎ (header.peer ≢ i) → [] ≡ ds
+    by : (header.peer ≡ no_peer) ⊎ (header.peer ≢ i) → M []
     by (inl e) = absurd (x.known (ap (λ (h : Header). h.peer) same ∙ e))
     by (inr n) = absurd (n (ap (λ (h : Header). h.peer) (sym same) ∙ x.at))
-taken-once now i s from bytes answer ds es low x (turned_away header commands why read known at refused is) =
-    let same : x.header ≡ header = (read-once bytes x.commands commands x.header header x.read read).0 in
-    let both : ◌≡◌ {A = Option Stop} None (Some why) = sym x.open' ∙ ap (λ (h : Header). refused_by_slot from h.session (Some s)) same ∙ refused in absurd (cc)
-taken-once now i s from bytes answer ds es low x (here header commands es' read known at open' falls) =
-    let same : (header ≡ x.header) × (commands ≡ x.commands) = read-once bytes commands x.commands header x.header read x.read in
-    let fits : length commands ≤ length bytes = (read-length bytes commands header read).1 in
-    let l : length bytes ≤ greatest = low in
-    falls-once now x.header.sent 0 0 commands x.commands answer answer es ds (omega arith) refl same.1 refl (subst (λ (h : Header). Falls (record { now = now; sent = h.sent }) 0 commands answer es) same.0 falls) x.falls
+reached M i s r x one two es (falling.gives_way header commands read g) =
+    let same : x.header ≡ header = (read-once r.bytes x.commands commands x.header header x.read read).0 in absurd (x.known (ap (λ (h : Header). h.peer) same ∙ g.stranger))
+reached M i s r x one two es (turned_away header commands why read known at refused is) =
+    let same : x.header ≡ header = (read-once r.bytes x.commands commands x.header header x.read read).0 in
+    let both : ◌≡◌ {A = Option Stop} None (Some why) = sym x.open' ∙ ap (λ (h : Header). refused_by_slot r.from h.session (Some s)) same ∙ refused in absurd (cc)
+reached M i s r x one two es (here header commands es' read known at open' not' falls) =
+    let same : (header ≡ x.header) × (commands ≡ x.commands) = read-once r.bytes commands x.commands header x.header read x.read in
+    one es' not' (subst (λ (l : List ℕ). Falls (arrival_of s r x.header) 0 l r.answer es') same.1 (subst (λ (h : Header). Falls (arrival_of s r h) 0 commands r.answer es') same.0 falls))
+reached M i s r x one two es (falling.told_again header commands read known at open' was is) =
+    let same : x.header ≡ header = (read-once r.bytes x.commands commands x.header header x.read read).0 in
+    subst (λ (h : Header). M (deeds_if (is_some h.sent) TellAgain)) same (two was)
 
-reaches-once : (now i : ℕ) (s : SlotState) (from : Addr) (bytes : List ℕ) (answer : Received) (ds es : List Deed) → length bytes ≤ greatest → Reaches i s (record { now = now; from = from; bytes = bytes; answer = answer }) ds → Reaches i s (record { now = now; from = from; bytes = bytes; answer = answer }) es → ds ≡ es
-reaches-once now i s from bytes answer ds es low a (here header commands es' read known at open' falls) =
-    taken-once now i s from bytes answer es ds low (record { header = header; commands = commands; read = read; known = known; at = at; open' = open'; falls = falls }) a
-reaches-once now i s from bytes answer ds es low (here header commands ds' read known at open' falls) b =
-    sym (taken-once now i s from bytes answer ds es low (record { header = header; commands = commands; read = read; known = known; at = at; open' = open'; falls = falls }) b)
-reaches-once now i s from bytes answer ds es low a b = refl
+not-both : {A : Type 0} (b : Bool) → b ≡ false → b ≡ true → A
+not-both b e f = absurd (let x : false ≡ true = sym e ∙ f in cc)
 
--- a call falls in one way
+same-peer-id : (bytes commands commands' : List ℕ) (header header' : Header) → IsRead bytes header commands → IsRead bytes header' commands' → header.peer ≡ no_peer → header'.peer ≡ no_peer
+same-peer-id bytes commands commands' header header' read read' e = ap (λ (h : Header). h.peer) (sym (read-once bytes commands commands' header header' read read').0) ∙ e
 
-fell-once : (c : Call) (h : Common) (i : ℕ) (s : SlotState) (p : Peering) (ds es : List Deed) → IsCounted c → Fell h (record { number = i; slot = s; peer = p }) c ds → Fell h (record { number = i; slot = s; peer = p }) c es → ds ≡ es
-fell-once (call.Receive from bytes answer) h i s p ds es low a b = reaches-once h.clock i s from bytes answer ds es low a b
-fell-once (call.Connect address channels info word answer) h i s p ds es low a b = a ∙ sym b
-fell-once (call.Submit name channel q answer) h i s p ds es low a b = a ∙ sym b
-fell-once (call.Service answer buf) h i s p ds es low a b = a ∙ sym b
-fell-once (call.Tick ms) h i s p ds es low a b = a ∙ sym b
-fell-once (call.Disconnect mode name info answer) h i s p ds es low a b = a ∙ sym b
-fell-once (call.SetBandwidth incoming outgoing (Ok done)) h i s p ds es low a b = a ∙ sym b
-fell-once (call.SetBandwidth incoming outgoing (Err why)) h i s p ds es low a b = a ∙ sym b
-fell-once (call.ConfigureThrottle name interval acceleration deceleration answer) h i s p ds es low a b = a ∙ sym b
-fell-once (call.SetPingInterval name ms answer) h i s p ds es low a b = a ∙ sym b
-fell-once (call.SetTimeout name limit minimum maximum answer) h i s p ds es low a b = a ∙ sym b
-fell-once (call.NextEvent answer) h i s p ds es low a b = a ∙ sym b
+-- a datagram that names another slot, or none, doesn't name this one
+is-away : (i : ℕ) (r : Receipt) (header header' : Header) (commands commands' : List ℕ) → IsRead r.bytes header commands → IsRead r.bytes header' commands' → header'.peer ≢ no_peer → header'.peer ≡ i
+    → ((header.peer ≡ no_peer) ⊎ (header.peer ≢ i)) → ⊥
+is-away i r header header' commands commands' read read' known at (inl e) = known (same-peer-id r.bytes commands commands' header header' read read' e)
+is-away i r header header' commands commands' read read' known at (inr n) =
+    n (ap (λ (h : Header). h.peer) (read-once r.bytes commands commands' header header' read read').0 ∙ at)
+
+-- an offer that gets the slot makes its peer give way
+seated-once : (i : ℕ) (s : SlotState) (r : Receipt) (header : Header) (commands : List ℕ) → IsRead r.bytes header commands → GetsSeat i r header commands → (es : List Deed) → Reaches i s r es → GiveWay ∷ [] ≡ es
+seated-once i s r header commands read g es (unreadable why u) = absurd (read-unread r.bytes commands header why read u)
+seated-once i s r header commands read g es (elsewhere header' commands' read' away none) =
+    let same : (header ≡ header') × (commands ≡ commands') = read-once r.bytes commands commands' header header' read read' in
+    absurd (none (subst (λ (l : List ℕ). GetsSeat i r header' l) same.1 (subst (λ (h : Header). GetsSeat i r h commands) same.0 g)))
+seated-once i s r header commands read g es (falling.gives_way header' commands' read' g') = refl
+seated-once i s r header commands read g es (turned_away header' commands' why read' known at refused is) = absurd (known (same-peer-id r.bytes commands commands' header header' read read' g.stranger))
+seated-once i s r header commands read g es (here header' commands' es' read' known at open' not' falls) = absurd (known (same-peer-id r.bytes commands commands' header header' read read' g.stranger))
+seated-once i s r header commands read g es (falling.told_again header' commands' read' known at open' was is) = absurd (known (same-peer-id r.bytes commands commands' header header' read read' g.stranger))
+
+heard-once : (i : ℕ) (s : SlotState) (r : Receipt) (x : IsTaken i s r) → length r.bytes ≤ greatest → was_refused s ≡ false → (ds : List Deed) → Falls (arrival_of s r x.header) 0 x.commands r.answer ds → (es : List Deed) → Reaches i s r es → ds ≡ es
+heard-once i s r x low not' ds falls es y =
+    reached (λ (l : List Deed). ds ≡ l) i s r x
+    (λ l n f.
+    let fits : length x.commands ≤ length r.bytes = (read-length r.bytes x.commands x.header x.read).1 in
+    let most : length r.bytes ≤ greatest = low in falls-once (arrival_of s r x.header) 0 0 x.commands x.commands r.answer r.answer ds l (omega arith) refl refl refl falls f)
+    (λ was. not-both (was_refused s) not' was) es y
+
+again-once : (i : ℕ) (s : SlotState) (r : Receipt) (x : IsTaken i s r) → was_refused s ≡ true → (es : List Deed) → Reaches i s r es → deeds_if (is_some x.header.sent) TellAgain ≡ es
+again-once i s r x was es y = reached (λ (l : List Deed). deeds_if (is_some x.header.sent) TellAgain ≡ l) i s r x (λ l n f. not-both (was_refused s) n was) (λ w. refl) es y
+
+reaches-once : (i : ℕ) (s : SlotState) (r : Receipt) (ds es : List Deed) → length r.bytes ≤ greatest → Reaches i s r ds → Reaches i s r es → ds ≡ es
+reaches-once i s r ds es low (here header commands ds' read known at open' not' falls) b =
+    heard-once i s r (record { header = header; commands = commands; read = read; known = known; at = at; open' = open' }) low not' ds' falls es b
+reaches-once i s r ds es low a (here header commands es' read known at open' not' falls) =
+    sym (heard-once i s r (record { header = header; commands = commands; read = read; known = known; at = at; open' = open' }) low not' es' falls ds a)
+reaches-once i s r ds es low (falling.told_again header commands read known at open' was is) b =
+    again-once i s r (record { header = header; commands = commands; read = read; known = known; at = at; open' = open' }) was es b
+reaches-once i s r ds es low a (falling.told_again header commands read known at open' was is) =
+    sym (again-once i s r (record { header = header; commands = commands; read = read; known = known; at = at; open' = open' }) was ds a)
+reaches-once i s r ds es low (falling.gives_way header commands read g) b = seated-once i s r header commands read g es b
+reaches-once i s r ds es low a (falling.gives_way header commands read g) = sym (seated-once i s r header commands read g ds a)
+reaches-once i s r ds es low a b = refl
+
+-- in two hosts that agree on what it looks at a datagram reaches a peer alike
+
+-- only one that waits for its client gives way
+not-seated : {A : Type 0} (p q : Peering) → is_answering p.state ≡ false → AllAlone (GiveWay ∷ []) p q → A
+not-seated p q idle alone = not-both (is_answering p.state) idle alone.1.0
+
+elsewhere-once : (i : ℕ) (s : SlotState) (r : Receipt) (header : Header) (commands : List ℕ) (p q : Peering) → is_answering p.state ≡ false → IsRead r.bytes header commands → ((header.peer ≡ no_peer) ⊎ (header.peer ≢ i))
+    → (es : List Deed) → Reaches i s r es → AllAlone es p q → [] ≡ es
+elsewhere-once i s r header commands p q idle read away es (falling.gives_way header' commands' read' g) alone = not-seated p q idle alone
+elsewhere-once i s r header commands p q idle read away es (here header' commands' es' read' known at open' not' falls) alone =
+    absurd (is-away i r header header' commands commands' read read' known at away)
+elsewhere-once i s r header commands p q idle read away es (falling.told_again header' commands' read' known at open' was is) alone =
+    absurd (is-away i r header header' commands commands' read read' known at away)
+elsewhere-once i s r header commands p q idle read away es y alone = refl
+
+passes-alike : (g h : Common) (i : ℕ) (s : SlotState) (from : Addr) (bytes : List ℕ) (answer : Received) (p q q' : Peering) → length bytes ≤ greatest → g.clock ≡ h.clock → (awaits s && g.full) ≡ (awaits s && h.full)
+    → is_answering p.state ≡ false → (ds es : List Deed) → Reaches i s (receipt g from bytes answer) ds → AllAlone ds p q → Reaches i s (receipt h from bytes answer) es → AllAlone es p q' → ds ≡ es
+passes-alike g h i s from bytes answer p q q' low now full idle ds es (unreadable why u) alone b alone' = reaches-once i s (receipt h from bytes answer) ds es low (unreadable why u) b
+passes-alike g h i s from bytes answer p q q' low now full idle ds es (elsewhere header commands read away none) alone b alone' =
+    elsewhere-once i s (receipt h from bytes answer) header commands p q' idle read away es b alone'
+passes-alike g h i s from bytes answer p q q' low now full idle ds es (falling.gives_way header commands read x) alone b alone' = not-seated p q idle alone
+passes-alike g h i s from bytes answer p q q' low now full idle ds es (turned_away header commands why read some at refused is) alone b alone' =
+    reaches-once i s (receipt h from bytes answer) ds es low (turned_away header commands why read some at refused is) b
+passes-alike g h i s from bytes answer p q q' low now full idle ds es (here header commands ds' read some at taken not' falls) alone b alone' =
+    reaches-once i s (receipt h from bytes answer) ds es low (here header commands ds' read some at taken not' (falls-same g h s header commands answer ds' now full falls)) b
+passes-alike g h i s from bytes answer p q q' low now full idle ds es (falling.told_again header commands read some at taken was is) alone b alone' =
+    reaches-once i s (receipt h from bytes answer) ds es low (falling.told_again header commands read some at taken was is) b
+
+reaches-alike : (g h : Common) (i : ℕ) (s : SlotState) (from : Addr) (bytes : List ℕ) (answer : Received) (p q q' : Peering) (ds es : List Deed) → length bytes ≤ greatest → s.peer ≡ Some p → AgreeOnPeer (call.Receive from bytes answer) i p g h
+    → Reaches i s (receipt g from bytes answer) ds → AllAlone ds p q → Reaches i s (receipt h from bytes answer) es → AllAlone es p q' → ds ≡ es
+reaches-alike g h i s from bytes answer p q q' ds es low has e a alone b alone' = by (is_answering p.state) refl
+  where
+    full : (awaits s && g.full) ≡ (awaits s && h.full)
+    full = full-same g h s p has (λ waits. (e.1 waits).0)
+
+    by : (waits : Bool) → is_answering p.state ≡ waits → ds ≡ es
+    by true is = reaches-once i s (receipt h from bytes answer) ds es low (reaches-same g h i s from bytes answer ds e.0 full (e.1 is).1 a) b
+    by false idle = passes-alike g h i s from bytes answer p q q' low e.0 full idle ds es a alone b alone'
+
+-- a call falls alike
+
+fell-alike : (c : Call) (g h : Common) (i : ℕ) (s : SlotState) (p q q' : Peering) (ds es : List Deed) → IsCounted c → s.peer ≡ Some p → AgreeOnPeer c i p g h → Fell g (record { number = i; slot = s; peer = p }) c ds → AllAlone ds p q
+    → Fell h (record { number = i; slot = s; peer = p }) c es → AllAlone es p q' → ds ≡ es
+fell-alike (call.Receive from bytes answer) g h i s p q q' ds es low has e a alone b alone' = reaches-alike g h i s from bytes answer p q q' ds es low has e a alone b alone'
+fell-alike (call.Connect address channels info word answer) g h i s p q q' ds es low has e a alone b alone' = a ∙ sym b
+fell-alike (call.Submit name channel packet answer) g h i s p q q' ds es low has e a alone b alone' = a ∙ sym b
+fell-alike (call.Service answer buf) g h i s p q q' ds es low has e a alone b alone' = a ∙ asked-same g h i p answer buf e ∙ sym b
+fell-alike (call.Tick ms) g h i s p q q' ds es low has e a alone b alone' =
+    let now : ℕ = clock_after g.clock ms in
+    a ∙ ap (λ (xs : List Deed). deed.Tick now (g.short i) ∷ xs) (share-same g h now s.emitted (peers.moved (g.short i) p now) e.2)
+    ∙ ap (λ (short : Bool). deed.Tick now short ∷ share_of h now s.emitted (peers.moved short p now)) e.1
+    ∙ ap (λ (clock : ℕ). deed.Tick (clock_after clock ms) (h.short i) ∷ share_of h (clock_after clock ms) s.emitted (peers.moved (h.short i) p (clock_after clock ms))) e.0
+    ∙ sym b
+fell-alike (call.Disconnect mode name info answer) g h i s p q q' ds es low has e a alone b alone' = a ∙ sym b
+fell-alike (call.SetBandwidth incoming outgoing (Ok done)) g h i s p q q' ds es low has e a alone b alone' = a ∙ sym b
+fell-alike (call.SetBandwidth incoming outgoing (Err why)) g h i s p q q' ds es low has e a alone b alone' = a ∙ sym b
+fell-alike (call.ConfigureThrottle name interval acceleration deceleration answer) g h i s p q q' ds es low has e a alone b alone' = a ∙ sym b
+fell-alike (call.SetPingInterval name ms answer) g h i s p q q' ds es low has e a alone b alone' = a ∙ sym b
+fell-alike (call.SetTimeout name limit minimum maximum answer) g h i s p q q' ds es low has e a alone b alone' = a ∙ sym b
+fell-alike (call.NextEvent answer) g h i s p q q' ds es low has e a alone b alone' = a ∙ taken-same g h i p answer e ∙ sym b
+fell-alike (call.Admit what answer) g h i s p q q' ds es low has e a alone b alone' = a ∙ sym b
+
+-- a stranger's datagram does something to a peer only if that gives way
+gives-way : (i : ℕ) (s : SlotState) (r : Receipt) (header : Header) (commands : List ℕ) (p q : Peering) → IsRead r.bytes header commands → header.peer ≡ no_peer
+    → (ds : List Deed) → Reaches i s r ds → AllAlone ds p q → (ds ≡ [] → ⊥) → is_answering p.state ≡ true
+gives-way i s r header commands p q read stranger ds (falling.gives_way header' commands' read' g) alone some = alone.1.0
+gives-way i s r header commands p q read stranger ds (here header' commands' es' read' known at open' not' falls) alone some =
+    absurd (known (same-peer-id r.bytes commands commands' header header' read read' stranger))
+gives-way i s r header commands p q read stranger ds (falling.told_again header' commands' read' known at open' was is) alone some =
+    absurd (known (same-peer-id r.bytes commands commands' header header' read read' stranger))
+gives-way i s r header commands p q read stranger ds y alone some = absurd (some refl)
+
+-- a connection begins alike where a slot's peer left it first, for which a call that asks doesn't fall to it
+begins-over : (c : Call) (g h : Common) (i : ℕ) (r s u : SlotState) (p q : Peering) (ds : List Deed) → AgreeOnPeer c i p g h → Fell g (record { number = i; slot = r; peer = p }) c ds → AllAlone ds p q → (ds ≡ [] → ⊥)
+    → Begins c g i s u → Begins c h i s u
+begins-over c g h i r s u p q ds e fell alone some (asks address channels info word is none at) = absurd (some (subst (λ (x : Call). Fell g (record { number = i; slot = r; peer = p }) x ds) is fell))
+begins-over c g h i r s u p q ds e fell alone some (answers from bytes commands header o is read stranger offer taken new at) =
+    let k : AgreeOnPeer (call.Receive from bytes handled_one) i p g h = subst (λ (x : Call). AgreeOnPeer x i p g h) is e in
+    let f : Reaches i r (receipt g from bytes handled_one) ds = subst (λ (x : Call). Fell g (record { number = i; slot = r; peer = p }) x ds) is fell in
+    let waits : is_answering p.state ≡ true = gives-way i r (receipt g from bytes handled_one) header commands p q read stranger ds f alone some in
+    answers-same c g h i s from bytes commands header o is read stranger offer taken new at (k.1 waits).1
 
 -- and a connection begins in one way
 
@@ -387,11 +509,15 @@ begins-once c h i s t u (answers from bytes commands header o is read stranger o
 none-some : {A : Type 0} (o : Option Peering) (p : Peering) → o ≡ None → o ≡ Some p → A
 none-some o p e f = absurd (let y : ◌≡◌ {A = Option Peering} None (Some p) = sym e ∙ f in cc)
 
--- a peer that stays leaves its slot as it is
-stays-so : (c : Call) (h : Common) (i : ℕ) (s u : SlotState) (p q : Peering) (ds : List Deed) → IsCounted c → IsHeld s → s.peer ≡ Some p → Stays c h i s p → Fell h (record { number = i; slot = s; peer = p }) c ds → AllAlone ds p q → u ≡ having_emitted (with_peer s q) (counted c h i s)
-    → u ≡ having_emitted s (counted c h i s)
-stays-so c h i s u p q ds low live has stays fell alone e =
-    let same : q ≡ p = all-once ds p q p alone (subst (λ (xs : List Deed). AllAlone xs p p) (fell-once c h i s p stays.deeds ds low stays.fell fell) stays.alone) in
+-- of a slot that holds a peer
+peers-agree : (c : Call) (g h : Common) (i : ℕ) (s : SlotState) (p : Peering) → Agree c i s.peer g h → s.peer ≡ Some p → AgreeOnPeer c i p g h
+peers-agree c g h i s p agree has = subst (λ (o : Option Peering). Agree c i o g h) has agree
+
+-- a peer that stays in one host leaves its slot as it is in the other
+stays-so : (c : Call) (g h : Common) (i : ℕ) (s u : SlotState) (p q : Peering) (ds : List Deed) → IsCounted c → IsHeld s → s.peer ≡ Some p → AgreeOnPeer c i p g h → Stays c g i s p → Fell h (record { number = i; slot = s; peer = p }) c ds
+    → AllAlone ds p q → u ≡ having_emitted (with_peer s q) (counted c h i s) → u ≡ having_emitted s (counted c h i s)
+stays-so c g h i s u p q ds low live has agree stays fell alone e =
+    let same : q ≡ p = all-once ds p q p alone (subst (λ (xs : List Deed). AllAlone xs p p) (fell-alike c g h i s p p q stays.deeds ds low has agree stays.fell stays.alone fell alone) stays.alone) in
     e ∙ ap (λ (x : Peering). having_emitted (with_peer s x) (counted c h i s)) same
     ∙ ap (λ (x : SlotState). having_emitted x (counted c h i s)) (held s p (live p has) ∙ ap (λ (o : Option Peering). record s { peer = o }) (sym has))
 
@@ -399,25 +525,66 @@ stays-so c h i s u p q ds low live has stays fell alone e =
 counting : (c : Call) (g h : Common) (i : ℕ) (s t : SlotState) → Agree c i s.peer g h → having_emitted t (counted c g i s) ≡ having_emitted t (counted c h i s)
 counting c g h i s t agree = ap (λ (n : ℕ). having_emitted t n) (counts-same c g h i s s.peer agree)
 
+-- what falls to a peer leaves it alike
+same-after : (c : Call) (g h : Common) (i : ℕ) (s : SlotState) (p r q q' : Peering) (ds es : List Deed) → IsCounted c → Agree c i s.peer g h → s.peer ≡ Some p → s.peer ≡ Some r → Fell g (record { number = i; slot = s; peer = p }) c ds → AllAlone ds p q
+    → Fell h (record { number = i; slot = s; peer = r }) c es → AllAlone es r q' → q ≡ q'
+same-after c g h i s p r q q' ds es low agree has has' fell alone fell' alone' =
+    let same : r ≡ p = same-some r p (sym has' ∙ has) in
+    let its : AllAlone es p q' = subst (λ (x : Peering). AllAlone es x q') same alone' in
+    let deeds : ds ≡ es =
+    fell-alike c g h i s p q q' ds es low has (peers-agree c g h i s p agree has) fell alone (subst (λ (x : Peering). Fell h (record { number = i; slot = s; peer = x }) c es) same fell') its in
+    all-once ds p q q' alone (subst (λ (xs : List Deed). AllAlone xs p q') (sym deeds) its)
+
+-- one that is free then did something
+did-some : (s : SlotState) (p q : Peering) (ds : List Deed) → IsHeld s → s.peer ≡ Some p → AllAlone ds p q → q.state ≡ state.Free → ds ≡ [] → ⊥
+did-some s p q ds live has alone gone e = live p has (ap (λ (x : Peering). x.state) (let same : p ≡ q = subst (λ (xs : List Deed). AllAlone xs p q) e alone in same) ∙ gone)
+
+-- one that stays in one host isn't left free in the other
+not-stays : {A : Type 0} (c : Call) (g h : Common) (i : ℕ) (s : SlotState) (p q : Peering) (ds : List Deed) → IsCounted c → IsHeld s → s.peer ≡ Some p → AgreeOnPeer c i p g h → Stays c g i s p → Fell h (record { number = i; slot = s; peer = p }) c ds
+    → AllAlone ds p q → q.state ≡ state.Free → A
+not-stays c g h i s p q ds low live has agree stays fell alone gone =
+    let same : q ≡ p = all-once ds p q p alone (subst (λ (xs : List Deed). AllAlone xs p p) (fell-alike c g h i s p p q stays.deeds ds low has agree stays.fell stays.alone fell alone) stays.alone) in
+    absurd (live p has (ap (λ (x : Peering). x.state) (sym same) ∙ gone))
+
+-- where a connection begins in the slot that a peer left, it does in both hosts
+over-same : (c : Call) (g h : Common) (i : ℕ) (s u : SlotState) (p q q' : Peering) (ds : List Deed) → IsHeld s → Agree c i s.peer g h → s.peer ≡ Some p → Fell g (record { number = i; slot = s; peer = p }) c ds → AllAlone ds p q → q.state ≡ state.Free → q ≡ q'
+    → Begins c g i (with_peer s q) u → Begins c h i (with_peer s q') u
+over-same c g h i s u p q q' ds live agree has fell alone gone same b =
+    subst (λ (x : Peering). Begins c h i (with_peer s x) u) same
+    (begins-over c g h i s (with_peer s q) u p q ds (peers-agree c g h i s p agree has) fell alone (did-some s p q ds live has alone gone) b)
+
+back : (c : Call) (g h : Common) (i : ℕ) (o : Option Peering) → Agree c i o g h → Agree c i o h g
+back c g h i None agree = free-back c g h i agree
+back c g h i (Some p) agree = peer-back c g h i p agree
+
 pub one-way : OneWay
 one-way c g h i s t u low live agree (untouched stays not' e) (untouched stays' not'' f) = e ∙ counting c g h i s s agree ∙ sym f
-one-way c g h i s t u low live agree (untouched stays not' e) (goes_on p q ds has fell alone f) =
-    let k : Stays c h i s p = stays-same c g h i s p (subst (λ (o : Option Peering). Agree c i o g h) has agree) (stays p has) in
-    e ∙ counting c g h i s s agree ∙ sym (stays-so c h i s u p q ds low live has k fell alone f)
+one-way c g h i s t u low live agree (untouched stays not' e) (goes_on p q ds has fell alone none f) =
+    e ∙ counting c g h i s s agree ∙ sym (stays-so c g h i s u p q ds low live has (peers-agree c g h i s p agree has) (stays p has) fell alone f)
+one-way c g h i s t u low live agree (untouched stays not' e) (takes_over p q ds has fell alone gone left b) =
+    not-stays c g h i s p q ds low live has (peers-agree c g h i s p agree has) (stays p has) fell alone gone
 one-way c g h i s t u low live agree (untouched stays not' e) (begins none left b) =
-    absurd (not' u (begins-same c h g i s u (free-back c g h i (subst (λ (o : Option Peering). Agree c i o g h) none agree)) b))
-one-way c g h i s t u low live agree (goes_on p q ds has fell alone e) (untouched stays not' f) =
-    let k : Fell h (record { number = i; slot = s; peer = p }) c ds = fell-same c g h i s p ds (subst (λ (o : Option Peering). Agree c i o g h) has agree) fell in
-    stays-so c h i s t p q ds low live has (stays p has) k alone (e ∙ counting c g h i s (with_peer s q) agree) ∙ sym f
-one-way c g h i s t u low live agree (goes_on p q ds has fell alone e) (goes_on p' q' es has' fell' alone' f) =
-    let same : p' ≡ p = same-some p' p (sym has' ∙ has) in
-    let k : Fell h (record { number = i; slot = s; peer = p }) c ds = fell-same c g h i s p ds (subst (λ (o : Option Peering). Agree c i o g h) has agree) fell in
-    let deeds : es ≡ ds = fell-once c h i s p es ds low (subst (λ (x : Peering). Fell h (record { number = i; slot = s; peer = x }) c es) same fell') k in
-    let left : AllAlone ds p q' = subst (λ (xs : List Deed). AllAlone xs p q') deeds (subst (λ (x : Peering). AllAlone es x q') same alone') in
-    e ∙ counting c g h i s (with_peer s q) agree ∙ ap (λ (x : Peering). having_emitted (with_peer s x) (counted c h i s)) (all-once ds p q q' alone left) ∙ sym f
-one-way c g h i s t u low live agree (goes_on p q ds has fell alone e) (begins none left b) = none-some s.peer p none has
-one-way c g h i s t u low live agree (begins none left b) (untouched stays not' f) = absurd (not' t (begins-same c g h i s t (subst (λ (o : Option Peering). Agree c i o g h) none agree) b))
-one-way c g h i s t u low live agree (begins none left b) (goes_on p q ds has fell alone f) = none-some s.peer p none has
+    absurd (not' none u (begins-same c h g i s u (free-back c g h i (subst (λ (o : Option Peering). Agree c i o g h) none agree)) b))
+one-way c g h i s t u low live agree (goes_on p q ds has fell alone none e) (untouched stays not' f) =
+    stays-so c h g i s t p q ds low live has (peer-back c g h i p (peers-agree c g h i s p agree has)) (stays p has) fell alone e ∙ counting c g h i s s agree ∙ sym f
+one-way c g h i s t u low live agree (goes_on p q ds has fell alone none e) (goes_on p' q' es has' fell' alone' none' f) =
+    e ∙ counting c g h i s (with_peer s q) agree ∙ ap (λ (x : Peering). having_emitted (with_peer s x) (counted c h i s)) (same-after c g h i s p p' q q' ds es low agree has has' fell alone fell' alone') ∙ sym f
+one-way c g h i s t u low live agree (goes_on p q ds has fell alone none e) (takes_over p' q' es has' fell' alone' gone left b) =
+    let same : q ≡ q' = same-after c g h i s p p' q q' ds es low agree has has' fell alone fell' alone' in
+    absurd (none (ap (λ (x : Peering). x.state) same ∙ gone) u (over-same c h g i s u p' q' q es live (back c g h i s.peer agree) has' fell' alone' gone (sym same) b))
+one-way c g h i s t u low live agree (goes_on p q ds has fell alone none e) (begins none' left b) = none-some s.peer p none' has
+one-way c g h i s t u low live agree (takes_over p q ds has fell alone gone left b) (untouched stays not' f) =
+    not-stays c h g i s p q ds low live has (peer-back c g h i p (peers-agree c g h i s p agree has)) (stays p has) fell alone gone
+one-way c g h i s t u low live agree (takes_over p q ds has fell alone gone left b) (goes_on p' q' es has' fell' alone' none f) =
+    let same : q ≡ q' = same-after c g h i s p p' q q' ds es low agree has has' fell alone fell' alone' in
+    absurd (none (ap (λ (x : Peering). x.state) (sym same) ∙ gone) t (over-same c g h i s t p q q' ds live agree has fell alone gone same b))
+one-way c g h i s t u low live agree (takes_over p q ds has fell alone gone left b) (takes_over p' q' es has' fell' alone' gone' left' b') =
+    let same : q ≡ q' = same-after c g h i s p p' q q' ds es low agree has has' fell alone fell' alone' in
+    begins-once c h i (with_peer s q') t u (over-same c g h i s t p q q' ds live agree has fell alone gone same b) b'
+one-way c g h i s t u low live agree (takes_over p q ds has fell alone gone left b) (begins none left' b') = none-some s.peer p none has
+one-way c g h i s t u low live agree (begins none left b) (untouched stays not' f) = absurd (not' none t (begins-same c g h i s t (subst (λ (o : Option Peering). Agree c i o g h) none agree) b))
+one-way c g h i s t u low live agree (begins none left b) (goes_on p q ds has fell alone none' f) = none-some s.peer p none has
+one-way c g h i s t u low live agree (begins none left b) (takes_over p q ds has fell alone gone left' b') = none-some s.peer p none has
 one-way c g h i s t u low live agree (begins none left b) (begins none' left' b') =
     begins-once c h i s t u (begins-same c g h i s t (subst (λ (o : Option Peering). Agree c i o g h) none agree) b) b'
 

@@ -50,6 +50,7 @@ refuses : (w : World) (event : WorldEvent) (why : Refusal) → Refuses w event w
 refuses w (happen.Connect side channels info word) why r = ((site_of w side).host, r, refl)
 refuses w (happen.Submit side peer channel flags body) why r = ((site_of w side).host, r, refl)
 refuses w (happen.Disconnect side peer how info) why r = ((site_of w side).host, r, refl)
+refuses w (happen.Admit side what') why r = ((site_of w side).host, r, refl)
 refuses w (happen.Deliver side k) why r = refl
 refuses w (happen.Turn side) why r = refl
 refuses w (happen.Tick side ms) why r = refl

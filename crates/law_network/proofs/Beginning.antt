@@ -17,12 +17,12 @@ use Rattle.law_network.specs.Calls.{Call, Acts, Steps}
 use Rattle.law_network.specs.Common.{common_of}
 use Rattle.law_network.specs.Deeds.{Deed, AllAlone}
 use Rattle.law_network.specs.Falling.{Fell, Begins, asks, answers, FellAll, counted}
-use Rattle.law_network.specs.IsolationLaw.{Stays, Fares, untouched, goes_on, begins, having_emitted}
-use Rattle.law_network.specs.Beginnings.{WasThere, BeganBy, Lived, IsAfter, IsFirst, IsBeginning, Beginnings}
+use Rattle.law_network.specs.IsolationLaw.{Stays, Fares, untouched, goes_on, takes_over, begins, having_emitted}
+use Rattle.law_network.specs.Beginnings.{IsReady, was_free, was_left, WasThere, BeganBy, Lived, IsAfter, IsFirst, IsBeginning, Beginnings}
 use Rattle.law_network.proofs.AllCalls.{alone-append, spent-all, fell-there}
 use Rattle.law_network.proofs.Counts.{fares-back}
 use Rattle.law_network.proofs.IsolationKeeping.{each-keeps}
-use Rattle.law_network.proofs.Names.{free-or, IsThere, named-there, slot-named, there-named, same-generations, past-freed, begun-generation}
+use Rattle.law_network.proofs.Names.{free-or, IsThere, named-there, there-named, same-generations, past-freed, begun-generation, over-generation, over-past}
 use Rattle.law_network.proofs.Slots.{held, freed-in}
 
 -- what a host keeps: a slot holds a peer only where it has a generation left
@@ -76,7 +76,7 @@ left-after c old new i s t p sound same there has (untouched stays not' e) =
     let low : s.generation < old.config.generations = sound.left i s p there (ap (λ (x : SlotState). x.peer) (sym e) ∙ has) in
     let g : t.generation ≡ s.generation = ap (λ (x : SlotState). x.generation) e in
     let k : new.config.generations ≡ old.config.generations = same in omega arith
-left-after c old new i s t p sound same there has (goes_on r q ds was fell alone e) = by (went s t q (counted c (common_of old) i s) e)
+left-after c old new i s t p sound same there has (goes_on r q ds was fell alone none e) = by (went s t q (counted c (common_of old) i s) e)
   where
     by : WentOn s t q ⊎ WentOut s t q → t.generation < new.config.generations
     by (inl on) =
@@ -84,6 +84,10 @@ left-after c old new i s t p sound same there has (goes_on r q ds was fell alone
         let g : t.generation ≡ s.generation = on.generation in
         let k : new.config.generations ≡ old.config.generations = same in omega arith
     by (inr out) = none-some t.peer p out.peer has
+left-after c old new i s t p sound same there has (takes_over r q ds was fell alone gone left b) =
+    let low : (with_peer s q).generation < old.config.generations = left in
+    let g : t.generation ≡ (with_peer s q).generation = begun-generation c old i (with_peer s q) t b in
+    let k : new.config.generations ≡ old.config.generations = same in omega arith
 left-after c old new i s t p sound same there has (begins none left b) =
     let low : s.generation < old.config.generations = left in
     let g : t.generation ≡ s.generation = begun-generation c old i s t b in
@@ -107,27 +111,19 @@ lived-on c cs old new steps name p r q ds es x fell alone later more = record {
   alone = alone-append ds es p r q alone more;
 }
 
--- the life of a peer that was there after a call
-lived-since : (c : Call) (cs : List Call) (old new : Host) (steps : Steps (c ∷ cs) old new) (name : PeerRef) (s : SlotState) → slice_get old.slots name.slot ≡ Some s → (first q : Peering) (es : List Deed) (x : IsThere steps.0.slots name first)
-    → Fares c (common_of old) name.slot s x.slot → FellAll name cs (record { before = steps.0; after = new; steps = steps.2 }) es → AllAlone es first q → Lived name (c ∷ cs) (record { before = old; after = new; steps = steps }) q
-lived-since c cs old new steps name s there first q es x (untouched stays not' e) later more =
-    let has : s.peer ≡ Some first = ap (λ (y : SlotState). y.peer) (sym e) ∙ x.peer in
-    let k : Stays c (common_of old) name.slot s first = stays first has in
-    lived-on c cs old new steps name first first q k.deeds es (record { slot = s; there = there; same = ap (λ (y : SlotState). y.generation) (sym e) ∙ x.same; peer = has }) k.fell k.alone later more
-lived-since c cs old new steps name s there first q es x (goes_on p r ds was fell alone e) later more = by (went s x.slot r (counted c (common_of old) name.slot s) e)
-  where
-    by : WentOn s x.slot r ⊎ WentOut s x.slot r → Lived name (c ∷ cs) (record { before = old; after = new; steps = steps }) q
-    by (inl on) =
-        lived-on c cs old new steps name p r q ds es (record { slot = s; there = there; same = sym on.generation ∙ x.same; peer = was }) fell alone later
-        (subst (λ (y : Peering). AllAlone es y q) (one-peer x.slot.peer first r x.peer on.peer) more)
-    by (inr out) = none-some x.slot.peer first out.peer x.peer
-lived-since c cs old new steps name s there first q es x (begins none left b) later more = record {
+-- the life of a peer that began by a call
+lived-from : (c : Call) (cs : List Call) (old new : Host) (steps : Steps (c ∷ cs) old new) (name : PeerRef) (s u : SlotState) → slice_get old.slots name.slot ≡ Some s → (first q : Peering) (es : List Deed) (x : IsThere steps.0.slots name first)
+    → IsReady c (common_of old) name.slot s u → Begins c (common_of old) name.slot u x.slot → FellAll name cs (record { before = steps.0; after = new; steps = steps.2 }) es → AllAlone es first q → Lived name (c ∷ cs) (record { before = old; after = new; steps = steps }) q
+lived-from c cs old new steps name s u there first q es x ready b later more = record {
   first = first;
   deeds = es;
   began = inr (inl (
     record {
-      slot = s;
-      there = slot-named old.slots name s there (sym (begun-generation c old name.slot s x.slot b) ∙ x.same);
+      before = s;
+      there = there;
+      slot = u;
+      ready = ready;
+      same = sym (begun-generation c old name.slot u x.slot b) ∙ x.same;
       given = x.slot;
       begins = b;
       peer = x.peer;
@@ -136,6 +132,24 @@ lived-since c cs old new steps name s there first q es x (begins none left b) la
   ));
   alone = more;
 }
+
+-- the life of a peer that was there after a call
+lived-since : (c : Call) (cs : List Call) (old new : Host) (steps : Steps (c ∷ cs) old new) (name : PeerRef) (s : SlotState) → slice_get old.slots name.slot ≡ Some s → (first q : Peering) (es : List Deed) (x : IsThere steps.0.slots name first)
+    → Fares c (common_of old) name.slot s x.slot → FellAll name cs (record { before = steps.0; after = new; steps = steps.2 }) es → AllAlone es first q → Lived name (c ∷ cs) (record { before = old; after = new; steps = steps }) q
+lived-since c cs old new steps name s there first q es x (untouched stays not' e) later more =
+    let has : s.peer ≡ Some first = ap (λ (y : SlotState). y.peer) (sym e) ∙ x.peer in
+    let k : Stays c (common_of old) name.slot s first = stays first has in
+    lived-on c cs old new steps name first first q k.deeds es (record { slot = s; there = there; same = ap (λ (y : SlotState). y.generation) (sym e) ∙ x.same; peer = has }) k.fell k.alone later more
+lived-since c cs old new steps name s there first q es x (goes_on p r ds was fell alone none e) later more = by (went s x.slot r (counted c (common_of old) name.slot s) e)
+  where
+    by : WentOn s x.slot r ⊎ WentOut s x.slot r → Lived name (c ∷ cs) (record { before = old; after = new; steps = steps }) q
+    by (inl on) =
+        lived-on c cs old new steps name p r q ds es (record { slot = s; there = there; same = sym on.generation ∙ x.same; peer = was }) fell alone later
+        (subst (λ (y : Peering). AllAlone es y q) (one-peer x.slot.peer first r x.peer on.peer) more)
+    by (inr out) = none-some x.slot.peer first out.peer x.peer
+lived-since c cs old new steps name s there first q es x (takes_over p r ds was fell alone gone left b) later more =
+    lived-from c cs old new steps name s (with_peer s r) there first q es x (was_left p r ds was fell alone gone) b later more
+lived-since c cs old new steps name s there first q es x (begins none left b) later more = lived-from c cs old new steps name s s there first q es x (was_free none) b later more
 
 lived-before : (c : Call) (cs : List Call) (old new : Host) (steps : Steps (c ∷ cs) old new) (name : PeerRef) (q : Peering) → Lived name cs (record { before = steps.0; after = new; steps = steps.2 }) q → Lived name (c ∷ cs) (record { before = old; after = new; steps = steps }) q
 lived-before c cs old new steps name q life = by life.began
@@ -172,7 +186,7 @@ sessions-since : (c : Call) (cs : List Call) (old new : Host) (steps : Steps (c 
     → t.generation ≡ m.generation → t.incoming_session ≡ m.incoming_session → t.outgoing_session ≡ m.outgoing_session → HasSessions i (c ∷ cs) old new steps s t
 sessions-since c cs old new steps i s m t sound there mid (untouched stays not' e) g a b =
     inl (g ∙ ap (λ (y : SlotState). y.generation) e, a ∙ ap (λ (y : SlotState). y.incoming_session) e, b ∙ ap (λ (y : SlotState). y.outgoing_session) e)
-sessions-since c cs old new steps i s m t sound there mid (goes_on p q ds was fell alone e) g a b = by (went s m q (counted c (common_of old) i s) e)
+sessions-since c cs old new steps i s m t sound there mid (goes_on p q ds was fell alone none e) g a b = by (went s m q (counted c (common_of old) i s) e)
   where
     name : PeerRef
     name = name_of i s
@@ -196,6 +210,21 @@ sessions-since c cs old new steps i s m t sound there mid (goes_on p q ds was fe
       ended = out.free;
       incoming = a ∙ out.incoming;
       outgoing = b ∙ out.outgoing;
+    })
+sessions-since c cs old new steps i s m t sound there mid (takes_over p q ds was fell alone gone left b) g a o =
+    let k : (m.incoming_session ≡ (with_peer s q).incoming_session) × (m.outgoing_session ≡ (with_peer s q).outgoing_session) = begun-sessions c old i (with_peer s q) m b in
+    let few : old.config.generations ≤ greatest = sound.keeps.generations in
+    let low : steps.0.config.generations ≤ greatest = (let n : steps.0.config.generations ≡ old.config.generations = same-generations c old steps.0 steps.1 in omega arith) in
+    inr (record {
+      generation = s.generation;
+      next = g ∙ over-generation c old i s m q few gone left b;
+      last = q;
+      lived =
+          lived-on c cs old new steps (name_of i s) p q q ds [] (record { slot = s; there = there; same = refl; peer = was }) fell alone
+          (spent-all cs steps.0 new steps.2 (name_of i s) low (record { slot = m; there = mid; past = inl (over-past c old i s m q few gone left b s.generation (let r : s.generation ≡ s.generation = refl in omega arith)) })).0 refl;
+      ended = gone;
+      incoming = a ∙ k.0 ∙ ap (λ (y : SlotState). y.incoming_session) (freed-in s q gone);
+      outgoing = o ∙ k.1 ∙ ap (λ (y : SlotState). y.outgoing_session) (freed-in s q gone);
     })
 sessions-since c cs old new steps i s m t sound there mid (begins none left b) g a o =
     let k : (m.incoming_session ≡ s.incoming_session) × (m.outgoing_session ≡ s.outgoing_session) = begun-sessions c old i s m b in

@@ -1,9 +1,7 @@
 -- How an end begins: its user asks, or its host answers a CONNECT.
 use Rattle.std.proofs.Common.{◌≡◌, ◌≢◌, ℕ, zero, suc, inl, inr, Bool, true, false, cond, not, nat_le, List, [], ◌∷◌, ◌++◌, replicate, refl, sym, ap, subst, ◌∙◌, append-nil, Option, Some, None, Result, Ok, slice_get, slice_set}
 use Rattle.std.specs.Prelude.{IsTrue}
-use Rattle.std.proofs.lemmas.List.Quantifiers.{position-Some}
 use Rattle.enet_codec.specs.declared.address.Addr.{Addr}
-use Rattle.enet_codec.specs.declared.config.Config.{Config}
 use Rattle.enet_codec.specs.declared.event.PeerRef.{PeerRef}
 use Rattle.enet_codec.specs.declared.event.Received.{Received}
 use Rattle.enet_codec.specs.declared.refusal.Refusal.{Refusal}
@@ -25,24 +23,25 @@ use Rattle.law_connection.proofs.Lists.{Has-push, Has-slice_get}
 use Rattle.law_connection.specs.Connection.{Put, End, messages_of}
 use Rattle.law_connection.specs.Steps.{Answer, with_peer, no_end}
 use Rattle.law_connection.proofs.Runs.{reached-none}
-use Rattle.enet_slot.specs.Giving.{limits_of, unused_slot, is_available, offer_from, drawn_for, server_from, asking, answering}
+use Rattle.enet_slot.specs.Giving.{limits_of, offer_from, drawn_for, server_from, asking}
 use Rattle.enet_slot.specs.Slot.{SlotState, name_of}
 use Rattle.enet_host.specs.Host.{Host}
-use Rattle.enet_host.specs.Opening.{host_basis, available, Connects, no_channel, no_slot, no_memory, asks}
+use Rattle.enet_host.specs.Opening.{host_basis, Connects, no_channel, no_slot, no_memory, asks}
 use Rattle.enet_slot.specs.Receiving.{no_peer}
-use Rattle.enet_host.specs.Receiving.{offer_refused, Offers, Arrives}
-use Rattle.enet_host.specs.Receiving as receiving
-use Rattle.law_network.proofs.Lists.{get-set, get-set_other, get-within}
+use Rattle.enet_host.specs.Receiving.{offer_refused}
+use Rattle.law_network.proofs.Guests.{IsGuest, guest, guest-begins}
+use Rattle.law_network.proofs.Lists.{get-set}
 use Rattle.law_network.proofs.Names.{IsThere}
-use Rattle.law_network.proofs.Receiving.{is_open}
+use Rattle.law_network.specs.Calls as call
+use Rattle.law_network.specs.Common.{common_of}
+use Rattle.law_network.specs.Falling as falling
 use Rattle.law_network.specs.Law.{HasNothingOf, time_drawn, Asked, Begins, Answered}
 use Rattle.law_network.specs.Log.{Logged, ChannelPackets, no_packets, fresh_channels, fresh_greatest, packets_at, greatest_at}
 use Rattle.law_network.specs.Network.{HostEnd, Site, fresh_end}
 use Rattle.law_network.specs.Shown.{IsLogged, Shows, ShowsFar}
-use Rattle.law_network.specs.Steps.{Brought, end_in, end_in_slot, begun_in}
+use Rattle.law_network.specs.Steps.{Brought}
 use Rattle.law_network.proofs.Marked.{behind}
 use Rattle.law_network.proofs.Peers.{shows-held}
-use Rattle.law_network.proofs.Submitting.{same-some}
 
 -- an end where nothing has happened but that it has its peer
 
@@ -125,101 +124,50 @@ counts o h = by (nat_le no_peer o.outgoing_peer) (is_channel_count o.channels) h
     by false true e = refl
     by false false e = absurd (cc)
 
--- nothing begins in a slot that is free
-pub none-in : (x : ℕ) (i : ℕ) (new : Host) (s : SlotState) (f : HostEnd) → slice_get new.slots i ≡ Some s → s.peer ≡ None → Has (begun_in x (Some i) new) f → ⊥
-none-in x i new s f there none h =
-    subst (λ (o : Option Peering). Has (end_in x i s o) f → ⊥) (sym none) (λ y. y) (subst (λ (o : Option SlotState). Has (end_in_slot x i o) f) there h)
-
-vacant-there : (c : Config) (slots : List SlotState) (i : ℕ) (s : SlotState) → available c slots ≡ Some i → slice_get slots i ≡ Some s → s.peer ≡ None
-vacant-there c slots i s free there = (is_open c slots i s free there).0
-
--- what comes of a slot that was the next to be given out
-pub free-there : (c : Config) (slots : List SlotState) (i : ℕ) → available c slots ≡ Some i → (s : SlotState) × (slice_get slots i ≡ Some s)
-free-there c slots i free = get-within slots i (let p = position-Some (is_available c.generations) slots i unused_slot free in p.0)
-
--- an end that answers
-begins : (from : Site) (k : ℕ) (d : Logged) (old new : Site) (f : HostEnd) (far : End) (commands : List ℕ) (header : Header) (o : Offer) (j : ℕ) (s : SlotState) → slice_get from.log k ≡ Some d → ShowsFar from d.connection far
-    → HasNothingOf d.connection new → IsRead d.text header commands → IsOffer commands o → offer_refused o ≡ None → slice_get old.host.slots j ≡ Some s
-    → new.host.slots ≡ slice_set old.host.slots j (answering (host_basis old.host) j s from.address o) → Has (begun_in d.connection (Some j) new.host) f → Begins far new f
-begins from k d old new f far commands header o j s sent shown none read offer fits there set h = record {
+-- an end that answers: its peer begins by the call that takes the datagram
+begins : (from : Site) (k : ℕ) (d : Logged) (answer : Received) (old new : Site) (f : HostEnd) (far : End) (i : ℕ) (u t : SlotState) → slice_get from.log k ≡ Some d → ShowsFar from d.connection far → HasNothingOf d.connection new
+    → falling.Begins (call.Receive from.address d.text answer) (common_of old.host) i u t → slice_get new.host.slots i ≡ Some t → f ≡ fresh_end d.connection (name_of i t) → Begins far new f
+begins from k d answer old new f far i u t sent shown none (falling.asks address channels info word is some at) there named' = absurd (cc)
+begins from k d answer old new f far i u t sent shown none (falling.answers address bytes commands header o is read stranger offer fits unknown at) there named' = record {
   event = Answer put.0 o old.host.clock offsets server (limits_of old.host.config);
   own = with_peer no_end p;
   answers = (refl, l.logged put.0 put.1, put.2, counts o fits, refl);
-  shows = subst (λ (g : HostEnd). Shows new g (with_peer no_end p)) is (shows-fresh new d.connection (name_of j t) p (λ e. absurd (let y : state.Answering ≡ state.Free = e in cc)) (record { slot = t; there = there'; same = refl; peer = refl }) none);
+  shows = subst (λ (g : HostEnd). Shows new g (with_peer no_end p)) (sym named')
+      (shows-fresh new d.connection (name_of i t) p (λ e. absurd (let y : state.Answering ≡ state.Free = e in cc)) (record { slot = t; there = there; same = refl; peer = refl }) none);
 }
   where
     offsets : Offsets
-    offsets = (drawn_for old.host.config j s).offsets
+    offsets = (drawn_for old.host.config i u).offsets
 
     server : Server
-    server = server_from old.host.config j s o
+    server = server_from old.host.config i u o
 
     p : Peering
     p = answering_peer old.host.clock offsets o server (limits_of old.host.config)
 
-    t : SlotState
-    t = answering (host_basis old.host) j s from.address o
-
-    there' : slice_get new.host.slots j ≡ Some t
-    there' = ap (λ (xs : List SlotState). slice_get xs j) set ∙ get-set old.host.slots j s t there
-
     l : IsLogged far.log d
     l = shown.log k d sent refl
 
+    comes : IsRead d.text header commands
+    comes = subst (λ (b : List ℕ). IsRead b header commands) (let same : bytes ≡ d.text = cc in same) read
+
     put : (x : Put) × Has l.puts x × (x.message.body ≡ connect o)
-    put = the-offer l.puts commands o offer (behind d.text l.header header read.front commands (messages_of l.puts) read.split read.spelled l.spelled)
-
-    is : fresh_end d.connection (name_of j t) ≡ f
-    is = one-of (subst (λ (x : Option SlotState). Has (end_in_slot d.connection j x) f) there' h)
-      where
-        one-of : Has (fresh_end d.connection (name_of j t) ∷ []) f → fresh_end d.connection (name_of j t) ≡ f
-        one-of (inl e) = e
-        one-of (inr e) = absurd e
-
-brought : (from : Site) (k : ℕ) (d : Logged) (answer : Received) (old new : Site) (f : HostEnd) (far : End) → slice_get from.log k ≡ Some d → ShowsFar from d.connection far → HasNothingOf d.connection new
-    → (slots after : List SlotState) → slots ≡ old.host.slots → after ≡ new.host.slots → Arrives (record { basis = host_basis old.host; slots = slots }) from.address d.text answer after
-    → (i : ℕ) → available old.host.config old.host.slots ≡ Some i → Has (begun_in d.connection (Some i) new.host) f → Begins far new f
-brought from k d answer old new f far sent shown none slots after was is arrives i free h = by answer after is arrives
-  where
-    there : (s : SlotState) × (slice_get old.host.slots i ≡ Some s)
-    there = free-there old.host.config old.host.slots i free
-
-    vacant : there.0.peer ≡ None
-    vacant = vacant-there old.host.config old.host.slots i there.0 free there.1
-
-    unchanged : (xs : List SlotState) → xs ≡ new.host.slots → slice_get xs i ≡ slice_get old.host.slots i → Begins far new f
-    unchanged xs now same = absurd (none-in d.connection i new.host there.0 f (ap (λ (ys : List SlotState). slice_get ys i) (sym now) ∙ same ∙ there.1) vacant h)
-
-    offered : (reply : Received) (header : Header) (commands : List ℕ) (o : Offer) (xs : List SlotState) → IsRead d.text header commands → IsOffer commands o → xs ≡ new.host.slots
-        → Offers (record { basis = host_basis old.host; slots = slots }) from.address o reply xs → Begins far new f
-    offered reply header commands o xs read offer now (receiving.refused why r) = unchanged xs now (ap (λ (ys : List SlotState). slice_get ys i) was)
-    offered reply header commands o xs read offer now (receiving.repeated r known) = unchanged xs now (ap (λ (ys : List SlotState). slice_get ys i) was)
-    offered reply header commands o xs read offer now (receiving.no_slot r known full) = unchanged xs now (ap (λ (ys : List SlotState). slice_get ys i) was)
-    offered reply header commands o xs read offer now (receiving.no_memory j r known open') = unchanged xs now (ap (λ (ys : List SlotState). slice_get ys i) was)
-    offered reply header commands o xs read offer now (receiving.answers j s r known open' at) =
-        let same : i ≡ j = same-some i j (sym free ∙ ap (available old.host.config) (sym was) ∙ open') in
-        begins from k d old new f far commands header o j s sent shown none read offer r (ap (λ (ys : List SlotState). slice_get ys j) (sym was) ∙ at)
-        (sym now ∙ ap (λ (ys : List SlotState). slice_set ys j (answering (host_basis old.host) j s from.address o)) was)
-        (subst (λ (n : ℕ). Has (begun_in d.connection (Some n) new.host) f) same h)
-
-    by : (reply : Received) (xs : List SlotState) → xs ≡ new.host.slots → Arrives (record { basis = host_basis old.host; slots = slots }) from.address d.text reply xs → Begins far new f
-    by reply xs now (receiving.unreadable why u) = unchanged xs now (ap (λ (ys : List SlotState). slice_get ys i) was)
-    by reply xs now (receiving.no_offer header commands read nobody offer) = unchanged xs now (ap (λ (ys : List SlotState). slice_get ys i) was)
-    by reply xs now (receiving.offered header commands o said left read nobody offer comes) = offered said header commands o left read offer now comes
-    by reply xs now (receiving.turned_away header commands why read n r) = unchanged xs now (ap (λ (ys : List SlotState). slice_get ys i) was)
-    by reply xs now (receiving.heard header commands s t said read n open' at hears) =
-        unchanged (slice_set slots header.peer t) now (get-set_other slots header.peer i t (λ e. let same : s ≡ there.0 = same-some s there.0 (sym at ∙ ap (λ (l : ℕ). slice_get slots l) e ∙ ap (λ (ys : List SlotState). slice_get ys i) was ∙ there.1) in
-        let z : ◌≡◌ {A = Option Peering} None (Some hears.peer) = sym vacant ∙ ap (λ (v : SlotState). v.peer) (sym same) ∙ hears.held in absurd (cc)) ∙ ap (λ (ys : List SlotState). slice_get ys i) was)
+    put = the-offer l.puts commands o offer (behind d.text l.header header comes.front commands (messages_of l.puts) comes.split comes.spelled l.spelled)
 
 pub answered : Answered
-answered k answer d from old new x sent none f h far shown = at (available old.host.config old.host.slots) refl h
+answered k answer d from old new few x sent none f h far shown = begins from k d answer old new f far g.number b.0 g.held.slot sent shown nothing b.1 g.held.there named'
   where
-    b : Brought from.address d answer old new
-    b = x.1
+    brought : Brought from.address d answer old new
+    brought = x.1
 
     nothing : HasNothingOf d.connection new
-    nothing = subst (λ (l : List Logged). (z : Logged) → Has l z → z.connection ≢ d.connection) (ap (λ (s : Site). s.log) (sym b.1)) none
+    nothing = subst (λ (l : List Logged). (z : Logged) → Has l z → z.connection ≢ d.connection) (ap (λ (s : Site). s.log) (sym brought.1)) none
 
-    at : (o : Option ℕ) → available old.host.config old.host.slots ≡ o → Has (begun_in d.connection o new.host) f → Begins far new f
-    at None free e = absurd e
-    at (Some i) free e = brought from k d answer old new f far sent shown nothing old.host.slots new.host.slots refl refl b.0.arrives i free e
+    g : IsGuest d.connection old.host new.host f
+    g = guest d.connection old.host new.host f h
+
+    b : (u : SlotState) × falling.Begins (call.Receive from.address d.text answer) (common_of old.host) g.number u g.held.slot
+    b = guest-begins (call.Receive from.address d.text answer) d.connection old.host new.host f few brought.0 g
+
+    named' : f ≡ fresh_end d.connection (name_of g.number g.held.slot)
+    named' = g.is ∙ ap (λ (n : ℕ). fresh_end d.connection (record { slot = g.number; generation = n })) (sym g.held.same)

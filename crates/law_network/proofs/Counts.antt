@@ -10,6 +10,7 @@ use Rattle.enet_codec.specs.declared.refusal.Refusal.{Refusal}
 use Rattle.enet_codec.specs.declared.command.Offer.{Offer}
 use Rattle.enet_peer.specs.Peering.{Peering}
 use Rattle.enet_peer.specs.Calls as peers
+use Rattle.enet_slot.specs.Yielding.{readied}
 use Rattle.enet_slot.specs.Slot.{SlotState, with_peer, changed}
 use Rattle.enet_slot.specs.Calls.{DoesWithMemory, submission, leaving, throttling, pinging, waiting, Does as DoesCall}
 use Rattle.enet_slot.specs.Giving.{asking, answering}
@@ -41,7 +42,7 @@ count-offers h from o reply slots after (receiving.refused why r) = refl
 count-offers h from o reply slots after (receiving.repeated r known) = refl
 count-offers h from o reply slots after (receiving.no_slot r known full) = refl
 count-offers h from o reply slots after (receiving.no_memory j r known open') = refl
-count-offers h from o reply slots after (receiving.answers j s r known open' at) = length-set slots j (answering (host_basis h) j s from o)
+count-offers h from o reply slots after (receiving.answers j s r known open' at) = length-set slots j (answering (host_basis h) j (readied s) from o)
 
 count-arrives : (h : Host) (from : Addr) (bytes : List ℕ) (reply : Received) (slots after : List SlotState) → Arrives (record { basis = host_basis h; slots = slots }) from bytes reply after → length after ≡ length slots
 count-arrives h from bytes reply slots after (receiving.unreadable why u) = refl
@@ -86,6 +87,8 @@ same-count (call.SetPingInterval name ms answer) old new acts = count-does answe
 same-count (call.SetTimeout name limit minimum maximum answer) old new acts = count-does answer old.slots name (waiting limit minimum maximum) new.slots acts.0
 same-count (call.NextEvent None) old new acts = ap (λ (h : Host). length h.slots) acts.1
 same-count (call.NextEvent (Some event)) old new acts = ap (λ (h : Host). length h.slots) acts.rest ∙ length-set old.slots acts.from acts.after
+same-count (call.Admit what (Ok done)) old new acts = ap (λ (h : Host). length h.slots) acts.1
+same-count (call.Admit what (Err why)) old new acts = ap (λ (h : Host). length h.slots) acts.2
 
 -- how a slot that is there fared
 pub fares-back : (c : Call) (old new : Host) → Acts c old new → (i : ℕ) (t : SlotState) → slice_get new.slots i ≡ Some t → (s : SlotState) × (slice_get old.slots i ≡ Some s) × Fares c (common_of old) i s t

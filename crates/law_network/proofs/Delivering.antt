@@ -1,5 +1,5 @@
 -- A datagram of another host that comes to a host and is refused for no reason.
-use Rattle.std.proofs.Common.{◌≡◌, ◌≢◌, ◌≤◌, ◌<◌, ℕ, ◌==◌, ◌⊎◌, ◌||◌, ◌&&◌, not, Bool, true, false, cond, inl, inr, List, [], ◌∷◌, refl, sym, ap, subst, ◌∙◌, arith, Option, Some, None, slice_get, slice_set}
+use Rattle.std.proofs.Common.{◌≡◌, ◌≢◌, ◌≤◌, ◌<◌, ℕ, ◌==◌, ◌⊎◌, ◌||◌, ◌&&◌, not, Bool, true, false, cond, inl, inr, List, [], ◌∷◌, refl, sym, ap, subst, ◌∙◌, arith, Option, Some, None, slice_get, slice_set, ◌+◌}
 use Rattle.std.proofs.lemmas.Bool.Decides.{nat_tests}
 use Rattle.std.specs.List.{list_any}
 use Rattle.enet_codec.specs.declared.address.Addr.{Addr}
@@ -14,25 +14,31 @@ use Rattle.enet_fragment.specs.declared.data.DataCommand.{DataCommand}
 use Rattle.enet_fragment.specs.DataCommand.{data_of, read_of}
 use Rattle.enet_peer.specs.declared.parts.PeerState.TheVariants as state
 use Rattle.enet_peer.specs.Peering.{Peering}
-use Rattle.enet_peer.specs.CommandEffect.{Outcome, Stops, obeyed, wants_memory}
-use Rattle.enet_peer.specs.Handling.{HandlesEach, one_more}
+use Rattle.enet_peer.specs.Calls.{is_answering}
+use Rattle.enet_peer.specs.CommandEffect.{Outcome, Stops, wants_memory}
+use Rattle.enet_peer.specs.Endings.{freed}
+use Rattle.enet_peer.specs.Handling.{Arrival, Handles, HandlesEach, HearsIf, one_more}
 use Rattle.enet_peer.specs.Heading.{IsRead}
+use Rattle.enet_peer.specs.Refusing.{heeded, is_turned_away, reminded}
 use Rattle.enet_peer.proofs.Each.{handles-each}
 use Rattle.law_connection.specs.Link as link
 use Rattle.law_connection.specs.LinkSteps.{Has}
 use Rattle.law_connection.specs.Connection.{Put, End, messages_of, sent_on}
-use Rattle.law_connection.specs.Steps.{Event, Come, InTime, with_peer}
+use Rattle.law_connection.specs.Steps.{Event, Come, GiveWay, TellAgain, InTime, with_peer}
 use Rattle.enet_slot.specs.Receiving.{is_same_address, no_peer, is_deaf, fits_session, refused_by_peer, refused_by_slot, PeerReceives}
 use Rattle.enet_slot.specs.Slot.{SlotState, greatest, with_peer as slot_with_peer}
 use Rattle.enet_host.specs.Calls.{address_named}
-use Rattle.enet_host.specs.Opening.{host_basis}
-use Rattle.enet_host.specs.Receiving.{Offers, Arrives}
+use Rattle.enet_slot.specs.Giving.{answering}
+use Rattle.enet_slot.specs.Yielding.{readied}
+use Rattle.enet_host.specs.Host.{Host}
+use Rattle.enet_host.specs.Opening.{host_basis, seat}
+use Rattle.enet_host.specs.Receiving.{Offers, Arrives, listener_of, refuses_at}
 use Rattle.enet_host.specs.Receiving as receiving
 use Rattle.law_network.specs.Calls.{Call, Acts}
 use Rattle.law_network.specs.Calls as call
 use Rattle.law_network.proofs.Lists.{get-set, get-set_other, same-or}
 use Rattle.law_network.proofs.Names.{IsThere, IsSpent, same-generations, spent-step}
-use Rattle.law_network.proofs.Receiving.{is_open}
+use Rattle.law_network.proofs.Seats.{IsOpen, holds_none, holds_waiting, freed-low, next-generation, readied-waits, seat-open}
 use Rattle.law_network.specs.declared.mark.Mark.{Mark}
 use Rattle.law_network.specs.declared.mark.MarkKind.TheVariants.{Data, Acknowledgement}
 use Rattle.law_network.specs.Lateness as lateness
@@ -111,17 +117,17 @@ stopped _ wants o p q h = inr h.1
 AllInTime : End → End → List Put → Type 0
 AllInTime own far ps = (x : Put) → Has ps x → InTime own far x
 
-comes : (now : ℕ) (sent : Option ℕ) (ps : List Put) (handled : ℕ) (p : Peering) (answer : Received) (q : Peering) (own far : End) → own.peer ≡ Some p → AllInTime own far ps
-    → HandlesEach (record { now = now; sent = sent }) (record { handled = handled; peer = p }) (messages_of ps) answer q → (es : List Event) × RunsAt es own far (with_peer own q)
+comes : (a : Arrival) (ps : List Put) (handled : ℕ) (p : Peering) (answer : Received) (q : Peering) (own far : End) → own.peer ≡ Some p → AllInTime own far ps
+    → HandlesEach a (record { handled = handled; peer = p }) (messages_of ps) answer q → (es : List Event) × RunsAt es own far (with_peer own q)
 unfolding AllInTime
-comes now sent [] handled p answer q own far is times h = ([], same-peer own p is ∙ ap (with_peer own) (sym h.1))
-comes now sent (x ∷ ps) handled p answer q own far is times (inl s) = elim (stopped s.0 (wants_memory p now sent x.message) (obeyed p now sent x.message) p q s.1) [
+comes a [] handled p answer q own far is times h = ([], same-peer own p is ∙ ap (with_peer own) (sym h.1))
+comes a (x ∷ ps) handled p answer q own far is times (inl s) = elim (stopped s.0 (wants_memory p a.now a.sent x.message) (heeded a.full p a.now a.sent x.message) p q s.1) [
   | inl stays ↦ ([], same-peer own p is ∙ ap (with_peer own) (sym stays))
-  | inr after ↦ (Come x now sent ∷ [], (with_peer own q, (p, is, times x (inl refl), ap (with_peer own) after), refl))
+  | inr after ↦ (Come x a.now a.sent ∷ [], (with_peer own q, (p, is, times x (inl refl), a.full, ap (with_peer own) after), refl))
 ]
-comes now sent (x ∷ ps) handled p answer q own far is times (inr g) =
-    let next = comes now sent ps (one_more handled) g.0 answer q (with_peer own g.0) far refl (λ y h. later own far g.0 y (times y (inr h))) g.2 in
-    (Come x now sent ∷ next.0, (with_peer own g.0, (p, is, times x (inl refl), ap (with_peer own) g.1.1), next.1))
+comes a (x ∷ ps) handled p answer q own far is times (inr g) =
+    let next = comes a ps (one_more handled) g.0 answer q (with_peer own g.0) far refl (λ y h. later own far g.0 y (times y (inr h))) g.2 in
+    (Come x a.now a.sent ∷ next.0, (with_peer own g.0, (p, is, times x (inl refl), a.full, ap (with_peer own) g.1.1), next.1))
 
 -- an end whose slot is as it was
 
@@ -196,12 +202,21 @@ pub heard-peer : (c : Call) (old new : Site) (e : HostEnd) (p q : Peering) → o
 heard-peer c old new e p q low acts s t there x left there' = shows-after c old.host new.host e.name p q x t (slot_with_peer x.slot q).emitted low (same-generations c old.host new.host acts) there'
     (left ∙ ap (λ (y : SlotState). slot_with_peer y q) (same-some s x.slot (sym there ∙ x.there)))
 
--- the commands of a datagram come to the end in whose slot they are heard
+-- what a host knows of a datagram that comes to a slot of it
+abbrev pub arrival : Host → Header → SlotState → Arrival
+arrival h header s = record { now = h.clock; sent = header.sent; full = refuses_at (listener_of h) s }
+
+-- the peer of an end that was refused is told again if the datagram tells a sent time
+reminded-runs : (sent : Option ℕ) (own far : End) (p q : Peering) → own.peer ≡ Some p → is_turned_away p ≡ true → q ≡ reminded sent p → (es : List Event) × RunsAt es own far (with_peer own q)
+reminded-runs None own far p q has away is = ([], same-peer own p has ∙ ap (with_peer own) (sym is))
+reminded-runs (Some time) own far p q has away is = (TellAgain ∷ [], (with_peer own q, (p, has, away, ap (with_peer own) is), refl))
+
+-- the commands of a datagram come to the end in whose slot they are heard, or its peer, who was refused, is told so again
 heard-there : (from : Site) (i : ℕ) (d : Logged) (answer : Received) (old new : Site) (e : HostEnd) (own far : End) (k : Shows old e own) → old.host.config.generations ≤ greatest
     → Acts (call.Receive from.address d.text answer) old.host new.host → KeepsLog old new e.connection → slice_get from.log i ≡ Some d → Has old.ends e → IsApart old.ends e → ShowsFar from e.connection far
     → is_earlier old from.address d ≡ false → is_late from old d ≡ false
     → (header : Header) (commands : List ℕ) (s t : SlotState) → IsRead d.text header commands → header.peer ≢ no_peer → header.peer ≡ e.name.slot → refused_by_slot from.address header.session (Some s) ≡ None
-    → slice_get old.host.slots e.name.slot ≡ Some s → (x : IsThere old.host.slots e.name k.peer) → PeerReceives (record { now = old.host.clock; sent = header.sent }) commands s answer t → slice_get new.host.slots e.name.slot ≡ Some t → d.connection ≡ e.connection → Went own far new e
+    → slice_get old.host.slots e.name.slot ≡ Some s → (x : IsThere old.host.slots e.name k.peer) → PeerReceives (arrival old.host header s) commands s answer t → slice_get new.host.slots e.name.slot ≡ Some t → d.connection ≡ e.connection → Went own far new e
 unfolding AllInTime
 heard-there from i d answer old new e own far k low acts same sent has apart shown earlier late header commands s t read n here taken there x hears there' of = record {
   new = with_peer own hears.after;
@@ -226,10 +241,15 @@ heard-there from i d answer old new e own far k low acts same sent has apart sho
     not-late = subst (λ (ns : List ℕ). has_late (greatest_at (numbers_of from e.connection)) (greatest_at ns) d.marks ≡ false) numbers
         (subst (λ (c : ℕ). has_late (greatest_at (numbers_of from c)) (greatest_at (numbers_of old c)) d.marks ≡ false) of late)
 
+    by : (b : Bool) → is_turned_away hears.peer ≡ b → HearsIf b (arrival old.host header s) commands hears.peer answer hears.after → (es : List Event) × RunsAt es own far (with_peer own hears.after)
+    by true is again = reminded-runs header.sent own far hears.peer hears.after (k.has ∙ ap (λ (y : Peering). Some y) (sym p)) is again.1
+    by false is handles =
+        comes (arrival old.host header s) l.puts 0 k.peer answer hears.after own far k.has (in-time (numbers_of from e.connection) e.greatest own far d l shown.greatest k.greatest not-late)
+        (handles-each (arrival old.host header s) (record { handled = 0; peer = k.peer }) commands (messages_of l.puts) answer hears.after (behind d.text l.header header read.front commands (messages_of l.puts) read.split read.spelled l.spelled)
+        (subst (λ (y : Peering). Handles (arrival old.host header s) (record { handled = 0; peer = y }) commands answer hears.after) p handles))
+
     run : (es : List Event) × RunsAt es own far (with_peer own hears.after)
-    run = comes old.host.clock header.sent l.puts 0 k.peer answer hears.after own far k.has (in-time (numbers_of from e.connection) e.greatest own far d l shown.greatest k.greatest not-late)
-        (handles-each (record { now = old.host.clock; sent = header.sent }) (record { handled = 0; peer = k.peer }) commands (messages_of l.puts) answer hears.after (behind d.text l.header header read.front commands (messages_of l.puts) read.split read.spelled l.spelled)
-        (subst (λ (y : Peering). Rattle.enet_peer.specs.Handling.Handles (record { now = old.host.clock; sent = header.sent }) (record { handled = 0; peer = y }) commands answer hears.after) p hears.handled))
+    run = by (is_turned_away hears.peer) refl hears.heard
 
 -- a datagram comes
 
@@ -245,7 +265,7 @@ pub record IsHeard (from : Addr) (text : List ℕ) (answer : Received) (old new 
   pub taken : refused_by_slot from header.session (Some slot) ≡ None
   pub was : slice_get old.host.slots e.name.slot ≡ Some slot
   pub there : IsThere old.host.slots e.name p
-  pub hears : PeerReceives (record { now = old.host.clock; sent = header.sent }) commands slot answer after
+  pub hears : PeerReceives (arrival old.host header slot) commands slot answer after
   pub is : slice_get new.host.slots e.name.slot ≡ Some after
 
 -- the slot in which a datagram is heard is at its sender's address
@@ -255,10 +275,12 @@ heard-at-address from text answer old new e p h =
     subst (λ (y : SlotState). is_same_address y.address from ≡ true) slot
     (at-address h.slot from h.header.session h.hears.peer (ap (λ (o : Option Peering). refused_by_peer h.slot from h.header.session o) (sym h.hears.held) ∙ h.taken))
 
--- so a datagram is heard in the slot of an end, or nothing happens to it
+-- so a datagram is heard in the slot of an end, or its peer is let go for another, or nothing happens to it
 pub received-by : (M : Type 0) (from : Addr) (text : List ℕ) (answer : Received) (old new : Site) (e : HostEnd) (own : End) → old.host.config.generations ≤ greatest
-    → Acts (call.Receive from text answer) old.host new.host → (k : Shows old e own) → (ShowsPeer new.host e.name k.peer → M) → (IsHeard from text answer old new e k.peer → M) → M
-received-by M from text answer old new e own low acts k quiet heard-here = by old.host.slots answer new.host.slots refl refl refl acts.arrives
+    → Acts (call.Receive from text answer) old.host new.host → (k : Shows old e own) → (ShowsPeer new.host e.name k.peer → M)
+    → ((header : Header) (commands : List ℕ) → IsRead text header commands → header.peer ≡ no_peer → seat (host_basis old.host) old.host.slots ≡ Some e.name.slot → is_answering k.peer.state ≡ true → ShowsPeer new.host e.name (freed k.peer) → M)
+    → (IsHeard from text answer old new e k.peer → M) → M
+received-by M from text answer old new e own low acts k quiet let-go heard-here = by old.host.slots answer new.host.slots refl refl refl acts.arrives
   where
     c : Call
     c = call.Receive from text answer
@@ -273,21 +295,41 @@ received-by M from text answer old new e own low acts k quiet heard-here = by ol
     elsewhere : (slots after : List SlotState) (j : ℕ) (t : SlotState) → slots ≡ old.host.slots → after ≡ new.host.slots → after ≡ slice_set slots j t → j ≢ e.name.slot → M
     elsewhere slots after j t was is set n = apart-by (λ x. ap (λ (xs : List SlotState). slice_get xs e.name.slot) (sym is ∙ set) ∙ get-set_other slots j e.name.slot t n ∙ ap (λ (xs : List SlotState). slice_get xs e.name.slot) was ∙ x.there)
 
-    offered : (slots : List SlotState) (reply : Received) (o : Offer) (after : List SlotState) → slots ≡ old.host.slots → after ≡ new.host.slots → Offers (record { basis = host_basis old.host; slots = slots }) from o reply after → M
-    offered slots reply o after was is (receiving.refused why r) = unchanged slots after was is refl
-    offered slots reply o after was is (receiving.repeated r known) = unchanged slots after was is refl
-    offered slots reply o after was is (receiving.no_slot r known none) = unchanged slots after was is refl
-    offered slots reply o after was is (receiving.no_memory j r known free) = unchanged slots after was is refl
-    offered slots reply o after was is (receiving.answers j s r known free there) =
-        let open' = is_open old.host.config slots j s free there in
-        apart-by (λ x. ap (λ (xs : List SlotState). slice_get xs e.name.slot) (sym is)
-        ∙ get-set_other slots j e.name.slot (Rattle.enet_slot.specs.Giving.answering (host_basis old.host) j s from o)
-        (λ z. let y : s ≡ x.slot = same-some s x.slot (sym there ∙ ap (λ (l : ℕ). slice_get slots l) z ∙ ap (λ (xs : List SlotState). slice_get xs e.name.slot) was ∙ x.there) in
-        let none : ◌≡◌ {A = Option Peering} None (Some k.peer) = sym open'.0 ∙ ap (λ (v : SlotState). v.peer) y ∙ x.peer in absurd (cc))
-        ∙ ap (λ (xs : List SlotState). slice_get xs e.name.slot) was ∙ x.there)
+    -- the slot of the end was given out
+    seated : (is_answering k.peer.state ≡ true → ShowsPeer new.host e.name (freed k.peer) → M) → (s t : SlotState) → slice_get old.host.slots e.name.slot ≡ Some s → slice_get new.host.slots e.name.slot ≡ Some t → t.generation ≡ (readied s).generation → IsOpen old.host.config.generations s → M
+    seated goes s t was now same open' = among (there-or old.host e.name k.peer k.shows) open'
+      where
+        among : ((k.peer.state ≢ state.Free) × IsThere old.host.slots e.name k.peer) ⊎ ((k.peer.state ≡ state.Free) × IsSpent old.host e.name) → IsOpen old.host.config.generations s → M
+        among (inr gone) given = quiet (shows-gone new.host e.name k.peer gone.0 (spent-step c old.host new.host e.name low acts gone.1))
+        among (inl live) (holds_none none left) =
+            let x : IsThere old.host.slots e.name k.peer = live.1 in
+            absurd (let y : ◌≡◌ {A = Option Peering} None (Some k.peer) = sym none ∙ ap (λ (v : SlotState). v.peer) (same-some s x.slot (sym was ∙ x.there)) ∙ x.peer in cc)
+        among (inl live) (holds_waiting p held on left) =
+            let x : IsThere old.host.slots e.name k.peer = live.1 in
+            let slot : s ≡ x.slot = same-some s x.slot (sym was ∙ x.there) in
+            let own' : p ≡ k.peer = same-some p k.peer (sym held ∙ ap (λ (v : SlotState). v.peer) slot ∙ x.peer) in
+            let next : (readied s).generation ≡ s.generation + 1 =
+            ap (λ (v : SlotState). v.generation) (readied-waits s p held) ∙ next-generation s (freed p) old.host.config.generations low refl (freed-low old.host.config.generations s p left) in
+            let past : e.name.generation < t.generation =
+            (let a : t.generation ≡ (readied s).generation = same in let b : s.generation ≡ e.name.generation = ap (λ (v : SlotState). v.generation) slot ∙ x.same in omega arith) in
+            goes (ap (λ (v : Peering). is_answering v.state) (sym own') ∙ on) (shows-gone new.host e.name (freed k.peer) refl (record { slot = t; there = now; past = inl past }))
+
+    offered : (header : Header) (commands : List ℕ) → IsRead text header commands → header.peer ≡ no_peer → (slots : List SlotState) (reply : Received) (o : Offer) (after : List SlotState) → slots ≡ old.host.slots → after ≡ new.host.slots → Offers (record { basis = host_basis old.host; slots = slots }) from o reply after → M
+    offered header commands read stranger slots reply o after was is (receiving.refused why r) = unchanged slots after was is refl
+    offered header commands read stranger slots reply o after was is (receiving.repeated r known) = unchanged slots after was is refl
+    offered header commands read stranger slots reply o after was is (receiving.no_slot r known none) = unchanged slots after was is refl
+    offered header commands read stranger slots reply o after was is (receiving.no_memory j r known free) = unchanged slots after was is refl
+    offered header commands read stranger slots reply o after was is (receiving.answers j s r known found there) = at (same-or j e.name.slot)
+      where
+        at : (j ≡ e.name.slot) ⊎ (j ≢ e.name.slot) → M
+        at (inr other) = elsewhere slots after j (answering (host_basis old.host) j (readied s) from o) was is refl other
+        at (inl here) = seated (let-go header commands read stranger (ap (λ (xs : List SlotState). seat (host_basis old.host) xs) (sym was) ∙ found ∙ ap (λ (l : ℕ). Some l) here)) s (answering (host_basis old.host) j (readied s) from o)
+            (subst (λ (l : ℕ). slice_get old.host.slots l ≡ Some s) here (ap (λ (xs : List SlotState). slice_get xs j) (sym was) ∙ there))
+            (ap (λ (xs : List SlotState). slice_get xs e.name.slot) (sym is) ∙ ap (λ (l : ℕ). slice_get (slice_set slots j (answering (host_basis old.host) j (readied s) from o)) l) (sym here) ∙ get-set slots j s (answering (host_basis old.host) j (readied s) from o) there)
+            refl (seat-open (host_basis old.host) old.host.slots j s (ap (λ (xs : List SlotState). seat (host_basis old.host) xs) (sym was) ∙ found) (ap (λ (xs : List SlotState). slice_get xs j) (sym was) ∙ there))
 
     heard-at : (header : Header) (commands : List ℕ) (s t : SlotState) → IsRead text header commands → header.peer ≢ no_peer → refused_by_slot from header.session (Some s) ≡ None
-        → slice_get old.host.slots header.peer ≡ Some s → PeerReceives (record { now = old.host.clock; sent = header.sent }) commands s answer t → new.host.slots ≡ slice_set old.host.slots header.peer t → header.peer ≡ e.name.slot
+        → slice_get old.host.slots header.peer ≡ Some s → PeerReceives (arrival old.host header s) commands s answer t → new.host.slots ≡ slice_set old.host.slots header.peer t → header.peer ≡ e.name.slot
         → ((k.peer.state ≢ state.Free) × IsThere old.host.slots e.name k.peer) ⊎ ((k.peer.state ≡ state.Free) × IsSpent old.host e.name) → M
     heard-at header commands s t read n taken there hears set here (inr gone) = quiet (shows-gone new.host e.name k.peer gone.0 (spent-step c old.host new.host e.name low acts gone.1))
     heard-at header commands s t read n taken there hears set here (inl live) = heard-here (record {
@@ -308,7 +350,7 @@ received-by M from text answer old new e own low acts k quiet heard-here = by ol
     by : (slots : List SlotState) (said : Received) (after : List SlotState) → slots ≡ old.host.slots → after ≡ new.host.slots → said ≡ answer → Arrives (record { basis = host_basis old.host; slots = slots }) from text said after → M
     by slots said after was is as-said (receiving.unreadable why u) = unchanged slots after was is refl
     by slots said after was is as-said (receiving.no_offer header commands read none never) = unchanged slots after was is refl
-    by slots said after was is as-said (receiving.offered header commands o reply left read none offer comes') = offered slots reply o left was is comes'
+    by slots said after was is as-said (receiving.offered header commands o reply left read none offer comes') = offered header commands read none slots reply o left was is comes'
     by slots said after was is as-said (receiving.turned_away header commands why read n r) = unchanged slots after was is refl
     by slots said after was is as-said (receiving.heard header commands s t reply read n open' there hears) = at (same-or header.peer e.name.slot)
       where
@@ -317,12 +359,21 @@ received-by M from text answer old new e own low acts k quiet heard-here = by ol
         at (inl here) =
             let old-there : slice_get old.host.slots header.peer ≡ Some s = ap (λ (xs : List SlotState). slice_get xs header.peer) (sym was) ∙ there in
             let taken : refused_by_slot from header.session (Some s) ≡ None = ap (λ (o : Option SlotState). refused_by_slot from header.session o) (sym there) ∙ open' in
-            heard-at header commands s t read n taken old-there (subst (λ (r : Received). PeerReceives (record { now = old.host.clock; sent = header.sent }) commands s r t) as-said hears) (sym is ∙ ap (λ (xs : List SlotState). slice_set xs header.peer t) was) here (there-or old.host e.name k.peer k.shows)
+            heard-at header commands s t read n taken old-there
+            (subst (λ (r : Received). PeerReceives (arrival old.host header s) commands s r t) as-said
+            (subst (λ (xs : List SlotState). PeerReceives (record { now = old.host.clock; sent = header.sent; full = refuses_at (record { basis = host_basis old.host; slots = xs }) s }) commands s reply t) was hears)) (sym is ∙ ap (λ (xs : List SlotState). slice_set xs header.peer t) was) here (there-or old.host e.name k.peer k.shows)
+
+-- an end whose peer is let go
+goes-let-go : (old new : Site) (e : HostEnd) (own far : End) (k : Shows old e own) → KeepsLog old new e.connection → is_answering k.peer.state ≡ true → ShowsPeer new.host e.name (freed k.peer) → Went own far new e
+goes-let-go old new e own far k same on shows = record { new = with_peer own (freed k.peer); events = GiveWay ∷ []; runs = runs; shows = shows-with old new e own far (freed k.peer) (GiveWay ∷ []) runs same k shows }
+  where
+    runs : RunsAt (GiveWay ∷ []) own far (with_peer own (freed k.peer))
+    runs = (with_peer own (freed k.peer), (k.peer, k.has, on, refl), refl)
 
 goes-received : (from : Addr) (text : List ℕ) (answer : Received) (old new : Site) (e : HostEnd) (own far : End) → old.host.config.generations ≤ greatest
     → Acts (call.Receive from text answer) old.host new.host → KeepsLog old new e.connection → (k : Shows old e own) → (IsHeard from text answer old new e k.peer → Went own far new e) → Went own far new e
 goes-received from text answer old new e own far low acts same k heard-here =
-    received-by (Went own far new e) from text answer old new e own low acts k (λ shows. goes-still old new e own far k same shows) heard-here
+    received-by (Went own far new e) from text answer old new e own low acts k (λ shows. goes-still old new e own far k same shows) (λ header commands read stranger at on shows. goes-let-go old new e own far k same on shows) heard-here
 
 -- a datagram of the host that has the other end
 pub goes-brought : (from : Site) (i : ℕ) (d : Logged) (answer : Received) (old new : Site) (e : HostEnd) (own far : End) → old.host.config.generations ≤ greatest

@@ -122,7 +122,7 @@ crosses-idle = record {
   puts = puts-packet;
   number = refl;
   brings = record { there = refl; at = refl; of = refl; in_time = refl; spelled = spells (submitting idle).peer first_message puts-packet; plain = refl };
-  obeys = record { let_in = refl; goes = (first-comes idle.peer refl).0; after = sym (first-comes idle.peer refl).1; live = λ e. absurd (cc) };
+  obeys = record { let_in = refl; kept = refl; goes = (first-comes idle.peer refl).0; after = sym (first-comes idle.peer refl).1; live = λ e. absurd (cc) };
   tells = refl;
   stays = λ e. absurd (cc);
 }
@@ -222,7 +222,7 @@ crosses-told = record {
   puts = puts-packet-told;
   number = refl;
   brings = record { there = refl; at = refl; of = refl; in_time = refl; spelled = spells (submitting told_asker).peer first_message puts-packet-told; plain = refl };
-  obeys = record { let_in = refl; goes = (first-comes told_answerer.peer refl).0; after = sym (first-comes told_answerer.peer refl).1; live = λ e. absurd (cc) };
+  obeys = record { let_in = refl; kept = refl; goes = (first-comes told_answerer.peer refl).0; after = sym (first-comes told_answerer.peer refl).1; live = λ e. absurd (cc) };
   tells = refl;
   stays = λ e. absurd (cc);
 }
@@ -246,14 +246,14 @@ crosses-opened = (
           (
             between B (site B welcomed) (site A verified),
             deliver B (site A verified) asked 0 (header_of answering.peer verifying_message).session (Some 0) verify verifying_message welcomed.peer brings-verify
-                (record { let_in = refl; goes = refl; after = refl; live = λ e. absurd (cc) }),
+                (record { let_in = refl; kept = refl; goes = refl; after = refl; live = λ e. absurd (cc) }),
             (
               between B (site B confirmed) (site A verified),
               turn B (site A verified) welcomed confirming_message 1 puts-confirm refl,
               (
                 between B (site B confirmed) (site A standing),
                 deliver A (site B confirmed) verified 1 (header_of welcomed.peer confirming_message).session None confirm confirming_message standing.peer brings-confirm
-                    (record { let_in = refl; goes = refl; after = refl; live = λ e. absurd (cc) }),
+                    (record { let_in = refl; kept = refl; goes = refl; after = refl; live = λ e. absurd (cc) }),
                 (
                   between B (site B told_asker) (site A standing),
                   take_event B (site A standing) confirmed told_asker.peer (told.Connect 0) refl (λ e. absurd (cc)),

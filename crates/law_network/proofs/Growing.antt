@@ -4,21 +4,20 @@ use Rattle.enet_codec.specs.declared.address.Addr.{Addr}
 use Rattle.enet_codec.specs.declared.event.Event.{Event as Told}
 use Rattle.enet_codec.specs.declared.event.PeerRef.{PeerRef}
 use Rattle.enet_codec.specs.declared.event.Received.{Received}
-use Rattle.enet_peer.specs.Peering.{Peering}
 use Rattle.law_connection.specs.LinkSteps.{Has}
 use Rattle.law_connection.proofs.Lists.{Has-append_cases}
 use Rattle.law_connection.specs.Law.{mtu_in}
-use Rattle.enet_slot.specs.Slot.{SlotState, name_of}
-use Rattle.enet_host.specs.Host.{Host, named}
+use Rattle.enet_slot.specs.Slot.{name_of}
+use Rattle.enet_host.specs.Host.{named}
 use Rattle.enet_host.specs.Calls.{TakesOne}
-use Rattle.enet_host.specs.Opening.{available}
 use Rattle.enet_host.specs.Serving.{served_of}
 use Rattle.law_network.specs.Calls.{Call}
 use Rattle.law_network.specs.Calls as call
 use Rattle.law_network.specs.Log.{Logged}
 use Rattle.law_network.specs.Network.{HostEnd, Site, fresh_end, is_same_name, with_end}
-use Rattle.law_network.specs.Steps.{Around, Happening, Calls, Delivers, HappensAmong, Called, Logs, LogsIf, BringsOne, ends_after, after_event, with_packet, with_event, end_in, end_in_slot, begun_in, begun}
+use Rattle.law_network.specs.Steps.{Around, Happening, Calls, Delivers, HappensAmong, Called, Logs, LogsIf, BringsOne, ends_after, after_event, with_packet, with_event, begun}
 use Rattle.law_network.proofs.OneThing.{Has-append_left, event-ends}
+pub use Rattle.law_network.proofs.Guests.{begun-is}
 
 -- the ends that begin
 abbrev pub more_in : ℕ → Site → Site → Option Logged → List HostEnd
@@ -84,6 +83,7 @@ calls-grow w from old new (call.ConfigureThrottle name interval acceleration dec
 calls-grow w from old new (call.SetPingInterval name ms answer) x = called w.count (call.SetPingInterval name ms answer) old new x refl
 calls-grow w from old new (call.SetTimeout name limit minimum maximum answer) x = called w.count (call.SetTimeout name limit minimum maximum answer) old new x refl
 calls-grow w from old new (call.NextEvent None) x = called w.count (call.NextEvent None) old new x refl
+calls-grow w from old new (call.Admit what answer) x = called w.count (call.Admit what answer) old new x refl
 calls-grow w from old new (call.NextEvent (Some event)) x =
     let a : TakesOne old.host event new.host = x.0 in
     let name : PeerRef = name_of a.from a.first.slot in
@@ -123,23 +123,3 @@ stays-there old new more g e h = subst (λ (l : List HostEnd). Has l (g.change e
 
 pub begins-there : (old new : Site) (more : List HostEnd) (g : Grows old new more) (f : HostEnd) → Has more f → Has new.ends f
 begins-there old new more g f h = subst (λ (l : List HostEnd). Has l f) (sym g.ends) (Has-append_right (map g.change old.ends) more f h)
-
--- an end that begins where a CONNECT is answered
-
-in-end : (x i : ℕ) (s : SlotState) (o : Option Peering) (f : HostEnd) → Has (end_in x i s o) f → f ≡ fresh_end x (name_of i s)
-in-end x i s None f h = absurd h
-in-end x i s (Some p) f (inl e) = sym e
-in-end x i s (Some p) f (inr h) = absurd h
-
-pub begun-is : (x : ℕ) (old new : Host) (f : HostEnd) → Has (begun x old new) f → (i : ℕ) × (s : SlotState) × (available old.config old.slots ≡ Some i) × (slice_get new.slots i ≡ Some s) × (f ≡ fresh_end x (name_of i s))
-begun-is x old new f h = by (available old.config old.slots) refl h
-  where
-    at : (i : ℕ) → available old.config old.slots ≡ Some i → (o : Option SlotState) → slice_get new.slots i ≡ o → Has (end_in_slot x i o) f
-        → (i : ℕ) × (s : SlotState) × (available old.config old.slots ≡ Some i) × (slice_get new.slots i ≡ Some s) × (f ≡ fresh_end x (name_of i s))
-    at i free None is y = absurd y
-    at i free (Some s) is y = (i, s, free, is, in-end x i s s.peer f y)
-
-    by : (o : Option ℕ) → available old.config old.slots ≡ o → Has (begun_in x o new) f
-        → (i : ℕ) × (s : SlotState) × (available old.config old.slots ≡ Some i) × (slice_get new.slots i ≡ Some s) × (f ≡ fresh_end x (name_of i s))
-    by None free y = absurd y
-    by (Some i) free y = at i free (slice_get new.slots i) refl y

@@ -31,6 +31,8 @@ held-call (call.SetPingInterval name ms answer) old new acts h = does-held old.s
 held-call (call.SetTimeout name limit minimum maximum answer) old new acts h = does-held old.slots new.slots name (waiting limit minimum maximum) answer h acts.0
 held-call (call.NextEvent None) old new acts h = subst (λ (x : Host). HoldsNoFree x.slots) (sym acts.1) h
 held-call (call.NextEvent (Some event)) old new acts h = subst (λ (x : Host). HoldsNoFree x.slots) (sym acts.rest) (event-held old.slots acts.from event acts.first.slot acts.after h acts.gives)
+held-call (call.Admit what (Ok done)) old new acts h = subst (λ (x : Host). HoldsNoFree x.slots) (sym acts.1) h
+held-call (call.Admit what (Err why)) old new acts h = subst (λ (x : Host). HoldsNoFree x.slots) (sym acts.2) h
 
 -- the number of generations is in its range
 few-generations : (c : Config) → is_in_range c ≡ true → c.generations ≤ greatest

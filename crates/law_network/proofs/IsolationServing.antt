@@ -47,11 +47,11 @@ passed h i s t answer buf asked quiet x = by s.peer refl x
   where
     by : (o : Option Peering) → s.peer ≡ o → passes_by h.clock s t o → Fares (call.Service answer buf) (common_of h) i s t
     by None g same =
-        untouched (λ p k. absurd (let y : ◌≡◌ {A = Option Peering} None (Some p) = sym g ∙ k in cc)) (begins-not (call.Service answer buf) h i refl s)
+        untouched (λ p k. absurd (let y : ◌≡◌ {A = Option Peering} None (Some p) = sym g ∙ k in cc)) (λ none. begins-not (call.Service answer buf) h i refl s)
         (same ∙ ap (λ (n : ℕ). having_emitted s n) (sym quiet))
     by (Some p) g nothing =
         goes_on p nothing.after (Emit h.clock None ∷ []) g (sym asked) (nothing.after, alone-none h.clock p nothing.after nothing.buf nothing.puts, refl)
-        (nothing.left ∙ counted-same s nothing.after (counted (call.Service answer buf) (common_of h) i s) quiet)
+        (λ gone. begins-not (call.Service answer buf) h i refl (with_peer s nothing.after)) (nothing.left ∙ counted-same s nothing.after (counted (call.Service answer buf) (common_of h) i s) quiet)
 
 pub each-passed : (h : Host) (buf : List ℕ) (after : List SlotState) → AllPass h.clock h.slots after → Each (call.Service None buf) h after
 each-passed h buf after x i s e =
@@ -114,11 +114,11 @@ each-given h name address len buf after x i s e = (there.0, there.1, by (order (
         let y : (name.slot == i) ≡ true = grind (arith, nat_tests) in
         goes_on g.peer g.after (Emit h.clock (Some (take len buf)) ∷ []) g.held
         (sym (ap (λ (b : Bool). cond b (Emit h.clock (Some (take len buf)) ∷ []) (deeds_if (nat_lt (turn i) (turn name.slot)) (Emit h.clock None))) y))
-        (g.after, alone-some h.clock len g.peer g.after buf g.puts, refl)
+        (g.after, alone-some h.clock len g.peer g.after buf g.puts, refl) (λ gone. begins-not c h i refl (with_peer s g.after))
         (g.left ∙ emitted-apart s g.after (min (s.emitted + len) greatest) ∙ ap (λ (b : Bool). having_emitted (with_peer s g.after) (cond b (min (s.emitted + len) greatest) s.emitted)) (sym y))
     by (inr (inr later)) =
         let n : (name.slot == i) ≡ false = apart (λ e. let t : turn name.slot ≡ turn i = ap turn e in omega arith) in
-        untouched (λ p k. idle c (common_of h) i s p (sym (other false n (grind (arith, nat_tests))))) (begins-not c h i refl s) (turned.after later ∙ ap (λ (n : ℕ). having_emitted s n) (sym (quiet n)))
+        untouched (λ p k. idle c (common_of h) i s p (sym (other false n (grind (arith, nat_tests))))) (λ none. begins-not c h i refl s) (turned.after later ∙ ap (λ (n : ℕ). having_emitted s n) (sym (quiet n)))
 
 -- the event of a slot as its peer's
 pub taken-event : (h : Common) (i : ℕ) (name : PeerRef) (e : PeerEvent) → taken_from h i (Some (event_of name e)) ≡ taken_up_to h i name e
@@ -139,7 +139,7 @@ each-gave h event from first t g =
     each-set c h from first.slot t first.there
     (goes_on g.peer g.taken.after (Take (Some g.taken.event) ∷ []) g.held
     (sym (fell from ∙ ap (λ (b : Bool). cond b (Take (Some g.taken.event) ∷ []) (before from)) (let e : (from == from) ≡ true = grind (arith, nat_tests) in e)))
-    (g.taken.after, g.next, refl) (g.left ∙ counted-same first.slot g.taken.after first.slot.emitted refl))
+    (g.taken.after, g.next, refl) (λ gone. begins-not c h from refl (with_peer first.slot g.taken.after)) (g.left ∙ counted-same first.slot g.taken.after first.slot.emitted refl))
     (λ i y. refl)
     (λ i other s p there held. by i s p there held (elsewhere i other) (nat_lt (turn i) (turn from)) refl)
     (λ i other. begins-not c h i refl)

@@ -26,6 +26,7 @@ pub mod ExampleWorlds
 pub mod Alone
 pub mod Lists
 pub mod Slots
+pub mod Seats
 pub mod Stopping
 pub mod Coming
 pub mod Single
@@ -35,6 +36,7 @@ pub mod IsolationServing
 pub mod OneCall
 pub mod Counts
 pub mod Names
+pub mod Guests
 pub mod AllCalls
 pub mod Beginning
 pub mod Agreeing

@@ -14,7 +14,7 @@ use Rattle.enet_codec.specs.Header.{masked}
 use Rattle.enet_codec.specs.Message.{Message, IsMessage, Spells, connect}
 use Rattle.enet_codec.specs.Datagram.{SpellsAll, SpellsDatagram}
 use Rattle.enet_codec.proofs.Datagrams.{some-bytes}
-use Rattle.enet_peer.specs.Handling.{Handles, nothing_left, goes_on}
+use Rattle.enet_peer.specs.Handling.{Handles, HearsIf, nothing_left, goes_on}
 use Rattle.enet_peer.specs.Heading.{is_compressed, too_short, IsRead, IsOffer}
 use Rattle.enet_sender.specs.CommandChoice.{Packet}
 use Rattle.enet_outbox.specs.Emission.{Filling, datagram, header_for, filled, HasDatagram}
@@ -25,7 +25,9 @@ use Rattle.enet_peer.specs.declared.parts.PeerState.TheVariants as state
 use Rattle.enet_peer.specs.Peering.{Peering}
 use Rattle.enet_peer.specs.Peering as peers
 use Rattle.enet_peer.specs.CommandEffect.{obeyed}
+use Rattle.enet_peer.specs.Refusing.{is_turned_away}
 use Rattle.enet_peer.specs.Calls.{Taken, submission_refusal, submitted, pace_of, destination_of, gone_on, next_event}
+use Rattle.enet_slot.specs.Entering.{awaits}
 use Rattle.enet_slot.specs.Slot.{SlotState, greatest}
 use Rattle.enet_slot.specs.Calls.{event_of, submitted_unless, kept}
 use Rattle.enet_slot.specs.Giving.{no_address, unused_slot, limits_of, offer_from, server_from}
@@ -38,7 +40,7 @@ use Rattle.enet_host.specs.Crediting.{came, no_credit, went}
 use Rattle.enet_host.specs.Host.{Host}
 use Rattle.enet_host.specs.Calls.{put_back}
 use Rattle.enet_host.specs.Opening.{no_totals, asks}
-use Rattle.enet_host.specs.Receiving.{Arrives, unreadable, heard, offered, answers, Listener, Nowhere, More, First, answered, Credits, offer_refused, handled_one, with_datagram_in}
+use Rattle.enet_host.specs.Receiving.{Arrives, refuses_at, unreadable, heard, offered, answers, Listener, Nowhere, More, First, answered, Credits, offer_refused, handled_one, with_datagram_in}
 use Rattle.enet_host.specs.Receiving as counting
 use Rattle.enet_host.specs.Turns.{turn_of}
 use Rattle.enet_host.specs.Serving.{served_of, InTurn, with_datagram_out}
@@ -292,6 +294,7 @@ after_hearing x text q = record x { totals = with_datagram_in x.totals (length t
 -- which the command leaves as q
 pub record Obeys (side : Side) (x : Lone) (session : ℕ) (sent : Option ℕ) (m : Message) (q : Peering) : Type 0 where
   pub let_in : refused_by_slot (address_of (other side)) session (Some (slot_of side x)) ≡ None
+  pub kept : is_turned_away x.peer ≡ false
   pub goes : (obeyed x.peer 0 sent m).stop ≡ None
   pub after : q ≡ (obeyed x.peer 0 sent m).after
   pub live : q.state ≢ state.Free
@@ -301,6 +304,11 @@ let-in : (deaf near fits : Bool) → cond deaf (Some stop.UnknownPeer) (cond (no
 let-in true near fits e = absurd (cc)
 let-in false false fits e = absurd (cc)
 let-in false true fits e = refl
+
+-- a host without such a setting is never full
+never : (b : Bool) → (b && false) ≡ false
+never true = refl
+never false = refl
 
 pub hears : (next : ℕ) (side : Side) (from : Site) (x : Lone) (k session : ℕ) (sent : Option ℕ) (d : Logged) (m : Message) (q : Peering) → Brings from (site side x) side k 0 session sent d m → Obeys side x session sent m q
     → Happens next from (HearsIt k handled_one) (site side x) (site side (after_hearing x d.text q))
@@ -316,15 +324,23 @@ hears next side from x k session sent d m q b o =
     s : SpellsDatagram d.text (record { peer = 0; session = session; compressed = false; sent = sent }) (m ∷ [])
     s = b.spelled
 
-    handles : Handles (record { now = 0; sent = sent }) (record { handled = 0; peer = x.peer }) s.commands handled_one q
-    handles = subst (λ (l : List ℕ). Handles (record { now = 0; sent = sent }) (record { handled = 0; peer = x.peer }) l handled_one q) (sym (s.messages.2 ∙ ap (λ (l : List ℕ). s.messages.0 ++ l) s.messages.4))
-        (goes_on (record { handled = 0; peer = x.peer }) s.messages.0 [] m handled_one q q s.messages.3 (o.goes, o.after) (nothing_left (record { handled = 1; peer = q })))
-
-    hears-it : PeerReceives (record { now = 0; sent = sent }) s.commands old handled_one new
-    hears-it = record { peer = x.peer; after = q; held = refl; handled = handles; left = sym (held old q o.live) }
-
     h : Listener
     h = record { basis = record { config = example_config; clock = 0 }; slots = old ∷ [] }
+
+    handles : Handles (record { now = 0; sent = sent; full = false }) (record { handled = 0; peer = x.peer }) s.commands handled_one q
+    handles =
+        subst (λ (l : List ℕ). Handles (record { now = 0; sent = sent; full = false }) (record { handled = 0; peer = x.peer }) l handled_one q) (sym (s.messages.2 ∙ ap (λ (l : List ℕ). s.messages.0 ++ l) s.messages.4))
+        (goes_on (record { handled = 0; peer = x.peer }) s.messages.0 [] m handled_one q q s.messages.3 (o.goes, o.after) (nothing_left (record { handled = 1; peer = q })))
+
+    hears-it : PeerReceives (record { now = 0; sent = sent; full = refuses_at h old }) s.commands old handled_one new
+    hears-it = record {
+      peer = x.peer;
+      after = q;
+      held = refl;
+      heard = subst (λ (b : Bool). HearsIf b (record { now = 0; sent = sent; full = refuses_at h old }) s.commands x.peer handled_one q) (sym o.kept)
+          (subst (λ (f : Bool). Handles (record { now = 0; sent = sent; full = f }) (record { handled = 0; peer = x.peer }) s.commands handled_one q) (sym (never (awaits old))) handles);
+      left = sym (held old q o.live);
+    }
 
     arrives : Arrives h from.address d.text handled_one (new ∷ [])
     arrives = subst (λ (a : Addr). Arrives h a d.text handled_one (new ∷ [])) (sym b.at)

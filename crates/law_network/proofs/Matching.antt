@@ -1,5 +1,5 @@
 -- Each deed that takes effect is the event that it is named after, and the others change nothing.
-use Rattle.std.proofs.Common.{◌≡◌, ℕ, ◌⊎◌, inl, inr, Bool, true, false, cond, refl, sym, ap, ◌∙◌, Option, Some, None, Result, Ok, Err}
+use Rattle.std.proofs.Common.{◌≡◌, ℕ, ◌⊎◌, inl, inr, Bool, true, false, cond, refl, sym, ap, ◌∙◌, Option, Some, None, Result, Ok, Err, ◌&&◌}
 use Rattle.enet_codec.specs.declared.refusal.Refusal.{Refusal}
 use Rattle.enet_codec.specs.declared.refusal.Refusal.TheVariants as refusal
 use Rattle.enet_codec.specs.declared.stop.Stop.{Stop}
@@ -11,6 +11,7 @@ use Rattle.enet_peer.specs.Calls.{is_connected, with_throttle}
 use Rattle.law_connection.specs.Connection.{Put, End}
 use Rattle.law_connection.specs.Steps.{Setting, MaySet, Happens, with_peer, with_setting}
 use Rattle.law_connection.specs.Steps as setting
+use Rattle.enet_peer.specs.Refusing.{confirms, heeded, turned_away}
 use Rattle.law_network.specs.Deeds.{Deed, Alone, Sets}
 use Rattle.law_network.specs.Deeds as deed
 use Rattle.law_network.specs.Ends.{Brings, Matches, is_heeded, takes_effect, event_of, end_after}
@@ -61,18 +62,27 @@ stopped (Err stop.NoSentTime) wants o old new keeps e h = absurd (cc)
 stopped (Err stop.Memory) wants o old new keeps e h = h.2
 stopped (Err why) wants o old new keeps e h = kept old new o why keeps (λ no'. absurd (cc)) h.0 h.1
 
+-- what a full host refuses stops nothing
+keeps-heeded : (full : Bool) (p : Peering) (now : ℕ) (sent : Option ℕ) (m : Message) → Keeps p (heeded full p now sent m)
+keeps-heeded full p now sent m = by (full && confirms p m)
+  where
+    by : (b : Bool) → Keeps p (cond b (record { stop = None; after = turned_away p }) (obeyed p now sent m))
+    by true = λ why e. absurd (let y : ◌≡◌ {A = Option Stop} None (Some why) = e in cc)
+    by false = keeps-obeyed p now sent m
+
 matches-done : (own other : End) (d : Deed) (old new : Peering) (put : Put) → own.peer ≡ Some old → Alone d old new → takes_effect d ≡ true → Brings own other d put
     → Happens own other (event_of d put) (end_after own other d old new) × ((end_after own other d old new).peer ≡ Some new)
 matches-done own other (deed.Submit q (Ok done)) old new put e alone effect brings = ((old, e, alone.0, refl), some new _ alone.1)
 matches-done own other (deed.Submit q (Err why)) old new put e alone effect brings = absurd (cc)
 matches-done own other (deed.Emit now given) old new put e alone effect brings = ((old, e, refl), some new _ alone.1)
-matches-done own other (deed.Come now sent m answer) old new put e alone effect brings = (
+matches-done own other (deed.Come a m answer) old new put e alone effect brings = (
   (
     old,
     e,
     brings.1,
+    a.full,
     ap (λ (x : Peering). with_peer own x)
-        (came answer (wants_memory old now sent m) (obeyed old now sent m) old new effect alone ∙ ap (λ (x : Message). (obeyed old now sent x).after) (sym brings.0)),
+        (came answer (wants_memory old a.now a.sent m) (heeded a.full old a.now a.sent m) old new effect alone ∙ ap (λ (x : Message). (heeded a.full old a.now a.sent x).after) (sym brings.0)),
   ),
   refl,
 )
@@ -84,12 +94,14 @@ matches-done own other (deed.Disconnect way info (Err why)) old new put e alone 
 matches-done own other (deed.Set s (Ok done)) old new put e alone effect brings =
     let set = was-set s done old new alone in ((old, e, set.0, ap (λ (x : Peering). with_peer own x) set.1), refl)
 matches-done own other (deed.Set s (Err why)) old new put e alone effect brings = absurd (cc)
+matches-done own other deed.GiveWay old new put e alone effect brings = ((old, e, alone.0, ap (λ (x : Peering). with_peer own x) alone.1), refl)
+matches-done own other deed.TellAgain old new put e alone effect brings = ((old, e, alone.0, ap (λ (x : Peering). with_peer own x) alone.1), refl)
 
 matches-refused : (d : Deed) (old new : Peering) → Alone d old new → takes_effect d ≡ false → new ≡ old
 matches-refused (deed.Submit q (Ok done)) old new alone none = absurd (cc)
 matches-refused (deed.Submit q (Err e)) old new alone none = alone.1
 matches-refused (deed.Emit now given) old new alone none = absurd (cc)
-matches-refused (deed.Come now sent m answer) old new alone none = stopped answer (wants_memory old now sent m) (obeyed old now sent m) old new (keeps-obeyed old now sent m) none alone
+matches-refused (deed.Come a m answer) old new alone none = stopped answer (wants_memory old a.now a.sent m) (heeded a.full old a.now a.sent m) old new (keeps-heeded a.full old a.now a.sent m) none alone
 matches-refused (deed.Tick now short) old new alone none = absurd (cc)
 matches-refused (deed.Take None) old new alone none = alone.1
 matches-refused (deed.Take (Some t)) old new alone none = absurd (cc)
@@ -97,6 +109,8 @@ matches-refused (deed.Disconnect way info (Ok done)) old new alone none = absurd
 matches-refused (deed.Disconnect way info (Err why)) old new alone none = alone.2
 matches-refused (deed.Set s (Ok done)) old new alone none = absurd (cc)
 matches-refused (deed.Set s (Err why)) old new alone none = not-set s why old new alone
+matches-refused deed.GiveWay old new alone none = absurd (cc)
+matches-refused deed.TellAgain old new alone none = absurd (cc)
 
 pub matches : Matches
 matches = record { done = matches-done; refused = matches-refused }

@@ -8,11 +8,16 @@ use Rattle.enet_peer.specs.declared.parts.PeerState.TheVariants as state
 use Rattle.enet_peer.specs.Peering.{Peering}
 use Rattle.enet_slot.specs.Slot.{SlotState, with_peer, vacated, greatest}
 use Rattle.enet_host.specs.Host.{Host, with_generation, slot_named, peer_in, named}
+use Rattle.enet_codec.specs.Config.{admitting}
+use Rattle.enet_codec.specs.declared.config.Admission.{Admission}
+use Rattle.enet_codec.specs.declared.config.Admission.TheVariants as admission
+use Rattle.enet_codec.specs.declared.config.Config.{Config}
 use Rattle.law_network.specs.Calls.{Call, Acts}
 use Rattle.law_network.specs.Calls as call
 use Rattle.law_network.specs.Common.{common_of}
 use Rattle.law_network.specs.Falling.{occupied_in, fell_in, fell_to, Begins, asks, answers, counted}
-use Rattle.law_network.specs.IsolationLaw.{Fares, untouched, goes_on, begins, having_emitted}
+use Rattle.law_network.specs.IsolationLaw.{Fares, untouched, goes_on, takes_over, begins, having_emitted}
+use Rattle.law_network.proofs.Seats.{next-generation}
 use Rattle.law_network.proofs.Slots.{held, freed-in}
 use Rattle.law_network.proofs.OneCall.{one-call}
 
@@ -59,6 +64,10 @@ pub record IsSpent (h : Host) (name : PeerRef) : Type 0 where
   pub past : IsSpentIn h name slot
 
 -- no call changes how many generations a slot has
+admitted-generations : (c : Config) (what : Admission) → (admitting c what).generations ≡ c.generations
+admitted-generations c admission.GiveWay = refl
+admitted-generations c (admission.Most peers) = refl
+
 pub same-generations : (c : Call) (old new : Host) → Acts c old new → new.config.generations ≡ old.config.generations
 same-generations (call.Connect address channels info word answer) old new acts = ap (λ (h : Host). h.config.generations) acts.1
 same-generations (call.Submit name channel q answer) old new acts = ap (λ (h : Host). h.config.generations) acts.1
@@ -74,6 +83,8 @@ same-generations (call.SetPingInterval name ms answer) old new acts = ap (λ (h 
 same-generations (call.SetTimeout name limit minimum maximum answer) old new acts = ap (λ (h : Host). h.config.generations) acts.1
 same-generations (call.NextEvent None) old new acts = ap (λ (h : Host). h.config.generations) acts.1
 same-generations (call.NextEvent (Some event)) old new acts = ap (λ (h : Host). h.config.generations) acts.rest
+same-generations (call.Admit what (Ok done)) old new acts = ap (λ (h : Host). h.config.generations) acts.1 ∙ admitted-generations old.config what
+same-generations (call.Admit what (Err why)) old new acts = ap (λ (h : Host). h.config.generations) acts.2
 
 none-some : {X : Type 0} (o : Option X) (x : X) → o ≡ None → o ≡ Some x → ⊥
 none-some o x e f = let y : ◌≡◌ {A = Option _} None (Some x) = sym e ∙ f in absurd (cc)
@@ -101,6 +112,14 @@ pub begun-generation : (c : Call) (h : Host) (i : ℕ) (s t : SlotState) → Beg
 begun-generation c h i s t (asks address channels info word is some at) = refl
 begun-generation c h i s t (answers from bytes commands header o is read stranger offer taken new at) = refl
 
+-- and one whose peer left it first has the next
+pub over-generation : (c : Call) (h : Host) (i : ℕ) (s t : SlotState) (q : Peering) → h.config.generations ≤ greatest → q.state ≡ state.Free → (with_peer s q).generation < h.config.generations → Begins c (common_of h) i (with_peer s q) t → t.generation ≡ s.generation + 1
+over-generation c h i s t q low gone left b = begun-generation c h i (with_peer s q) t b ∙ next-generation s q h.config.generations low gone left
+
+pub over-past : (c : Call) (h : Host) (i : ℕ) (s t : SlotState) (q : Peering) → h.config.generations ≤ greatest → q.state ≡ state.Free → (with_peer s q).generation < h.config.generations → Begins c (common_of h) i (with_peer s q) t
+    → (n : ℕ) → n ≤ s.generation → n < t.generation
+over-past c h i s t q low gone left b n reached = let g : t.generation ≡ s.generation + 1 = over-generation c h i s t q low gone left b in let r : n ≤ s.generation = reached in omega arith
+
 -- a spent name stays so
 spent-in : (c : Call) (old new : Host) (name : PeerRef) (s t : SlotState) → new.config.generations ≡ old.config.generations → old.config.generations ≤ greatest → Fares c (common_of old) name.slot s t → IsSpentIn old name s → IsSpentIn new name t
 spent-in c old new name s t same low (untouched none not' e) (inl past) = inl (let g : t.generation ≡ s.generation = ap (λ (x : SlotState). x.generation) e in omega arith)
@@ -108,7 +127,7 @@ spent-in c old new name s t same low (untouched none not' e) (inr over) =
     let g : t.generation ≡ s.generation = ap (λ (x : SlotState). x.generation) e in
     let least : old.config.generations ≤ s.generation = over.0 in
     inr (omega arith, ap (λ (x : SlotState). x.peer) e ∙ over.1)
-spent-in c old new name s t same low (goes_on p q ds has fell alone e) (inl past) = by (free-or q.state)
+spent-in c old new name s t same low (goes_on p q ds has fell alone none e) (inl past) = by (free-or q.state)
   where
     n : ℕ
     n = counted c (common_of old) name.slot s
@@ -116,7 +135,9 @@ spent-in c old new name s t same low (goes_on p q ds has fell alone e) (inl past
     by : (q.state ≡ state.Free) ⊎ (q.state ≢ state.Free) → IsSpentIn new name t
     by (inl free) = past-freed new name s t q n (let a : new.config.generations ≡ old.config.generations = same in let b : old.config.generations ≤ greatest = low in omega arith) (let a : name.generation < s.generation = past in omega arith) free e
     by (inr live) = inl (let g : t.generation ≡ s.generation = ap (λ (x : SlotState). x.generation) (e ∙ ap (λ (x : SlotState). having_emitted x n) (held s q live)) in let a : name.generation < s.generation = past in omega arith)
-spent-in c old new name s t same low (goes_on p q ds has fell alone e) (inr over) = absurd (none-some s.peer p over.1 has)
+spent-in c old new name s t same low (goes_on p q ds has fell alone none e) (inr over) = absurd (none-some s.peer p over.1 has)
+spent-in c old new name s t same low (takes_over p q ds has fell alone gone left b) (inl past) = inl (over-past c old name.slot s t q low gone left b name.generation (let a : name.generation < s.generation = past in omega arith))
+spent-in c old new name s t same low (takes_over p q ds has fell alone gone left b) (inr over) = absurd (none-some s.peer p over.1 has)
 spent-in c old new name s t same low (begins none left b) (inl past) = inl (let g : t.generation ≡ s.generation = begun-generation c old name.slot s t b in omega arith)
 spent-in c old new name s t same low (begins none left b) (inr over) = absurd (let least : old.config.generations ≤ s.generation = over.0 in let a : s.generation < old.config.generations = left in omega arith)
 

@@ -1,6 +1,6 @@
 -- No connection begins twice at a host: a CONNECT of one that the host has ended is of an earlier connection, and any other is repeated, since the
 -- end's peer has the connection's one connect id and stands at the other host's address.
-use Rattle.std.proofs.Common.{◌≡◌, ◌≢◌, ℕ, ◌==◌, ◌&&◌, ◌⊎◌, inl, inr, not, Bool, true, false, cond, List, [], refl, sym, ap, subst, ◌∙◌, arith, Option, Some, None, slice_get}
+use Rattle.std.proofs.Common.{◌≡◌, ◌≢◌, ℕ, ◌==◌, ◌&&◌, ◌⊎◌, inl, inr, not, Bool, true, false, cond, List, [], refl, sym, ap, subst, ◌∙◌, arith, Option, Some, None, slice_get, ◌≤◌, ◌<◌, ◌+◌}
 use Rattle.std.proofs.lemmas.Bool.Decides.{nat_tests}
 use Rattle.enet_codec.specs.declared.address.Addr.{Addr}
 use Rattle.enet_codec.specs.declared.event.PeerRef.{PeerRef}
@@ -16,25 +16,25 @@ use Rattle.law_connection.specs.LinkSteps.{Has}
 use Rattle.law_connection.proofs.Lists.{Has-slice_get}
 use Rattle.law_connection.specs.Connection.{Put, messages_of}
 use Rattle.enet_slot.specs.Receiving.{is_same_address, no_peer, is_deaf, is_connection, is_connection_in}
-use Rattle.enet_slot.specs.Slot.{SlotState, with_peer_in}
+use Rattle.enet_slot.specs.Slot.{SlotState, with_peer, with_peer_in, greatest}
 use Rattle.enet_host.specs.Host.{Host, named}
 use Rattle.enet_host.specs.Receiving.{is_known}
 use Rattle.law_network.specs.Calls.{Call, Acts}
 use Rattle.law_network.specs.Calls as call
 use Rattle.law_network.specs.Common.{common_of}
 use Rattle.law_network.specs.Falling as falling
-use Rattle.law_network.specs.IsolationLaw.{Fares, untouched, goes_on, begins}
-use Rattle.law_network.proofs.Names.{IsThere, IsSpent, there-named, spent-step, spent-nobody}
+use Rattle.law_network.specs.IsolationLaw.{Fares, untouched, goes_on, takes_over, begins}
+use Rattle.law_network.proofs.Guests.{guest, guest-begins, kept-name}
+use Rattle.law_network.proofs.Names.{IsThere, IsSpent, there-named, over-generation, spent-step, spent-nobody}
 use Rattle.law_network.proofs.OneCall.{one-call}
-use Rattle.law_network.proofs.Receiving.{is_open}
 use Rattle.law_network.specs.Log.{Logged}
 use Rattle.law_network.specs.Network.{HostEnd, Site, is_over, has_ended, holds_another, is_earlier, is_late}
 use Rattle.law_network.specs.Shown.{IsLogged, Shows}
-use Rattle.law_network.specs.Steps.{Around, Happening, Calls, Delivers, HappensAmong, BringsOne, begun_in, begun}
+use Rattle.law_network.specs.Steps.{Around, Happening, Calls, Delivers, HappensAmong, BringsOne, begun}
 use Rattle.law_network.proofs.Addresses.{same-address}
-use Rattle.law_network.proofs.Beginnings.{the-offer, none-in, free-there}
+use Rattle.law_network.proofs.Beginnings.{the-offer}
 use Rattle.law_network.proofs.Delivering.{none-of}
-use Rattle.law_network.proofs.Growing.{more_of, Grows, grows, from-before, begun-is}
+use Rattle.law_network.proofs.Growing.{more_of, Grows, grows, from-before}
 use Rattle.law_network.proofs.Marked.{behind}
 use Rattle.law_network.proofs.OneThing.{in-none}
 use Rattle.law_network.proofs.Peers.{there-or}
@@ -79,20 +79,36 @@ stays-in st s q = refl
 none-some : {A X : Type 0} (o : Option X) (x : X) → o ≡ None → o ≡ Some x → A
 none-some o x e f = absurd (let y : ◌≡◌ {A = Option _} None (Some x) = sym e ∙ f in cc)
 
-stays-at : (c : Call) (h : Host) (i : ℕ) (s t : SlotState) (p : Peering) → s.peer ≡ Some p → Fares c (common_of h) i s t → t.address ≡ s.address
-stays-at c h i s t p has (untouched fell not' e) = ap (λ (z : SlotState). z.address) e
-stays-at c h i s t p has (goes_on r q ds was fell alone e) = ap (λ (z : SlotState). z.address) e ∙ stays-in q.state s q
-stays-at c h i s t p has (begins none left b) = none-some s.peer p none has
+-- so does the slot of a peer, as long as its name is the same
+stays-at : (c : Call) (h : Host) (i : ℕ) (s t : SlotState) (p : Peering) → h.config.generations ≤ greatest → s.peer ≡ Some p → t.generation ≡ s.generation → Fares c (common_of h) i s t → t.address ≡ s.address
+stays-at c h i s t p few has same (untouched fell not' e) = ap (λ (z : SlotState). z.address) e
+stays-at c h i s t p few has same (goes_on r q ds was fell alone none e) = ap (λ (z : SlotState). z.address) e ∙ stays-in q.state s q
+stays-at c h i s t p few has same (takes_over r q ds was fell alone gone left b) = absurd (let g : t.generation ≡ s.generation + 1 = over-generation c h i s t q few gone left b in let k : t.generation ≡ s.generation = same in omega arith)
+stays-at c h i s t p few has same (begins none left b) = none-some s.peer p none has
 
 -- and one that begins is where the call says
 begins-at : (from : Addr) (c : Call) (h : Host) (i : ℕ) (s t : SlotState) → IsFrom from c → falling.Begins c (common_of h) i s t → t.address ≡ from
 begins-at from c h i s t k (falling.asks address channels info word is some at) = subst (IsFrom from) is k
 begins-at from c h i s t k (falling.answers address bytes commands header o is read stranger offer taken new at) = subst (IsFrom from) is k
 
-given-at : (from : Addr) (c : Call) (h : Host) (i : ℕ) (s t : SlotState) (p : Peering) → IsFrom from c → s.peer ≡ None → t.peer ≡ Some p → Fares c (common_of h) i s t → t.address ≡ from
-given-at from c h i s t p k vacant has (untouched fell not' e) = none-some t.peer p (ap (λ (z : SlotState). z.peer) e ∙ vacant) has
-given-at from c h i s t p k vacant has (goes_on r q ds was fell alone e) = none-some s.peer r vacant was
-given-at from c h i s t p k vacant has (begins none left b) = begins-at from c h i s t k b
+-- a slot has a name that is new
+abbrev IsNewName : SlotState → SlotState → Type 0
+IsNewName s t = (s.generation < t.generation) ⊎ (s.peer ≡ None)
+
+not-kept : {A : Type 0} (s t : SlotState) (p : Peering) → IsNewName s t → t.generation ≡ s.generation → t.peer ≡ s.peer → t.peer ≡ Some p → A
+not-kept s t p (inl past) same kept has = absurd (let a : s.generation < t.generation = past in let b : t.generation ≡ s.generation = same in omega arith)
+not-kept s t p (inr none) same kept has = none-some t.peer p (kept ∙ none) has
+
+not-gone-on : {A : Type 0} (s t : SlotState) (r : Peering) → IsNewName s t → t.generation ≡ s.generation → s.peer ≡ Some r → A
+not-gone-on s t r (inl past) same was = absurd (let a : s.generation < t.generation = past in let b : t.generation ≡ s.generation = same in omega arith)
+not-gone-on s t r (inr none) same was = none-some s.peer r none was
+
+given-at : (from : Addr) (c : Call) (h : Host) (i : ℕ) (s t : SlotState) (p : Peering) → IsFrom from c → IsNewName s t → t.peer ≡ Some p → Fares c (common_of h) i s t → t.address ≡ from
+given-at from c h i s t p k new has (untouched fell not' e) = not-kept s t p new (ap (λ (z : SlotState). z.generation) e) (ap (λ (z : SlotState). z.peer) e) has
+given-at from c h i s t p k new has (goes_on r q ds was fell alone none e) =
+    not-gone-on s t r new (ap (λ (z : SlotState). z.generation) e ∙ kept-name q.state s q p (ap (λ (z : SlotState). z.peer) (sym e) ∙ has)) was
+given-at from c h i s t p k new has (takes_over r q ds was fell alone gone left b) = begins-at from c h i (with_peer s q) t k b
+given-at from c h i s t p k new has (begins none left b) = begins-at from c h i s t k b
 
 pub at-goes : (place : ℕ → Addr) (w : Around) (from old new : Site) (what : Happening) → HappensAmong w from what old new → IsHost old w.count → AreShown old
     → ((f : HostEnd) → Has (more_of w.count from old new what) f → place f.connection ≡ from.address) → AreAt place old → AreAt place new
@@ -123,7 +139,7 @@ at-goes place w from old new what happens k shown begin at f h p x = by (from-be
         by : ((own.peer.state ≢ state.Free) × IsThere old.host.slots b.name own.peer) ⊎ ((own.peer.state ≡ state.Free) × IsSpent old.host b.name) → x.slot.address ≡ place f.connection
         by (inl live) =
             let y : IsThere old.host.slots f.name own.peer = subst (λ (n : PeerRef). IsThere old.host.slots n own.peer) name live.1 in
-            stays-at c.made old.host f.name.slot y.slot x.slot own.peer y.peer (fares y.slot y.there) ∙ was own.peer y
+            stays-at c.made old.host f.name.slot y.slot x.slot own.peer k.few y.peer (x.same ∙ sym y.same) (fares y.slot y.there) ∙ was own.peer y
         by (inr gone) =
             let spent : IsSpent new.host f.name = subst (IsSpent new.host) name (spent-step c.made old.host new.host b.name k.few c.acts gone.1) in
             none-some (named new.host.slots f.name) p (spent-nobody new.host f.name spent) (there-named new.host.slots f.name p x)
@@ -131,8 +147,12 @@ at-goes place w from old new what happens k shown begin at f h p x = by (from-be
     by : ((b : HostEnd) × Has old.ends b × (g.change b ≡ f)) ⊎ Has more f → x.slot.address ≡ place f.connection
     by (inl b) = before b.0 b.1 (sym (g.name b.0) ∙ ap (λ (z : HostEnd). z.name) b.2) (sym (g.connection b.0) ∙ ap (λ (z : HostEnd). z.connection) b.2)
     by (inr m) =
-        let fresh : IsFresh old.host f.name = fresh-more w from old new what happens f m in
-        given-at from.address c.made old.host f.name.slot fresh.slot x.slot p (c.speaks f m) fresh.vacant x.peer (fares fresh.slot fresh.there) ∙ sym (begin f m)
+        let fresh : IsFresh old.host f.name = fresh-more w from old new what k.few happens f m in
+        let new' : IsNewName fresh.slot x.slot = elim fresh.future [
+          | inl past ↦ inl (let a : x.slot.generation ≡ f.name.generation = x.same in let b : fresh.slot.generation < f.name.generation = past in omega arith)
+          | inr same ↦ inr same.1
+        ] in
+        given-at from.address c.made old.host f.name.slot fresh.slot x.slot p (c.speaks f m) new' x.peer (fares fresh.slot fresh.there) ∙ sym (begin f m)
 
 -- where an end begins by a datagram, this is a CONNECT whose connection wasn't there
 
@@ -153,12 +173,10 @@ address-of : Addr → Call → Addr
 address-of a (call.Receive from bytes answer) = from
 address-of a c = a
 
-new-in : (from : Addr) (text : List ℕ) (answer : Received) (h : Host) (i : ℕ) (s t : SlotState) → s.peer ≡ None → (t.peer ≡ None → ⊥) → Fares (call.Receive from text answer) (common_of h) i s t → IsNew h from text
+new-in : (from : Addr) (text : List ℕ) (answer : Received) (h : Host) (i : ℕ) (u t : SlotState) → falling.Begins (call.Receive from text answer) (common_of h) i u t → IsNew h from text
 unfolding text-of address-of
-new-in from text answer h i s t vacant some (untouched fell not' e) = absurd (some (ap (λ (z : SlotState). z.peer) e ∙ vacant))
-new-in from text answer h i s t vacant some (goes_on r q ds was fell alone e) = none-some s.peer r vacant was
-new-in from text answer h i s t vacant some (begins none left (falling.asks address channels info word is some' at)) = absurd (cc)
-new-in from text answer h i s t vacant some (begins none left (falling.answers address bytes commands header o is read stranger offer taken new at)) =
+new-in from text answer h i u t (falling.asks address channels info word is some' at) = absurd (cc)
+new-in from text answer h i u t (falling.answers address bytes commands header o is read stranger offer taken new at) =
     subst (λ (a : Addr). IsNew h a text) (sym (ap (address-of from) is)) (subst (IsNew h address) (sym (ap text-of is)) (record {
       header = header;
       commands = commands;
@@ -169,13 +187,11 @@ new-in from text answer h i s t vacant some (begins none left (falling.answers a
       unknown = new;
     }))
 
-new-begun : (from : Addr) (text : List ℕ) (answer : Received) (x : ℕ) (old new : Host) (f : HostEnd) → Acts (call.Receive from text answer) old new → Has (begun x old new) f → IsNew old from text
-new-begun from text answer x old new f acts h =
-    let b = begun-is x old new f h in
-    let s = free-there old.config old.slots b.0 b.2 in
-    let t = one-call (call.Receive from text answer) old new acts b.0 s.0 s.1 in
-    new-in from text answer old b.0 s.0 t.0 (is_open old.config old.slots b.0 s.0 b.2 s.1).0
-    (λ none. none-in x b.0 new t.0 f t.1 none (subst (λ (o : Option ℕ). Has (begun_in x o new) f) b.2 h)) t.2
+new-begun : (from : Addr) (text : List ℕ) (answer : Received) (x : ℕ) (old new : Host) (f : HostEnd) → old.config.generations ≤ greatest → Acts (call.Receive from text answer) old new → Has (begun x old new) f → IsNew old from text
+new-begun from text answer x old new f few acts h =
+    let g = guest x old new f h in
+    let b = guest-begins (call.Receive from text answer) x old new f few acts g in
+    new-in from text answer old g.number b.0 g.held.slot b.1
 
 -- a CONNECT of a connection that is there is repeated
 
@@ -208,7 +224,7 @@ twice : (j : Bool) (count i : ℕ) (answer : Received) (d : Logged) (from old ne
 twice j count i answer d from old new brought k ko sent e h of pair at f m = by (there-or old.host e.name own.peer own.shows)
   where
     n : IsNew old.host from.address d.text
-    n = new-begun from.address d.text answer d.connection old.host new.host f brought.1.0 m
+    n = new-begun from.address d.text answer d.connection old.host new.host f k.few brought.1.0 m
 
     over : is_over (named old.host.slots e.name) ≡ false
     over = hears-still old from.address d e (ko.named d (Has-slice_get from.log i d sent) n.header n.commands n.read ∙ n.nobody) (in-none (is_earlier old from.address d) (is_late from old d) brought.0).0 h of

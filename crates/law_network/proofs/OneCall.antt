@@ -108,6 +108,12 @@ each-call (call.SetTimeout name limit minimum maximum (Ok done)) old new acts =
 each-call (call.SetTimeout name limit minimum maximum (Err why)) old new acts =
     each-refused (call.SetTimeout name limit minimum maximum (Err why)) old name (Set (setting.Timeout limit minimum maximum) (Err why)) new.slots acts.0.1
     (λ s p named held. (peer-refused old.slots name (waiting limit minimum maximum) s p why named held acts.0.0, refl)) (λ i s p ds e. e) (λ i s. refl) refl
+each-call (call.Admit what (Ok done)) old new acts =
+    each-none (call.Admit what (Ok done)) old new.slots (λ i s. refl) (ap (λ (h : Host). h.slots) acts.1) (λ i s p there held. idle (call.Admit what (Ok done)) (common_of old) i s p refl)
+    (λ i. begins-not (call.Admit what (Ok done)) old i refl)
+each-call (call.Admit what (Err why)) old new acts =
+    each-none (call.Admit what (Err why)) old new.slots (λ i s. refl) (ap (λ (h : Host). h.slots) acts.2) (λ i s p there held. idle (call.Admit what (Err why)) (common_of old) i s p refl)
+    (λ i. begins-not (call.Admit what (Err why)) old i refl)
 each-call (call.NextEvent None) old new acts = each-mute old new.slots (ap (λ (h : Host). h.slots) acts.1) acts.0
 each-call (call.NextEvent (Some event)) old new acts = subst (λ (h : Host). Each (call.NextEvent (Some event)) old h.slots) (sym acts.rest) (each-gave old event acts.from acts.first acts.after acts.gives)
 

@@ -24,3 +24,5 @@ of-the-host (call.SetPingInterval name ms answer) old new acts = kept old new ac
 of-the-host (call.SetTimeout name limit minimum maximum answer) old new acts = kept old new acts.1
 of-the-host (call.NextEvent None) old new acts = (ap (λ (h : Host). h.config) acts.1, ap (λ (h : Host). h.clock) acts.1, ap (λ (h : Host). h.shared_at) acts.1)
 of-the-host (call.NextEvent (Some event)) old new acts = (ap (λ (h : Host). h.config) acts.rest, ap (λ (h : Host). h.clock) acts.rest, ap (λ (h : Host). h.shared_at) acts.rest)
+of-the-host (call.Admit what (Ok done)) old new acts = (ap (λ (h : Host). h.config) acts.1, ap (λ (h : Host). h.clock) acts.1, ap (λ (h : Host). h.shared_at) acts.1)
+of-the-host (call.Admit what (Err why)) old new acts = (ap (λ (h : Host). h.config) acts.2, ap (λ (h : Host). h.clock) acts.2, ap (λ (h : Host). h.shared_at) acts.2)

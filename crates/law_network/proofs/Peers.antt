@@ -11,8 +11,8 @@ use Rattle.law_network.specs.Calls.{Call, Acts}
 use Rattle.law_network.specs.Common.{common_of}
 use Rattle.law_network.specs.Deeds.{Deed, AllAlone}
 use Rattle.law_network.specs.Falling.{Fell, counted}
-use Rattle.law_network.specs.IsolationLaw.{Stays, Fares, untouched, goes_on, begins, having_emitted, held_if}
-use Rattle.law_network.proofs.Names.{free-or, IsThere, named-there, there-named, IsSpent, same-generations, past-freed, spent-step, spent-nobody}
+use Rattle.law_network.specs.IsolationLaw.{Stays, Fares, untouched, goes_on, takes_over, begins, having_emitted, held_if}
+use Rattle.law_network.proofs.Names.{free-or, IsThere, named-there, there-named, IsSpent, same-generations, past-freed, over-past, spent-step, spent-nobody}
 use Rattle.law_network.proofs.OneCall.{one-call}
 use Rattle.law_network.proofs.Slots.{held}
 use Rattle.law_network.specs.Shown.{IsGone, ShowsPeer}
@@ -72,9 +72,13 @@ moved-there c old new name p low same live x t there (untouched none not' e) =
       same = ap (λ (s : SlotState). s.generation) e ∙ x.same;
       peer = ap (λ (s : SlotState). s.peer) e ∙ x.peer;
     }))
-moved-there c old new name p low same live x t there (goes_on r q ds has fell alone e) =
+moved-there c old new name p low same live x t there (goes_on r q ds has fell alone none e) =
     let is : r ≡ p = (let y : ◌≡◌ {A = Option Peering} (Some r) (Some p) = sym has ∙ x.peer in cc) in
     goes x ds q (subst (λ (y : Peering). Fell (common_of old) (record { number = name.slot; slot = x.slot; peer = y }) c ds) is fell) (subst (λ (y : Peering). AllAlone ds y q) is alone) (shows-after c old new name p q x t (counted c (common_of old) name.slot x.slot) low same there e)
+moved-there c old new name p low same live x t there (takes_over r q ds has fell alone gone left b) =
+    let is : r ≡ p = (let y : ◌≡◌ {A = Option Peering} (Some r) (Some p) = sym has ∙ x.peer in cc) in
+    goes x ds q (subst (λ (y : Peering). Fell (common_of old) (record { number = name.slot; slot = x.slot; peer = y }) c ds) is fell) (subst (λ (y : Peering). AllAlone ds y q) is alone)
+    (shows-gone new name q gone (record { slot = t; there = there; past = inl (over-past c old name.slot x.slot t q low gone left b name.generation (let g : x.slot.generation ≡ name.generation = x.same in omega arith)) }))
 moved-there c old new name p low same live x t there (begins none left b) = absurd (let y : ◌≡◌ {A = Option Peering} None (Some p) = sym none ∙ x.peer in cc)
 
 some-none : (h : Host) (name : PeerRef) (q : Peering) → named h.slots name ≡ None → IsThere h.slots name q → ⊥

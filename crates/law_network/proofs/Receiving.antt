@@ -1,12 +1,9 @@
 -- A call of connect, and a datagram that comes.
-use Rattle.std.proofs.Common.{◌≡◌, ◌≢◌, ◌<◌, ℕ, ◌⊎◌, inl, inr, Bool, true, false, ltb, ◌&&◌, nat_lt, List, [], ◌++◌, refl, sym, ap, subst, ◌∙◌, arith, Option, Some, None, Result, Ok, Err, slice_set}
-use Rattle.std.proofs.lemmas.Bool.Decides.{nat_tests}
+use Rattle.std.specs.Prelude.{is_some}
+use Rattle.std.proofs.Common.{◌≡◌, ◌≢◌, ℕ, ◌⊎◌, inl, inr, Bool, true, false, ◌&&◌, List, [], ◌∷◌, ◌++◌, refl, sym, ap, subst, ◌∙◌, arith, Option, Some, None, Result, Ok, Err, slice_set, ◌<◌}
 use Rattle.std.proofs.lemmas.List.{append_cancel_left}
-use Rattle.std.proofs.lemmas.List.Quantifiers.{position-Some}
-use Rattle.std.proofs.lemmas.Option.{get_or_from_slice_get}
-use Rattle.std.specs.List.{slice_get, position}
+use Rattle.std.specs.List.{slice_get}
 use Rattle.enet_codec.specs.declared.address.Addr.{Addr}
-use Rattle.enet_codec.specs.declared.config.Config.{Config}
 use Rattle.enet_codec.specs.declared.event.PeerRef.{PeerRef}
 use Rattle.enet_codec.specs.declared.event.Received.{Received}
 use Rattle.enet_codec.specs.declared.refusal.Refusal.{Refusal}
@@ -19,53 +16,36 @@ use Rattle.enet_codec.specs.Message.{Message, connect}
 use Rattle.enet_codec.proofs.HeaderLaws.{one_header}
 use Rattle.enet_codec.proofs.Laws.{one_spelling}
 use Rattle.enet_peer.specs.Peering.{Peering}
+use Rattle.enet_peer.specs.Endings.{freed}
+use Rattle.enet_peer.specs.Handling.{Arrival, HearsIf}
 use Rattle.enet_peer.specs.Heading.{IsUnreadable, IsRead, IsOffer}
-use Rattle.enet_slot.specs.Slot.{SlotState, name_of}
+use Rattle.enet_peer.specs.Refusing.{is_turned_away, reminded}
+use Rattle.enet_slot.specs.Slot.{SlotState, name_of, with_peer}
+use Rattle.enet_slot.specs.Entering.{awaits}
+use Rattle.enet_slot.specs.Yielding.{readied}
 use Rattle.enet_host.specs.Host.{Host}
-use Rattle.enet_slot.specs.Giving.{is_vacant, is_available, asking, answering}
-use Rattle.enet_host.specs.Opening.{host_basis, available, Connects}
+use Rattle.enet_slot.specs.Giving.{asking, answering}
+use Rattle.enet_host.specs.Opening.{host_basis, available, seat, Connects}
 use Rattle.enet_host.specs.Opening as opening
-use Rattle.enet_slot.specs.Receiving.{no_peer, refused_by_slot, stopped}
-use Rattle.enet_host.specs.Receiving.{refused_by, is_known, Offers, Arrives, handled_one}
+use Rattle.enet_slot.specs.Receiving.{no_peer, refused_by_slot, stopped, was_refused, was_refused_in, PeerReceives}
+use Rattle.enet_host.specs.Receiving.{refused_by, refuses_at, is_full, is_known, listener_of, offer_refused, Offers, Arrives, handled_one}
 use Rattle.enet_host.specs.Receiving as receiving
 use Rattle.law_network.specs.Calls.{Call}
 use Rattle.law_network.specs.Calls as call
 use Rattle.law_network.specs.Common.{common_of}
-use Rattle.law_network.specs.Falling.{Fell, unreadable, elsewhere, turned_away, here, asks, answers}
-use Rattle.law_network.specs.IsolationLaw.{goes_on, begins}
+use Rattle.law_network.specs.Deeds.{AllAlone, GiveWay, TellAgain}
+use Rattle.law_network.specs.Falling.{Receipt, GetsSeat, Fell, Begins, unreadable, elsewhere, gives_way, turned_away, here, asks, answers, deeds_if}
+use Rattle.law_network.specs.Falling as falling
+use Rattle.law_network.specs.IsolationLaw.{Fares, goes_on, takes_over, begins}
 use Rattle.law_network.proofs.Lists.{same-or}
 use Rattle.law_network.proofs.Coming.{Came, came}
+use Rattle.law_network.proofs.Seats.{IsOpen, holds_none, holds_waiting, seat-open, seat-of, readied-free, readied-waits, freed-low}
 use Rattle.law_network.proofs.Slots.{counted-same}
 use Rattle.law_network.proofs.Single.{Each, StaysAt, idle, BeginsNot, begins-at, each-none, each-set}
-
--- the first place that passes passes
-position-passes : {X : Type 0} (p : X → Bool) (xs : List X) (j : ℕ) (x : X) → position p xs ≡ Some j → slice_get xs j ≡ Some x → p x ≡ true
-position-passes p xs j x e there = ap p (sym (get_or_from_slice_get xs j x x there)) ∙ (position-Some p xs j x e).1
-
--- an available slot holds no peer and has a generation left
-pub is_open : (c : Config) (slots : List SlotState) (j : ℕ) (s : SlotState) → available c slots ≡ Some j → slice_get slots j ≡ Some s → (s.peer ≡ None) × (s.generation < c.generations)
-is_open c slots j s e there = (vacant s.peer (left (is_vacant s.peer) (ltb s.generation c.generations) both), low (right (is_vacant s.peer) (ltb s.generation c.generations) both))
-  where
-    left : (a b : Bool) → (a && b) ≡ true → a ≡ true
-    left true b h = refl
-    left false b h = h
-
-    right : (a b : Bool) → (a && b) ≡ true → b ≡ true
-    right true b h = h
-    right false b h = absurd (cc)
-
-    both : is_available c.generations s ≡ true
-    both = position-passes (is_available c.generations) slots j s e there
-
-    vacant : (o : Option Peering) → is_vacant o ≡ true → o ≡ None
-    vacant None h = refl
-    vacant (Some p) h = absurd (cc)
-
-    low : nat_lt s.generation c.generations ≡ true → s.generation < c.generations
-    low h = grind (arith, nat_tests)
+pub use Rattle.law_network.proofs.Seats.{is_open}
 
 -- a connection begins in one slot only
-apart-begins : (c : Call) (h : Host) (j : ℕ) → available h.config h.slots ≡ Some j → (i : ℕ) → j ≢ i → BeginsNot c h i
+apart-begins : (c : Call) (h : Host) (j : ℕ) → seat (host_basis h) h.slots ≡ Some j → (i : ℕ) → j ≢ i → BeginsNot c h i
 apart-begins c h j at i other s u b = other (let x : ◌≡◌ {A = Option ℕ} (Some j) (Some i) = sym at ∙ begins-at c h i s u b in cc)
 
 -- none begins where a question is refused
@@ -83,7 +63,7 @@ each-connects h address channels info word answer slots after same (opening.asks
     let at : available h.config h.slots ≡ Some j = ap (λ (xs : List SlotState). available h.config xs) (sym same) ∙ free in
     subst (λ (xs : List SlotState). Each (call.Connect address channels info word (Ok (name_of j s))) h (slice_set xs j (asking (host_basis h) j s (record { address = address; channels = channels; info = info; word = word })))) (sym same)
     (each-set (call.Connect address channels info word (Ok (name_of j s))) h j s (asking (host_basis h) j s (record { address = address; channels = channels; info = info; word = word })) (ap (λ (xs : List SlotState). slice_get xs j) (sym same) ∙ there)
-    (begins open'.0 open'.1 (asks address channels info word refl some at)) (λ i x. refl) (λ i other x p there held. idle _ (common_of h) i x p refl) (apart-begins (call.Connect address channels info word (Ok (name_of j s))) h j at))
+    (begins open'.0 open'.1 (asks address channels info word refl some at)) (λ i x. refl) (λ i other x p there held. idle _ (common_of h) i x p refl) (apart-begins (call.Connect address channels info word (Ok (name_of j s))) h j (seat-of (host_basis h) h.slots j at)))
 
 -- a datagram is read in one way
 append-same : (a b x y : List ℕ) → a ≡ b → a ++ x ≡ b ++ y → x ≡ y
@@ -130,32 +110,74 @@ heard-begins h from bytes commands header answer i read known s u (answers f2 b2
     let same : (header ≡ g) × (commands ≡ cs) = read-once b2 commands cs header g (subst (λ (b : List ℕ). IsRead b header commands) same-bytes read) read2 in
     absurd (known (ap (λ (x : Header). x.peer) same.0 ∙ stranger))
 
+-- ---- which offers get the seat of slot i
+abbrev receipt : Host → Addr → List ℕ → Received → Receipt
+receipt h from bytes answer = record { host = common_of h; from = from; bytes = bytes; answer = answer }
+
+abbrev GetsNoSeat : Host → Addr → List ℕ → Received → Header → List ℕ → ℕ → Type 0
+GetsNoSeat h from bytes answer header commands i = GetsSeat i (receipt h from bytes answer) header commands → ⊥
+
+-- none that is stopped
+stopped-seat : (h : Host) (from : Addr) (bytes : List ℕ) (why : Stop) (header : Header) (commands : List ℕ) (i : ℕ) → GetsNoSeat h from bytes (stopped why) header commands i
+stopped-seat h from bytes why header commands i g = absurd (let x : 0 ≡ 1 = ap (λ (r : Received). r.handled) g.answered in omega arith)
+
+-- none of a connection that is there
+known-seat : (h : Host) (from : Addr) (bytes commands : List ℕ) (answer : Received) (header : Header) (o : Offer) (i : ℕ) → IsOffer commands o → is_known h.slots from o ≡ true → GetsNoSeat h from bytes answer header commands i
+known-seat h from bytes commands answer header o i offer known g =
+    let one : o ≡ g.offer = offer-once commands o g.offer offer g.is in
+    absurd (let x : true ≡ false = sym known ∙ ap (λ (p : Offer). is_known h.slots from p) one ∙ g.new in cc)
+
+-- none for a peer
+heard-seat : (h : Host) (from : Addr) (bytes : List ℕ) (answer : Received) (header : Header) (commands : List ℕ) (i : ℕ) → header.peer ≢ no_peer → GetsNoSeat h from bytes answer header commands i
+heard-seat h from bytes answer header commands i known g = known g.stranger
+
+-- and another slot than that of the seat
+apart-seat : (h : Host) (from : Addr) (bytes : List ℕ) (answer : Received) (header : Header) (commands : List ℕ) (j i : ℕ) → seat (host_basis h) h.slots ≡ Some j → j ≢ i → GetsNoSeat h from bytes answer header commands i
+apart-seat h from bytes answer header commands j i at other g = other (let x : ◌≡◌ {A = Option ℕ} (Some j) (Some i) = sym at ∙ g.seat in cc)
+
 -- a datagram that reaches no peer
 unread : (h : Host) (from : Addr) (bytes : List ℕ) (answer : Received) (why : Stop) → IsUnreadable bytes why → (i : ℕ) → StaysAt (call.Receive from bytes answer) h i
 unread h from bytes answer why u i s p there held = idle (call.Receive from bytes answer) (common_of h) i s p (unreadable why u)
 
-away : (h : Host) (from : Addr) (bytes : List ℕ) (answer : Received) (header : Header) (commands : List ℕ) (i : ℕ) → IsRead bytes header commands → ((header.peer ≡ no_peer) ⊎ (header.peer ≢ i)) → StaysAt (call.Receive from bytes answer) h i
-away h from bytes answer header commands i read e s p there held = idle (call.Receive from bytes answer) (common_of h) i s p (elsewhere header commands read e)
+away : (h : Host) (from : Addr) (bytes : List ℕ) (answer : Received) (header : Header) (commands : List ℕ) (i : ℕ) → IsRead bytes header commands → ((header.peer ≡ no_peer) ⊎ (header.peer ≢ i)) → GetsNoSeat h from bytes answer header commands i
+    → StaysAt (call.Receive from bytes answer) h i
+away h from bytes answer header commands i read e none s p there held = idle (call.Receive from bytes answer) (common_of h) i s p (elsewhere header commands read e none)
 
 each-stopped : (h : Host) (from : Addr) (bytes : List ℕ) (why : Stop) (slots : List SlotState) → slots ≡ h.slots → ((i : ℕ) → StaysAt (call.Receive from bytes (stopped why)) h i) → Each (call.Receive from bytes (stopped why)) h slots
 each-stopped h from bytes why slots same stays = each-none (call.Receive from bytes (stopped why)) h slots (λ i s. refl) same stays (stopped-begins h from bytes why)
 
+-- an offer that is stopped
+away-stopped : (h : Host) (from : Addr) (bytes commands : List ℕ) (header : Header) (why : Stop) → IsRead bytes header commands → header.peer ≡ no_peer → (i : ℕ) → StaysAt (call.Receive from bytes (stopped why)) h i
+away-stopped h from bytes commands header why read e i = away h from bytes (stopped why) header commands i read (inl e) (stopped-seat h from bytes why header commands i)
+
+-- the slot of the seat, which is free or whose peer gives way
+seated : (h : Host) (from : Addr) (bytes commands : List ℕ) (header : Header) (o : Offer) (j : ℕ) (s : SlotState) → IsRead bytes header commands → header.peer ≡ no_peer → IsOffer commands o → offer_refused o ≡ None → is_known h.slots from o ≡ false
+    → seat (host_basis h) h.slots ≡ Some j → IsOpen h.config.generations s → Fares (call.Receive from bytes handled_one) (common_of h) j s (answering (host_basis h) j (readied s) from o)
+seated h from bytes commands header o j s read e offer r new at (holds_none none low) =
+    subst (λ (x : SlotState). Fares (call.Receive from bytes handled_one) (common_of h) j s (answering (host_basis h) j x from o)) (sym (readied-free s none))
+    (begins none low (answers from bytes commands header o refl read e offer r new at))
+seated h from bytes commands header o j s read e offer r new at (holds_waiting p held on low) =
+    subst (λ (x : SlotState). Fares (call.Receive from bytes handled_one) (common_of h) j s (answering (host_basis h) j x from o)) (sym (readied-waits s p held))
+    (takes_over p (freed p) (GiveWay ∷ []) held (gives_way header commands read (record { offer = o; stranger = e; is = offer; taken = r; new = new; seat = at; answered = refl })) (freed p, (on, refl), refl) refl
+    (freed-low h.config.generations s p low) (answers from bytes commands header o refl read e offer r new at))
+
 each-offered : (h : Host) (from : Addr) (bytes commands : List ℕ) (header : Header) (o : Offer) (answer : Received) (slots after : List SlotState) → slots ≡ h.slots → IsRead bytes header commands → header.peer ≡ no_peer → IsOffer commands o
     → Offers (record { basis = host_basis h; slots = slots }) from o answer after → Each (call.Receive from bytes answer) h after
-each-offered h from bytes commands header o answer slots after same read e offer (receiving.refused why r) = each-stopped h from bytes why slots same (λ i. away h from bytes (stopped why) header commands i read (inl e))
+each-offered h from bytes commands header o answer slots after same read e offer (receiving.refused why r) = each-stopped h from bytes why slots same (away-stopped h from bytes commands header why read e)
 each-offered h from bytes commands header o answer slots after same read e offer (receiving.repeated r k) =
-    each-none (call.Receive from bytes handled_one) h slots (λ i s. refl) same (λ i. away h from bytes handled_one header commands i read (inl e))
-    (λ i. known-begins h from bytes commands header o i read offer (ap (λ (xs : List SlotState). is_known xs from o) (sym same) ∙ k))
-each-offered h from bytes commands header o answer slots after same read e offer (receiving.no_slot r k n) = each-stopped h from bytes stop.NoSlot slots same (λ i. away h from bytes (stopped stop.NoSlot) header commands i read (inl e))
-each-offered h from bytes commands header o answer slots after same read e offer (receiving.no_memory j r k n) = each-stopped h from bytes stop.Memory slots same (λ i. away h from bytes (stopped stop.Memory) header commands i read (inl e))
-each-offered h from bytes commands header o answer slots after same read e offer (receiving.answers j s r k free there) =
-    let open' : (s.peer ≡ None) × (s.generation < h.config.generations) = is_open h.config slots j s free there in
-    let at : available h.config h.slots ≡ Some j = ap (λ (xs : List SlotState). available h.config xs) (sym same) ∙ free in
+    let known : is_known h.slots from o ≡ true = ap (λ (xs : List SlotState). is_known xs from o) (sym same) ∙ k in
+    each-none (call.Receive from bytes handled_one) h slots (λ i s. refl) same
+    (λ i. away h from bytes handled_one header commands i read (inl e) (known-seat h from bytes commands handled_one header o i offer known))
+    (λ i. known-begins h from bytes commands header o i read offer known)
+each-offered h from bytes commands header o answer slots after same read e offer (receiving.no_slot r k n) = each-stopped h from bytes stop.NoSlot slots same (away-stopped h from bytes commands header stop.NoSlot read e)
+each-offered h from bytes commands header o answer slots after same read e offer (receiving.no_memory j r k n) = each-stopped h from bytes stop.Memory slots same (away-stopped h from bytes commands header stop.Memory read e)
+each-offered h from bytes commands header o answer slots after same read e offer (receiving.answers j s r k found there) =
+    let at : seat (host_basis h) h.slots ≡ Some j = ap (λ (xs : List SlotState). seat (host_basis h) xs) (sym same) ∙ found in
+    let was : slice_get h.slots j ≡ Some s = ap (λ (xs : List SlotState). slice_get xs j) (sym same) ∙ there in
     let new : is_known h.slots from o ≡ false = ap (λ (xs : List SlotState). is_known xs from o) (sym same) ∙ k in
-    subst (λ (xs : List SlotState). Each (call.Receive from bytes handled_one) h (slice_set xs j (answering (host_basis h) j s from o))) (sym same)
-    (each-set (call.Receive from bytes handled_one) h j s (answering (host_basis h) j s from o) (ap (λ (xs : List SlotState). slice_get xs j) (sym same) ∙ there)
-    (begins open'.0 open'.1 (answers from bytes commands header o refl read e offer r new at)) (λ i x. refl) (λ i other. away h from bytes handled_one header commands i read (inl e))
-    (apart-begins (call.Receive from bytes handled_one) h j at))
+    subst (λ (xs : List SlotState). Each (call.Receive from bytes handled_one) h (slice_set xs j (answering (host_basis h) j (readied s) from o))) (sym same)
+    (each-set (call.Receive from bytes handled_one) h j s (answering (host_basis h) j (readied s) from o) was (seated h from bytes commands header o j s read e offer r new at (seat-open (host_basis h) h.slots j s at was)) (λ i x. refl)
+    (λ i other. away h from bytes handled_one header commands i read (inl e) (apart-seat h from bytes handled_one header commands j i at other)) (apart-begins (call.Receive from bytes handled_one) h j at))
 
 -- a datagram that the slot turns away
 turned : (h : Host) (from : Addr) (bytes commands : List ℕ) (header : Header) (why : Stop) → IsRead bytes header commands → header.peer ≢ no_peer → refused_by h.slots from header ≡ Some why → (i : ℕ) → StaysAt (call.Receive from bytes (stopped why)) h i
@@ -163,18 +185,49 @@ turned h from bytes commands header why read known refused i s p there held = id
   where
     by : (header.peer ≡ i) ⊎ (header.peer ≢ i) → Fell (common_of h) (record { number = i; slot = s; peer = p }) (call.Receive from bytes (stopped why)) []
     by (inl e) = turned_away header commands why read known e (ap (λ (o : Option SlotState). refused_by_slot from header.session o) (sym (ap (λ (k : ℕ). slice_get h.slots k) e ∙ there)) ∙ refused) refl
-    by (inr n) = elsewhere header commands read (inr n)
+    by (inr n) = elsewhere header commands read (inr n) (heard-seat h from bytes (stopped why) header commands i known)
+
+-- a peer that was refused is told again if the datagram tells a sent time
+reminded-alone : (sent : Option ℕ) (p q : Peering) → is_turned_away p ≡ true → q ≡ reminded sent p → AllAlone (deeds_if (is_some sent) TellAgain) p q
+reminded-alone None p q e is = sym is
+reminded-alone (Some time) p q e is = (q, (e, is), refl)
+
+-- the slot whose peer a datagram comes to: its commands are heard, or a refused peer is told again
+hears-in : (h : Host) (from : Addr) (bytes commands : List ℕ) (header : Header) (s t : SlotState) (reply : Received) → IsRead bytes header commands → header.peer ≢ no_peer → refused_by_slot from header.session (Some s) ≡ None
+    → PeerReceives (record { now = h.clock; sent = header.sent; full = refuses_at (listener_of h) s }) commands s reply t → Fares (call.Receive from bytes reply) (common_of h) header.peer s t
+hears-in h from bytes commands header s t reply read n taken hears = by (is_turned_away hears.peer) refl hears.heard
+  where
+    c : Call
+    c = call.Receive from bytes reply
+
+    a : Arrival
+    a = record { now = h.clock; sent = header.sent; full = refuses_at (listener_of h) s }
+
+    was : was_refused s ≡ is_turned_away hears.peer
+    was = ap was_refused_in hears.held
+
+    none : (u : SlotState) → Begins c (common_of h) header.peer (with_peer s hears.after) u → ⊥
+    none = heard-begins h from bytes commands header reply header.peer read n (with_peer s hears.after)
+
+    by : (b : Bool) → is_turned_away hears.peer ≡ b → HearsIf b a commands hears.peer reply hears.after → Fares c (common_of h) header.peer s t
+    by true e again =
+        goes_on hears.peer hears.after (deeds_if (is_some header.sent) TellAgain) hears.held (falling.told_again header commands read n refl taken (was ∙ e) again.0)
+        (reminded-alone header.sent hears.peer hears.after e again.1) (λ gone. none)
+        (hears.left ∙ counted-same s hears.after s.emitted refl)
+    by false e handles =
+        let x : Came a 0 commands hears.peer reply hears.after = came a 0 commands hears.peer reply hears.after handles in
+        goes_on hears.peer hears.after x.deeds hears.held (here header commands x.deeds read n refl taken (was ∙ e) x.falls) x.alone (λ gone. none) (hears.left ∙ counted-same s hears.after s.emitted refl)
 
 pub each-arrives : (h : Host) (from : Addr) (bytes : List ℕ) (answer : Received) (slots after : List SlotState) → slots ≡ h.slots → Arrives (record { basis = host_basis h; slots = slots }) from bytes answer after → Each (call.Receive from bytes answer) h after
 each-arrives h from bytes answer slots after same (receiving.unreadable why u) = each-stopped h from bytes why slots same (unread h from bytes (stopped why) why u)
-each-arrives h from bytes answer slots after same (receiving.no_offer header commands read e none) = each-stopped h from bytes stop.UnknownPeer slots same (λ i. away h from bytes (stopped stop.UnknownPeer) header commands i read (inl e))
+each-arrives h from bytes answer slots after same (receiving.no_offer header commands read e none) = each-stopped h from bytes stop.UnknownPeer slots same (away-stopped h from bytes commands header stop.UnknownPeer read e)
 each-arrives h from bytes answer slots after same (receiving.offered header commands o reply left read e offer comes) = each-offered h from bytes commands header o reply slots left same read e offer comes
 each-arrives h from bytes answer slots after same (receiving.turned_away header commands why read n refused) =
     each-stopped h from bytes why slots same (turned h from bytes commands header why read n (ap (λ (xs : List SlotState). refused_by xs from header) (sym same) ∙ refused))
 each-arrives h from bytes answer slots after same (receiving.heard header commands s t reply read n open' there hears) =
-    let x : Came h.clock header.sent 0 commands hears.peer reply hears.after = came h.clock header.sent 0 commands hears.peer reply hears.after hears.handled in
     let taken : refused_by_slot from header.session (Some s) ≡ None = ap (λ (o : Option SlotState). refused_by_slot from header.session o) (sym there) ∙ open' in
     subst (λ (xs : List SlotState). Each (call.Receive from bytes reply) h (slice_set xs header.peer t)) (sym same)
     (each-set (call.Receive from bytes reply) h header.peer s t (ap (λ (xs : List SlotState). slice_get xs header.peer) (sym same) ∙ there)
-    (goes_on hears.peer hears.after x.deeds hears.held (here header commands x.deeds read n refl taken x.falls) x.alone (hears.left ∙ counted-same s hears.after s.emitted refl))
-    (λ i y. refl) (λ i other. away h from bytes reply header commands i read (inr other)) (λ i other. heard-begins h from bytes commands header reply i read n))
+    (hears-in h from bytes commands header s t reply read n taken
+    (subst (λ (xs : List SlotState). PeerReceives (record { now = h.clock; sent = header.sent; full = refuses_at (record { basis = host_basis h; slots = xs }) s }) commands s reply t) same hears))
+    (λ i y. refl) (λ i other. away h from bytes reply header commands i read (inr other) (heard-seat h from bytes reply header commands i n)) (λ i other. heard-begins h from bytes commands header reply i read n))

@@ -10,7 +10,7 @@ use Rattle.enet_slot.specs.Slot.{SlotState, with_peer}
 use Rattle.enet_host.specs.Host.{Host, with_generation, slot_named}
 use Rattle.enet_slot.specs.Calls.{IsRefusedBy, kept, on_peer_in}
 use Rattle.enet_host.specs.Calls.{put_back, on_slot, on_named}
-use Rattle.enet_host.specs.Opening.{available}
+use Rattle.enet_host.specs.Opening.{host_basis, seat}
 use Rattle.law_network.specs.Calls.{Call}
 use Rattle.law_network.specs.Calls as call
 use Rattle.law_network.specs.Common.{Common, common_of}
@@ -19,6 +19,7 @@ use Rattle.law_network.specs.Falling.{Fell, Begins, asks, answers, counted, deed
 use Rattle.law_network.specs.IsolationLaw.{Stays, Fares, untouched, goes_on, having_emitted}
 use Rattle.law_network.proofs.Slots.{counted-same}
 use Rattle.law_network.proofs.Lists.{get-set, get-set_other, same-or}
+use Rattle.law_network.proofs.Seats.{seat-of}
 
 -- what a call makes of each slot, where the slots after it are these
 abbrev pub Each : Call → Host → List SlotState → Type 0
@@ -50,15 +51,15 @@ pub begins-not : (c : Call) (h : Host) (i : ℕ) → may_begin c ≡ false → B
 begins-not c h i e s u (asks address channels info word is some at) = absurd (let x : false ≡ true = sym e ∙ ap may_begin is in cc)
 begins-not c h i e s u (answers from bytes commands header o is read stranger offer taken new at) = absurd (let x : false ≡ true = sym e ∙ ap may_begin is in cc)
 
--- a connection begins in the lowest available slot
-pub begins-at : (c : Call) (h : Host) (i : ℕ) (s u : SlotState) → Begins c (common_of h) i s u → available h.config h.slots ≡ Some i
-begins-at c h i s u (asks address channels info word is some at) = at
+-- a connection begins in the slot that an offer would get
+pub begins-at : (c : Call) (h : Host) (i : ℕ) (s u : SlotState) → Begins c (common_of h) i s u → seat (host_basis h) h.slots ≡ Some i
+begins-at c h i s u (asks address channels info word is some at) = seat-of (host_basis h) h.slots i at
 begins-at c h i s u (answers from bytes commands header o is read stranger offer taken new at) = at
 
 -- a call that changes no slot
 pub each-none : (c : Call) (h : Host) (after : List SlotState) → IsQuiet c h → after ≡ h.slots → ((i : ℕ) → StaysAt c h i) → ((i : ℕ) → BeginsNot c h i) → Each c h after
 each-none c h after quiet same stays not' i s e =
-    (s, ap (λ (xs : List SlotState). slice_get xs i) same ∙ e, untouched (λ p g. stays i s p e g) (not' i s) (ap (λ (n : ℕ). having_emitted s n) (sym (quiet i s))))
+    (s, ap (λ (xs : List SlotState). slice_get xs i) same ∙ e, untouched (λ p g. stays i s p e g) (λ none. not' i s) (ap (λ (n : ℕ). having_emitted s n) (sym (quiet i s))))
 
 -- a call that changed the slot j alone
 pub each-set : (c : Call) (h : Host) (j : ℕ) (old new : SlotState) → slice_get h.slots j ≡ Some old → Fares c (common_of h) j old new → IsQuiet c h
@@ -73,7 +74,7 @@ each-set c h j old new there fares quiet stays not' i s e = by (same-or j i)
           subst (λ (k : ℕ). Fares c (common_of h) k s new) here (subst (λ (x : SlotState). Fares c (common_of h) j x new) same fares),
         )
     by (inr other) =
-        (s, get-set_other h.slots j i new other ∙ e, untouched (λ p g. stays i other s p e g) (not' i other s) (ap (λ (n : ℕ). having_emitted s n) (sym (quiet i s))))
+        (s, get-set_other h.slots j i new other ∙ e, untouched (λ p g. stays i other s p e g) (λ none. not' i other s) (ap (λ (n : ℕ). having_emitted s n) (sym (quiet i s))))
 
 -- what a call on a name that isn't refused did
 pub record Does (slots : List SlotState) (name : PeerRef) (call : Peering → Result Peering Refusal) (after : List SlotState) : Type 0 where
@@ -133,6 +134,7 @@ each-named c h name call d after e alone fell quiet later =
     subst (λ (xs : List SlotState). Each c h xs) (sym x.set)
     (each-set c h name.slot x.slot (with_peer x.slot x.left) x.there
     (goes_on x.peer x.left (d ∷ []) x.held (fell name.slot x.slot x.peer (d ∷ []) (sym (ap (λ (b : Bool). deeds_if b d) (meant-here name x.slot x.same)))) (x.left, alone x.peer x.left x.outcome, refl)
+    (λ gone. begins-not c h name.slot later (with_peer x.slot x.left))
     (counted-same x.slot x.left (counted c (common_of h) name.slot x.slot) (quiet name.slot x.slot)))
     quiet
     (λ i other s p there held. idle c (common_of h) i s p (fell i s p [] (sym (ap (λ (b : Bool). deeds_if b d) (meant-elsewhere name i s other)))))

@@ -15,9 +15,11 @@ use Rattle.enet_peer.specs.CommandEffect.{obeyed}
 use Rattle.enet_peer.specs.Calls.{is_connected, submission_refusal, submitted, pace_of, gone_on, moved, next_event}
 use Rattle.law_connection.specs.Connection.{End}
 use Rattle.law_connection.specs.Invariant.{is_young}
-use Rattle.law_connection.specs.Steps.{Event, Answer, Submit, Emit, Come, Tick, Take, Disconnect, Set, Happens, with_setting}
+use Rattle.law_connection.specs.Steps.{Event, Answer, Submit, Emit, Come, Tick, Take, Disconnect, Set, Happens, with_setting, GiveWay, TellAgain}
 use Rattle.law_connection.proofs.Events.{accepted, took}
-use Rattle.law_connection.proofs.PeerChanges.{Core, Changes, kept-moved, kept-left, kept-set, kept-emitted, kept-obeyed}
+use Rattle.enet_peer.specs.Endings.{freed}
+use Rattle.enet_peer.specs.Refusing.{heeded, told_again}
+use Rattle.law_connection.proofs.PeerChanges.{Core, Changes, kept-moved, kept-left, kept-set, kept-emitted, kept-given_way, kept-heeded, kept-told_again}
 use Rattle.law_network.specs.Shown.{RunsAt, GoesBy}
 
 -- a peer whose connection has begun to stand, with this mtu
@@ -40,6 +42,7 @@ steadies m = record {
   welcomes = λ p v terms e big word h. absurd (let y : true ≡ false = sym (ap is_young e) ∙ h.old in cc);
   acknowledges = λ p j number here h. record { old = h.old; same = h.same };
   marks = λ p tick h. record { old = h.old; same = h.same };
+  refuses = λ p at h. record { old = h.old; same = h.same };
   holds_back = λ p tick at h. record { old = h.old; same = h.same };
   gives_way = λ p on h. record { old = h.old; same = h.same };
   takes = λ p j r c on there h. record { old = h.old; same = h.same };
@@ -85,11 +88,13 @@ steady-happens m own far new (Submit q) s x =
 steady-happens m own far new (Emit now) s x =
     (gone_on (record x.0 { outbox = (filled (pace_of x.0 now) x.0.outbox).outbox }), ap (λ (z : End). z.peer) x.2, kept-emitted (IsSteady m) (steadies m) x.0 now (steady-peer m own x.0 x.1 s))
 steady-happens m own far new (Come put now sent) s x =
-    ((obeyed x.0 now sent put.message).after, ap (λ (z : End). z.peer) x.3, kept-obeyed (IsSteady m) (steadies m) x.0 put.message.head now sent put.message.body (steady-peer m own x.0 x.1 s))
+    ((heeded x.3 x.0 now sent put.message).after, ap (λ (z : End). z.peer) x.4, kept-heeded (IsSteady m) (steadies m) x.3 x.0 put.message.head now sent put.message.body (steady-peer m own x.0 x.1 s))
 steady-happens m own far new (Tick now) s x = (moved x.2 x.0 now, ap (λ (z : End). z.peer) x.3, kept-moved (IsSteady m) (steadies m) x.2 x.0 now (steady-peer m own x.0 x.1 s))
 steady-happens m own far new Take s x = (x.1, ap (λ (z : End). z.peer) x.5, steady-took m x.0 x.1 x.2 x.4 (steady-peer m own x.0 x.3 s))
 steady-happens m own far new (Disconnect way info) s x = (x.1, ap (λ (z : End). z.peer) x.4, kept-left (IsSteady m) (steadies m) x.0 x.1 way info x.3 (steady-peer m own x.0 x.2 s))
 steady-happens m own far new (Set setting) s x = (with_setting setting x.0, ap (λ (z : End). z.peer) x.3, kept-set (IsSteady m) (steadies m) x.0 setting x.2 (steady-peer m own x.0 x.1 s))
+steady-happens m own far new GiveWay s x = (freed x.0, ap (λ (z : End). z.peer) x.3, kept-given_way (IsSteady m) (steadies m) x.0 (steady-peer m own x.0 x.1 s))
+steady-happens m own far new TellAgain s x = (told_again x.0, ap (λ (z : End). z.peer) x.3, kept-told_again (IsSteady m) (steadies m) x.0 x.2 (steady-peer m own x.0 x.1 s))
 
 steady-runs : (m : ℕ) (es : List Event) (own far new : End) → RunsAt es own far new → SteadyEnd m own → SteadyEnd m new
 steady-runs m [] own far new r s = subst (SteadyEnd m) r s

@@ -1,5 +1,5 @@
 -- Which events a turn, a datagram that is brought, a tick and a take are to an end.
-use Rattle.std.proofs.Common.{◌≡◌, ◌≢◌, ◌≤◌, ◌<◌, ℕ, ◌⊎◌, ◌&&◌, inl, inr, Bool, true, false, cond, List, [], ◌∷◌, ◌++◌, refl, sym, ap, subst, ◌∙◌, append-nil, arith, length, Option, Some, None, Ok, slice_get, slice_set}
+use Rattle.std.proofs.Common.{◌≡◌, ◌≢◌, ◌≤◌, ◌<◌, ℕ, ◌⊎◌, ◌&&◌, inl, inr, Bool, true, false, not, cond, List, [], ◌∷◌, ◌++◌, refl, sym, ap, subst, ◌∙◌, append-nil, arith, length, Option, Some, None, Ok, slice_get, slice_set}
 use Rattle.std.proofs.lemmas.Option.{slice_get_within}
 use Rattle.enet_codec.specs.declared.address.Addr.{Addr}
 use Rattle.enet_codec.specs.declared.event.Event.{Event as Told}
@@ -11,23 +11,28 @@ use Rattle.enet_codec.specs.declared.stop.Stop.TheVariants as stop
 use Rattle.enet_codec.specs.Message.{Message}
 use Rattle.enet_peer.specs.declared.parts.PeerState.TheVariants as state
 use Rattle.enet_peer.specs.Peering.{Peering}
-use Rattle.enet_peer.specs.CommandEffect.{obeyed}
 use Rattle.enet_peer.specs.Calls as peers
-use Rattle.enet_peer.specs.Calls.{is_connected}
-use Rattle.enet_peer.specs.Handling.{HandlesEach, Handles, one_more}
+use Rattle.enet_peer.specs.Calls.{is_answering, is_connected}
+use Rattle.enet_peer.specs.Endings.{freed}
+use Rattle.enet_peer.specs.Handling.{Arrival, HandlesEach, Handles, HearsIf, one_more}
 use Rattle.enet_peer.specs.Heading.{IsRead}
+use Rattle.enet_peer.specs.Refusing.{heeded, is_turned_away}
 use Rattle.enet_peer.proofs.Each.{handles-each}
+use Rattle.enet_peer.proofs.Refusals.{heeded-obeyed}
+use Rattle.enet_peer.specs.CommandEffect.{Outcome}
 use Rattle.law_connection.specs.LinkSteps.{Has}
 use Rattle.law_connection.proofs.Lists.{Has-slice_get}
+use Rattle.law_connection.proofs.PeerChanges.{Core, Changes, kept-heeded}
 use Rattle.law_connection.specs.Connection.{Put, End, messages_of}
 use Rattle.law_connection.specs.Steps.{Event, Happens, InTime, with_peer, with_messages, with_emission}
 use Rattle.law_connection.specs.Steps as event
+use Rattle.enet_slot.specs.Entering.{awaits, awaits_in}
 use Rattle.enet_slot.specs.Receiving.{no_peer, refused_by_slot, stopped, PeerReceives}
 use Rattle.enet_slot.specs.Slot.{SlotState, name_of, greatest}
 use Rattle.enet_slot.specs.Emitting.{HasNothing, passes_by, Passes}
 use Rattle.enet_slot.specs.Sharing.{limit_for}
-use Rattle.enet_host.specs.Opening.{host_basis}
-use Rattle.enet_host.specs.Receiving.{Arrives}
+use Rattle.enet_host.specs.Opening.{host_basis, seat}
+use Rattle.enet_host.specs.Receiving.{Arrives, is_full, listener_of, refuses_at}
 use Rattle.enet_host.specs.Receiving as receiving
 use Rattle.enet_host.specs.Serving.{served_of, AllPass}
 use Rattle.enet_host.specs.Ticking.{clock_after}
@@ -41,8 +46,8 @@ use Rattle.law_network.specs.Log.{Logged, greatest_at}
 use Rattle.law_network.specs.Network.{HostEnd, Site, is_same_name, with_end, numbers_in, numbers_of, is_earlier, is_late}
 use Rattle.law_network.specs.Shown.{Shows, ShowsPeer, RunsAt}
 use Rattle.law_network.specs.Steps.{Logs, LogsIf, Brought, after_event, with_event, begun}
-use Rattle.law_network.specs.Telling.{IsShownAs, HasNothingNew, IsPassedBy, Gave, AllObeyed, Ticks, Turns, Rests, Brings, PassesOver, Times, TakesOne}
-use Rattle.law_network.proofs.Delivering.{IsHeard, in-time, later, heard-peer, end-there, received-by, same-connection, heard-at-address}
+use Rattle.law_network.specs.Telling.{IsShownAs, HasNothingNew, IsPassedBy, Gave, AllHeeded, Ticks, Turns, Rests, Brings, GoesTo, PassesOver, Times, TakesOne}
+use Rattle.law_network.proofs.Delivering.{IsHeard, arrival, in-time, later, heard-peer, end-there, received-by, same-connection, heard-at-address}
 use Rattle.law_network.proofs.Lists.{get-set, get-within}
 use Rattle.law_network.proofs.Marked.{behind}
 use Rattle.law_network.proofs.Matching.{was-set}
@@ -143,24 +148,67 @@ rests w from old new buf x e own far at live = by (there-or old.host e.name k.pe
         seen-same (λ end. Happens own far (event.Emit old.host.clock) end × (end.log ≡ own.log) × (new.log ≡ old.log)) new e old.ends (ap (λ (z : Site). z.ends) x.1) at.there (s.0, s.1, (s.2.0, s.2.1, same))
 
 -- ---- a datagram is brought
-all-obeyed : (now : ℕ) (sent : Option ℕ) (ps : List Put) (handled : ℕ) (p : Peering) (answer : Received) (q : Peering) (own far : End) → own.peer ≡ Some p → ((x : Put) → Has ps x → InTime own far x)
-    → HandlesEach (record { now = now; sent = sent }) (record { handled = handled; peer = p }) (messages_of ps) answer q → answer.stop ≡ None → AllObeyed now sent ps own far (with_peer own q)
-all-obeyed now sent [] handled p answer q own far is times h none = ap (with_peer own) h.1 ∙ sym (same-peer own p is)
-all-obeyed now sent (x ∷ ps) handled p answer q own far is times (inl s) none = absurd (let z : ◌≡◌ {A = Option Stop} (Some s.0) None = sym (ap (λ (r : Received). r.stop) s.2) ∙ none in cc)
-all-obeyed now sent (x ∷ ps) handled p answer q own far is times (inr g) none = (
+all-heeded : (a : Arrival) (ps : List Put) (handled : ℕ) (p : Peering) (answer : Received) (q : Peering) (own far : End) → own.peer ≡ Some p → ((x : Put) → Has ps x → InTime own far x)
+    → HandlesEach a (record { handled = handled; peer = p }) (messages_of ps) answer q → answer.stop ≡ None → AllHeeded a.full a.now a.sent ps own far (with_peer own q)
+all-heeded a [] handled p answer q own far is times h none = ap (with_peer own) h.1 ∙ sym (same-peer own p is)
+all-heeded a (x ∷ ps) handled p answer q own far is times (inl s) none = absurd (let z : ◌≡◌ {A = Option Stop} (Some s.0) None = sym (ap (λ (r : Received). r.stop) s.2) ∙ none in cc)
+all-heeded a (x ∷ ps) handled p answer q own far is times (inr g) none = (
   p,
   is,
   times x (inl refl),
   g.1.0,
-  subst (λ (y : Peering). AllObeyed now sent ps (with_peer own y) far (with_peer own q)) g.1.1
-      (all-obeyed now sent ps (one_more handled) g.0 answer q (with_peer own g.0) far refl (λ y h. later own far g.0 y (times y (inr h))) g.2 none),
+  subst (λ (y : Peering). AllHeeded a.full a.now a.sent ps (with_peer own y) far (with_peer own q)) g.1.1
+      (all-heeded a ps (one_more handled) g.0 answer q (with_peer own g.0) far refl (λ y h. later own far g.0 y (times y (inr h))) g.2 none),
 )
 
-obeyed-runs : (now : ℕ) (sent : Option ℕ) (ps : List Put) (own far new : End) → AllObeyed now sent ps own far new → (es : List Event) × RunsAt es own far new
-obeyed-runs now sent [] own far new a = ([], sym a)
-obeyed-runs now sent (x ∷ ps) own far new a =
-    let b : End = with_peer own (obeyed a.0 now sent x.message).after in
-    let rest = obeyed-runs now sent ps b far new a.4 in (event.Come x now sent ∷ rest.0, (b, (a.0, a.1, a.2, refl), rest.1))
+heeded-runs : (full : Bool) (now : ℕ) (sent : Option ℕ) (ps : List Put) (own far new : End) → AllHeeded full now sent ps own far new → (es : List Event) × RunsAt es own far new
+heeded-runs full now sent [] own far new a = ([], sym a)
+heeded-runs full now sent (x ∷ ps) own far new a =
+    let b : End = with_peer own (heeded full a.0 now sent x.message).after in
+    let rest = heeded-runs full now sent ps b far new a.4 in (event.Come x now sent ∷ rest.0, (b, (a.0, a.1, a.2, full, refl), rest.1))
+
+-- a peer that doesn't wait for its client never does again
+abbrev IsAway : Peering → Type 0
+IsAway p = is_answering p.state ≡ false
+
+aways : Changes IsAway
+aways = record {
+  quiet = λ p q same h. ap (λ (c : Core). is_answering c.state) same ∙ h;
+  controls = λ p what none on h. h;
+  ends = λ p info none h. refl;
+  cuts = λ p now gone over h. refl;
+  frees = λ p h. refl;
+  parts = λ p info h. refl;
+  disconnects = λ p info on h. refl;
+  answers = λ p info on h. refl;
+  waits = λ p info on h. refl;
+  greets = λ p at h. refl;
+  welcomes = λ p v terms at many same h. refl;
+  acknowledges = λ p channel number none h. h;
+  marks = λ p tick h. h;
+  holds_back = λ p tick at h. h;
+  refuses = λ p at h. h;
+  gives_way = λ p on h. h;
+  takes = λ p channel r c on at h. h;
+  takes_unsequenced = λ p channel group payload on h. h;
+  puts_control = λ p now timeout n next h. h;
+  puts_data = λ p k occasion s n at next h. h;
+  drops_data = λ p k occasion s n at next h. h;
+}
+
+-- to such a peer it is all one whether its host is full
+heeded-anyway : (was full : Bool) (now : ℕ) (sent : Option ℕ) (ps : List Put) (own far new : End) (p : Peering) → own.peer ≡ Some p → IsAway p → AllHeeded was now sent ps own far new → AllHeeded full now sent ps own far new
+heeded-anyway was full now sent [] own far new p is none a = a
+heeded-anyway was full now sent (x ∷ ps) own far new p is none a =
+    let away : IsAway a.0 = subst IsAway (same-some p a.0 (sym is ∙ a.1)) none in
+    let same : heeded was a.0 now sent x.message ≡ heeded full a.0 now sent x.message =
+    heeded-obeyed was a.0 now sent x.message away ∙ sym (heeded-obeyed full a.0 now sent x.message away) in
+    let more : AllHeeded full now sent ps (with_peer own (heeded was a.0 now sent x.message).after) far new =
+    heeded-anyway was full now sent ps (with_peer own (heeded was a.0 now sent x.message).after) far new (heeded was a.0 now sent x.message).after refl
+    (kept-heeded IsAway aways was a.0 x.message.head now sent x.message.body away) a.4 in
+    let rest : ((heeded full a.0 now sent x.message).stop ≡ None) × AllHeeded full now sent ps (with_peer own (heeded full a.0 now sent x.message).after) far new =
+    subst (λ (o : Outcome). (o.stop ≡ None) × AllHeeded full now sent ps (with_peer own o.after) far new) same (a.3, more) in
+    (a.0, a.1, a.2, rest.0, rest.1)
 
 stopped-not : (why : Stop) (answer : Received) → stopped why ≡ answer → answer.stop ≡ None → ⊥
 stopped-not why answer e none = let z : ◌≡◌ {A = Option Stop} (Some why) None = ap (λ (r : Received). r.stop) e ∙ none in cc
@@ -191,7 +239,9 @@ heard-so from text answer old new e p acts x named' some none = by old.host.slot
           taken = ap (λ (o : Option SlotState). refused_by_slot from header.session o) (sym there) ∙ open';
           was = ap (λ (l : ℕ). slice_get old.host.slots l) (sym here) ∙ old-there;
           there = x;
-          hears = subst (λ (r : Received). PeerReceives (record { now = old.host.clock; sent = header.sent }) commands s r t) as-said hears;
+          hears =
+              subst (λ (r : Received). PeerReceives (arrival old.host header s) commands s r t) as-said
+              (subst (λ (xs : List SlotState). PeerReceives (record { now = old.host.clock; sent = header.sent; full = refuses_at (record { basis = host_basis old.host; slots = xs }) s }) commands s reply t) was hears);
           is = ap (λ (xs : List SlotState). slice_get xs e.name.slot) set ∙ ap (λ (l : ℕ). slice_get (slice_set old.host.slots header.peer t) l) (sym here) ∙ get-set old.host.slots header.peer s t old-there;
         }
 
@@ -204,8 +254,11 @@ brought-ends R from old new d answer e b h s = seen-same R new e (old.ends ++ be
 pub brings : Brings
 brings i answer d from old new x sent named' e own far at shown live l of slot some none = brought-ends R from old new d answer e x.1 at.there (by (there-or old.host e.name k.peer k.shows))
   where
+    full : Bool
+    full = is_full (listener_of old.host)
+
     R : End → Type 0
-    R end = AllObeyed old.host.clock l.header.sent l.puts own far end
+    R end = AllHeeded full old.host.clock l.header.sent l.puts own far end
 
     k : Shows old e own
     k = at.shows
@@ -220,19 +273,42 @@ brings i answer d from old new x sent named' e own far at shown live l of slot s
     not-late = subst (λ (ns : List ℕ). has_late (greatest_at (numbers_of from e.connection)) (greatest_at ns) d.marks ≡ false) numbers
         (subst (λ (c : ℕ). has_late (greatest_at (numbers_of from c)) (greatest_at (numbers_of old c)) d.marks ≡ false) of passed.1)
 
+    -- a refused peer stops the datagram
+    handled : (a : Arrival) (commands : List ℕ) (q after : Peering) (b : Bool) → HearsIf b a commands q answer after → Handles a (record { handled = 0; peer = q }) commands answer after
+    handled a commands q after true again = absurd (stopped-not stop.NotConnected answer (sym again.0) none)
+    handled a commands q after false handles = handles
+
+    -- whether the host is full matters to a peer that waits for its client alone
+    exactly : (h : IsHeard from.address d.text answer old new e k.peer) → h.hears.peer ≡ k.peer → (end : End) → AllHeeded (arrival old.host h.header h.slot).full old.host.clock l.header.sent l.puts own far end → R end
+    exactly h p end all = by (is_answering h.hears.peer.state) h.hears.peer.refused refl refl
+      where
+        a : Arrival
+        a = arrival old.host h.header h.slot
+
+        by : (waits away : Bool) → is_answering h.hears.peer.state ≡ waits → h.hears.peer.refused ≡ away → R end
+        by false away idle is = heeded-anyway a.full full old.host.clock l.header.sent l.puts own far end h.hears.peer (k.has ∙ ap (λ (y : Peering). Some y) (sym p)) idle all
+        by true false on is =
+            let waits : awaits h.slot ≡ true = ap awaits_in h.hears.held ∙ ap (λ (b : Bool). b && not h.hears.peer.refused) on ∙ ap (λ (b : Bool). not b) is in
+            subst (λ (b : Bool). AllHeeded b old.host.clock l.header.sent l.puts own far end) (ap (λ (b : Bool). b && full) waits) all
+        by true true on is =
+            let gone : is_turned_away h.hears.peer ≡ true = ap (λ (b : Bool). b && h.hears.peer.refused) on ∙ is in
+            let again : HearsIf true a h.commands h.hears.peer answer h.hears.after = subst (λ (b : Bool). HearsIf b a h.commands h.hears.peer answer h.hears.after) gone h.hears.heard in
+            absurd (stopped-not stop.NotConnected answer (sym again.0) none)
+
     heard : (h : IsHeard from.address d.text answer old new e k.peer) → Seen R new e
     heard h =
         let p : h.hears.peer ≡ k.peer = same-some h.hears.peer k.peer (sym h.hears.held ∙ ap (λ (y : SlotState). y.peer) (same-some h.slot h.there.slot (sym h.was ∙ h.there.there)) ∙ h.there.peer) in
         let same : h.header.sent ≡ l.header.sent = ap (λ (y : Header). y.sent) (same-header d.text h.header l.header h.commands (messages_of l.puts) h.read l.spelled) in
-        let all : AllObeyed old.host.clock h.header.sent l.puts own far (with_peer own h.hears.after) = all-obeyed old.host.clock h.header.sent l.puts 0 k.peer answer h.hears.after own far k.has
+        let a : Arrival = arrival old.host h.header h.slot in
+        let all : AllHeeded a.full old.host.clock h.header.sent l.puts own far (with_peer own h.hears.after) = all-heeded a l.puts 0 k.peer answer h.hears.after own far k.has
         (in-time (numbers_of from e.connection) e.greatest own far d l shown.greatest k.greatest not-late)
-        (handles-each (record { now = old.host.clock; sent = h.header.sent }) (record { handled = 0; peer = k.peer }) h.commands (messages_of l.puts) answer h.hears.after (behind d.text l.header h.header h.read.front h.commands (messages_of l.puts) h.read.split h.read.spelled l.spelled)
-        (subst (λ (y : Peering). Handles (record { now = old.host.clock; sent = h.header.sent }) (record { handled = 0; peer = y }) h.commands answer h.hears.after) p h.hears.handled)) none in
-        let run = obeyed-runs old.host.clock h.header.sent l.puts own far (with_peer own h.hears.after) all in (
+        (handles-each a (record { handled = 0; peer = k.peer }) h.commands (messages_of l.puts) answer h.hears.after (behind d.text l.header h.header h.read.front h.commands (messages_of l.puts) h.read.split h.read.spelled l.spelled)
+        (subst (λ (y : Peering). Handles a (record { handled = 0; peer = y }) h.commands answer h.hears.after) p (handled a h.commands h.hears.peer h.hears.after (is_turned_away h.hears.peer) h.hears.heard))) none in
+        let run = heeded-runs a.full old.host.clock h.header.sent l.puts own far (with_peer own h.hears.after) all in (
           with_peer own h.hears.after,
           shows-with old new e own far h.hears.after run.0 run.1 (brought-log from old new d answer e.connection x.1) k
               (heard-peer (call.Receive from.address d.text answer) old new e k.peer h.hears.after at.few x.1.0 h.slot h.after h.was h.there h.hears.left h.is),
-          subst (λ (o : Option ℕ). AllObeyed old.host.clock o l.puts own far (with_peer own h.hears.after)) same all,
+          exactly h p (with_peer own h.hears.after) (subst (λ (o : Option ℕ). AllHeeded a.full old.host.clock o l.puts own far (with_peer own h.hears.after)) same all),
         )
 
     by : ((k.peer.state ≢ state.Free) × IsThere old.host.slots e.name k.peer) ⊎ ((k.peer.state ≡ state.Free) × IsSpent old.host e.name) → Seen R new e
@@ -241,11 +317,27 @@ brings i answer d from old new x sent named' e own far at shown live l of slot s
         heard (heard-so from.address d.text answer old new e k.peer x.1.0 lives.1 (λ g commands r. sym (named' d (Has-slice_get from.log i d sent) g commands r) ∙ slot) (λ z. some (slot ∙ z)) none)
 
 pub passes-over : PassesOver
-passes-over i answer d from old new x sent named' e own far at shown apart =
-    brought-ends (λ end. end ≡ own) from old new d answer e x.1 at.there
-    (received-by (Seen (λ end. end ≡ own) new e) from.address d.text answer old new e own at.few x.1.0 at.shows (λ shows. still old new e own far at.shows (brought-log from old new d answer e.connection x.1) shows) heard)
+passes-over i answer d from old new x sent named' e own far at shown apart = brought-ends R from old new d answer e x.1 at.there (received-by (Seen R new e) from.address d.text answer old new e own at.few x.1.0 at.shows quiet let-go heard)
   where
-    heard : IsHeard from.address d.text answer old new e at.shows.peer → Seen (λ end. end ≡ own) new e
+    R : End → Type 0
+    R end = (end ≡ own) ⊎ GoesTo old e d own far end
+
+    same : KeepsLog old new e.connection
+    same = brought-log from old new d answer e.connection x.1
+
+    quiet : ShowsPeer new.host e.name at.shows.peer → Seen R new e
+    quiet shows = let s = still old new e own far at.shows same shows in (s.0, s.1, inl s.2)
+
+    let-go : (header : Header) (commands : List ℕ) → IsRead d.text header commands → header.peer ≡ no_peer → seat (host_basis old.host) old.host.slots ≡ Some e.name.slot → is_answering at.shows.peer.state ≡ true
+        → ShowsPeer new.host e.name (freed at.shows.peer) → Seen R new e
+    let-go header commands read stranger seats on shows =
+        let one : Happens own far event.GiveWay (with_peer own (freed at.shows.peer)) = (at.shows.peer, at.shows.has, on, refl) in (
+          with_peer own (freed at.shows.peer),
+          shows-with old new e own far (freed at.shows.peer) (event.GiveWay ∷ []) (with_peer own (freed at.shows.peer), one, refl) same at.shows shows,
+          inr (named' d (Has-slice_get from.log i d sent) header commands read ∙ stranger, seats, one),
+        )
+
+    heard : IsHeard from.address d.text answer old new e at.shows.peer → Seen R new e
     heard h =
         let passed = in-none (is_earlier old from.address d) (is_late from old d) x.0 in
         let named : d.peer ≡ h.header.peer = named' d (Has-slice_get from.log i d sent) h.header h.commands h.read in

@@ -30,10 +30,10 @@ each-changed c h f d alone fell quiet later i s e = (changed f s, get-map (chang
   where
     by : (o : Option Peering) → s.peer ≡ o → Fares c (common_of h) i s (changed f s)
     by None g =
-        untouched (λ p k. absurd (let x : ◌≡◌ {A = Option Peering} None (Some p) = sym g ∙ k in cc)) (begins-not c h i later s)
+        untouched (λ p k. absurd (let x : ◌≡◌ {A = Option Peering} None (Some p) = sym g ∙ k in cc)) (λ none. begins-not c h i later s)
         (ap (λ (o : Option Peering). with_changed f s o) g ∙ ap (λ (n : ℕ). having_emitted s n) (sym (quiet i s)))
     by (Some p) g =
-        goes_on p (f p) (d ∷ []) g (fell i s p) (f p, alone p, refl)
+        goes_on p (f p) (d ∷ []) g (fell i s p) (f p, alone p, refl) (λ gone. begins-not c h i later (with_peer s (f p)))
         (ap (λ (o : Option Peering). with_changed f s o) g ∙ counted-same s (f p) (counted c (common_of h) i s) (quiet i s))
 
 -- the sharing out of bandwidth at a slot whose peer a tick left so
@@ -120,9 +120,9 @@ each-ticked h ms i s e = (t s, slots-if (is_due timed) (shared outgoing standing
 
     by : (o : Option Peering) → s.peer ≡ o → Fares (call.Tick ms) (common_of h) i s (t s)
     by None g =
-        untouched (λ p k. absurd (let x : ◌≡◌ {A = Option Peering} None (Some p) = sym g ∙ k in cc)) (begins-not (call.Tick ms) h i refl s)
+        untouched (λ p k. absurd (let x : ◌≡◌ {A = Option Peering} None (Some p) = sym g ∙ k in cc)) (λ none. begins-not (call.Tick ms) h i refl s)
         (ap (λ (o : Option Peering). cond (is_due timed) (shared outgoing standing (with_changed tick s o)) (with_changed tick s o)) g ∙ none-if (is_due timed) g)
     by (Some p) g =
         let x : Shares outgoing standing (is_due timed) s (tick p) = shares outgoing standing (is_due timed) s (tick p) in
-        goes_on p x.after (Tick now short ∷ share_of (common_of h) now s.emitted (tick p)) g refl (tick p, refl, x.alone)
+        goes_on p x.after (Tick now short ∷ share_of (common_of h) now s.emitted (tick p)) g refl (tick p, refl, x.alone) (λ gone. begins-not (call.Tick ms) h i refl (with_peer s x.after))
         (ap (λ (o : Option Peering). cond (is_due timed) (shared outgoing standing (with_changed tick s o)) (with_changed tick s o)) g ∙ x.left)

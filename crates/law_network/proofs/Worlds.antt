@@ -18,15 +18,16 @@ use Rattle.law_connection.proofs.Runs.{reached-none}
 use Rattle.law_connection.proofs.Words.{IsWord, word-happens}
 use Rattle.law_unsequenced.proofs.Laws.{Kept as KeptBetween, kept-at as kept-event}
 use Rattle.enet_slot.specs.Slot.{SlotState, name_of, greatest}
+use Rattle.enet_slot.specs.Yielding.{readied}
 use Rattle.enet_host.specs.Host.{Host}
-use Rattle.enet_host.specs.Opening.{host_basis, Connects, no_channel, no_slot, no_memory, asks}
+use Rattle.enet_host.specs.Opening.{host_basis, seat, Connects, no_channel, no_slot, no_memory, asks}
 use Rattle.enet_host.specs.Serving.{served_of}
 use Rattle.law_network.specs.Calls.{Call, Acts}
 use Rattle.law_network.specs.Calls as call
 use Rattle.law_network.proofs.Lists.{same-or}
 use Rattle.law_network.proofs.Names.{IsThere, IsSpent, same-generations, begun-generation}
-use Rattle.law_network.proofs.OneCall.{one-call}
-use Rattle.law_network.proofs.Receiving.{is_open}
+use Rattle.law_network.proofs.Guests.{guest}
+use Rattle.law_network.proofs.Seats.{IsOpen, is_open, readied-low, readied-new, seat-open}
 use Rattle.law_network.specs.IsolationLaw as isolation
 use Rattle.law_network.specs.Common.{common_of}
 use Rattle.law_network.specs.Law.{AreNamed, HasNothingOf, GoesOn, IsElsewhere, IsBetween, Faces, Begins, ShowsAt}
@@ -34,7 +35,7 @@ use Rattle.law_network.specs.Log.{Logged, greatest_at}
 use Rattle.law_network.specs.Network.{HostEnd, Site, fresh_end, end_of, numbers_in, numbers_of}
 use Rattle.law_network.specs.Shown.{ShowsPeer, Shows, ShowsFar, RunsAt, IsApart}
 use Rattle.law_network.specs.Steps.{Around, Happening, Calls, Delivers, HappensAmong, Logs, LogsIf, BringsOne, begun, count_after}
-use Rattle.law_network.proofs.Beginnings.{answered, free-there}
+use Rattle.law_network.proofs.Beginnings.{answered}
 use Rattle.law_network.proofs.Delivering.{end-there}
 use Rattle.law_network.proofs.Growing.{more_of, more_in, Grows, grows, from-before, stays-there, begins-there, begun-is}
 use Rattle.law_network.proofs.OneThing.{one-thing}
@@ -169,7 +170,7 @@ begins-by w from old new (Delivers i answer) x other two happens k ko comes none
         let b = begun-is d.connection old.host new.host f y in
         let same : d.connection ≡ x = ap (λ (z : HostEnd). z.connection) (sym b.4) ∙ of in
         let shown : ShowsFar other d.connection two = subst (λ (n : ℕ). ShowsFar other n two) (sym same) (far-shown other w.count x two ko there) in
-        answered i answer d from old new brings is (subst (λ (n : ℕ). HasNothingOf n old) (sym same) (nothing-of old w.count x k none)) f y two (subst (λ (s : Site). ShowsFar s d.connection two) (sym (comes d is same)) shown)
+        answered i answer d from old new k.few brings is (subst (λ (n : ℕ). HasNothingOf n old) (sym same) (nothing-of old w.count x k none)) f y two (subst (λ (s : Site). ShowsFar s d.connection two) (sym (comes d is same)) shown)
 
 -- what is around an end whose other end this host shows
 faces : (w : Around) (from : Site) (what : Happening) (s other : Site) (e : HostEnd) (far : End) → IsJoined w from what s other e.connection → Has s.ends e → ShowsFar other e.connection far → Faces w s e far
@@ -244,6 +245,7 @@ acts-of w from old new (call.ConfigureThrottle name interval acceleration decele
 acts-of w from old new (call.SetPingInterval name ms answer) x = x.0
 acts-of w from old new (call.SetTimeout name limit minimum maximum answer) x = x.0
 acts-of w from old new (call.NextEvent answer) x = x.0
+acts-of w from old new (call.Admit what answer) x = x.0
 
 brought-acts : (from old new : Site) (answer : Received) (found : Option Logged) → BringsOne from found answer old new → (c : Call) × Acts c old.host new.host
 brought-acts from old new answer None x = absurd x
@@ -291,6 +293,7 @@ calls-log w from old new (call.ConfigureThrottle name interval acceleration dece
 calls-log w from old new (call.SetPingInterval name ms answer) x = inl (ap (λ (s : Site). s.log) x.1)
 calls-log w from old new (call.SetTimeout name limit minimum maximum answer) x = inl (ap (λ (s : Site). s.log) x.1)
 calls-log w from old new (call.NextEvent answer) x = inl (ap (λ (s : Site). s.log) x.1)
+calls-log w from old new (call.Admit what answer) x = inl (ap (λ (s : Site). s.log) x.1)
 
 brought-log : (from old new : Site) (answer : Received) (found : Option Logged) → BringsOne from found answer old new → new.log ≡ old.log
 brought-log from old new answer None x = absurd x
@@ -302,13 +305,12 @@ log-grows w from old new (Delivers k answer) x = inl (brought-log from old new a
 
 -- an end that begins has a name that no other has
 
--- the slot that it was given was free, with a generation left
+-- nobody had it yet
 pub record IsFresh (h : Host) (name : PeerRef) : Type 0 where
   pub slot : SlotState
   pub there : slice_get h.slots name.slot ≡ Some slot
-  pub vacant : slot.peer ≡ None
-  pub left : slot.generation < h.config.generations
-  pub generation : name.generation ≡ slot.generation
+  pub left : name.generation < h.config.generations
+  pub future : (slot.generation < name.generation) ⊎ ((slot.generation ≡ name.generation) × (slot.peer ≡ None))
 
 pub fresh-connected : (h : Host) (address : Addr) (channels info word : ℕ) (name : PeerRef) (answer : Result PeerRef Refusal) (slots after : List SlotState) → slots ≡ h.slots → Connects (host_basis h) slots (record { address = address; channels = channels; info = info; word = word }) answer after
     → answer ≡ Ok name → IsFresh h name
@@ -318,33 +320,39 @@ fresh-connected h address channels info word name answer slots after was (no_mem
 fresh-connected h address channels info word name answer slots after was (asks i s some free there) e =
     let same : name_of i s ≡ name = (let y : ◌≡◌ {A = Result PeerRef Refusal} (Ok (name_of i s)) (Ok name) = e in cc) in
     let open' = is_open h.config slots i s free there in
-    subst (IsFresh h) same (record { slot = s; there = ap (λ (xs : List SlotState). slice_get xs i) (sym was) ∙ there; vacant = open'.0; left = open'.1; generation = refl })
+    subst (IsFresh h) same (record { slot = s; there = ap (λ (xs : List SlotState). slice_get xs i) (sym was) ∙ there; left = open'.1; future = inr (refl, open'.0) })
 
 pub kept-generation : (c : Call) (h : Host) (i : ℕ) (s t : SlotState) → s.peer ≡ None → isolation.Fares c (common_of h) i s t → t.generation ≡ s.generation
 kept-generation c h i s t none (isolation.untouched fell not' e) = ap (λ (z : SlotState). z.generation) e
-kept-generation c h i s t none (isolation.goes_on p q ds has fell alone e) = absurd (let y : ◌≡◌ {A = Option Peering} None (Some p) = sym none ∙ has in cc)
+kept-generation c h i s t none (isolation.goes_on p q ds has fell alone no' e) = absurd (let y : ◌≡◌ {A = Option Peering} None (Some p) = sym none ∙ has in cc)
+kept-generation c h i s t none (isolation.takes_over p q ds has fell alone gone left b) = absurd (let y : ◌≡◌ {A = Option Peering} None (Some p) = sym none ∙ has in cc)
 kept-generation c h i s t none (isolation.begins vacant left b) = begun-generation c h i s t b
 
-fresh-begun : (c : Call) (x : ℕ) (old new : Host) (f : HostEnd) → Acts c old new → Has (begun x old new) f → IsFresh old f.name
-fresh-begun c x old new f acts h =
-    let b = begun-is x old new f h in
-    let s = free-there old.config old.slots b.0 b.2 in
-    let open' = is_open old.config old.slots b.0 s.0 b.2 s.1 in
-    let t = one-call c old new acts b.0 s.0 s.1 in
-    let same : t.0 ≡ b.1 = same-some t.0 b.1 (sym t.1 ∙ b.3) in
-    let generation : b.1.generation ≡ s.0.generation = ap (λ (z : SlotState). z.generation) (sym same) ∙ kept-generation c old b.0 s.0 t.0 open'.0 t.2 in
-    subst (λ (z : HostEnd). IsFresh old z.name) (sym b.4) (record { slot = s.0; there = s.1; vacant = open'.0; left = open'.1; generation = generation })
+-- the name of a guest
+pub fresh-seat : (h : Host) (i : ℕ) (s : SlotState) → h.config.generations ≤ greatest → seat (host_basis h) h.slots ≡ Some i → slice_get h.slots i ≡ Some s → IsFresh h (name_of i (readied s))
+fresh-seat h i s few at there = record {
+  slot = s;
+  there = there;
+  left = readied-low h.config.generations s open';
+  future = elim (readied-new h.config.generations s few open') [ inl same ↦ inr (sym same.1, same.0) | inr past ↦ inl past ];
+}
+  where
+    open' : IsOpen h.config.generations s
+    open' = seat-open (host_basis h) h.slots i s at there
 
-pub fresh-more : (w : Around) (from old new : Site) (what : Happening) → HappensAmong w from what old new → (f : HostEnd) → Has (more_of w.count from old new what) f → IsFresh old.host f.name
-fresh-more w from old new (Calls (call.Connect address channels info word (Ok name))) x f (inl e) =
+fresh-begun : (x : ℕ) (old new : Host) (f : HostEnd) → old.config.generations ≤ greatest → Has (begun x old new) f → IsFresh old f.name
+fresh-begun x old new f few h = (let g = guest x old new f h in subst (λ (z : HostEnd). IsFresh old z.name) (sym g.is) (fresh-seat old g.number g.before few g.at g.there))
+
+pub fresh-more : (w : Around) (from old new : Site) (what : Happening) → old.host.config.generations ≤ greatest → HappensAmong w from what old new → (f : HostEnd) → Has (more_of w.count from old new what) f → IsFresh old.host f.name
+fresh-more w from old new (Calls (call.Connect address channels info word (Ok name))) few x f (inl e) =
     subst (λ (z : HostEnd). IsFresh old.host z.name) e (fresh-connected old.host address channels info word name (Ok name) old.host.slots new.host.slots refl x.1.0.0 refl)
-fresh-more w from old new (Calls (call.Connect address channels info word (Ok name))) x f (inr h) = absurd h
-fresh-more w from old new (Calls c) x f h = absurd h
-fresh-more w from old new (Delivers k answer) x f h = by (slice_get from.log k) x h
+fresh-more w from old new (Calls (call.Connect address channels info word (Ok name))) few x f (inr h) = absurd h
+fresh-more w from old new (Calls c) few x f h = absurd h
+fresh-more w from old new (Delivers k answer) few x f h = by (slice_get from.log k) x h
   where
     by : (found : Option Logged) → BringsOne from found answer old new → Has (more_in w.count old new found) f → IsFresh old.host f.name
     by None y m = absurd y
-    by (Some d) y m = fresh-begun (call.Receive from.address d.text answer) d.connection old.host new.host f y.1.0 m
+    by (Some d) y m = fresh-begun d.connection old.host new.host f few m
 
 pub not-fresh : (h : Host) (e : HostEnd) (name : PeerRef) (p : Peering) → ShowsPeer h e.name p → IsFresh h name → name ≡ e.name → ⊥
 not-fresh h e name p k f same = by (there-or h e.name p k)
@@ -356,16 +364,27 @@ not-fresh h e name p k f same = by (there-or h e.name p k)
     by (inl live) =
         let x : IsThere h.slots e.name p = live.1 in
         let slot : x.slot ≡ g.slot = same-some x.slot g.slot (sym x.there ∙ g.there) in
-        let z : ◌≡◌ {A = Option Peering} None (Some p) = sym g.vacant ∙ ap (λ (s : SlotState). s.peer) (sym slot) ∙ x.peer in
-        absurd (cc)
+        there (ap (λ (s : SlotState). s.generation) (sym slot) ∙ x.same) (ap (λ (s : SlotState). s.peer) (sym slot) ∙ x.peer) g.future
+      where
+        there : g.slot.generation ≡ e.name.generation → g.slot.peer ≡ Some p → (g.slot.generation < e.name.generation) ⊎ ((g.slot.generation ≡ e.name.generation) × (g.slot.peer ≡ None)) → ⊥
+        there is has (inl low) = let a : g.slot.generation ≡ e.name.generation = is in let b : g.slot.generation < e.name.generation = low in omega arith
+        there is has (inr none) = let z : ◌≡◌ {A = Option Peering} None (Some p) = sym none.1 ∙ has in absurd (cc)
     by (inr gone) =
         let x : IsSpent h e.name = gone.1 in
         let slot : x.slot ≡ g.slot = same-some x.slot g.slot (sym x.there ∙ g.there) in
-        past x.slot slot x.past
+        past x.slot slot x.past (reached g.future)
       where
-        past : (s : SlotState) → s ≡ g.slot → (e.name.generation < s.generation) ⊎ ((h.config.generations ≤ s.generation) × (s.peer ≡ None)) → ⊥
-        past s is (inl low) = let a : s.generation ≡ g.slot.generation = ap (λ (z : SlotState). z.generation) is in let b : e.name.generation ≡ g.slot.generation = g.generation in let c : e.name.generation < s.generation = low in omega arith
-        past s is (inr over) = let a : s.generation ≡ g.slot.generation = ap (λ (z : SlotState). z.generation) is in let b : g.slot.generation < h.config.generations = g.left in let c : h.config.generations ≤ s.generation = over.0 in omega arith
+        reached : (g.slot.generation < e.name.generation) ⊎ ((g.slot.generation ≡ e.name.generation) × (g.slot.peer ≡ None)) → g.slot.generation ≤ e.name.generation
+        reached (inl low) = let a : g.slot.generation < e.name.generation = low in omega arith
+        reached (inr same') = let a : g.slot.generation ≡ e.name.generation = same'.0 in omega arith
+
+        past : (s : SlotState) → s ≡ g.slot → (e.name.generation < s.generation) ⊎ ((h.config.generations ≤ s.generation) × (s.peer ≡ None)) → g.slot.generation ≤ e.name.generation → ⊥
+        past s is (inl low) r = let a : s.generation ≡ g.slot.generation = ap (λ (z : SlotState). z.generation) is in let b : g.slot.generation ≤ e.name.generation = r in let c : e.name.generation < s.generation = low in omega arith
+        past s is (inr over) r =
+            let a : s.generation ≡ g.slot.generation = ap (λ (z : SlotState). z.generation) is in
+            let b : e.name.generation < h.config.generations = g.left in
+            let d : g.slot.generation ≤ e.name.generation = r in
+            let c : h.config.generations ≤ s.generation = over.0 in omega arith
 
 -- each end of a host is shown
 pub shown-end : (j : Bool) (s other : Site) (count : ℕ) (e : HostEnd) → IsHost s count → Has s.ends e → (p : Pair j s other e.connection) → Shows s e p.one
@@ -452,7 +471,7 @@ host-goes w from old new what x k ko once shown = record {
     mixed : (b e : HostEnd) → Has old.ends b → Has more e → ((g.change b).name ≡ e.name) ⊎ ((g.change b).connection ≡ e.connection) → ⊥
     mixed b e h m (inl same) =
         let own = (shown b h).1 in
-        not-fresh old.host b e.name own.peer own.shows (fresh-more w from old new what x e m) (sym same ∙ g.name b)
+        not-fresh old.host b e.name own.peer own.shows (fresh-more w from old new what k.few x e m) (sym same ∙ g.name b)
     mixed b e h m (inr same) = new-connection w.count from old new what k once e m b h (sym (g.connection b) ∙ same)
 
     apart-by : (e f : HostEnd) → ((b : HostEnd) × Has old.ends b × (g.change b ≡ e)) ⊎ Has more e → ((c : HostEnd) × Has old.ends c × (g.change c ≡ f)) ⊎ Has more f → (f.name ≡ e.name) ⊎ (f.connection ≡ e.connection) → f ≡ e

@@ -39,6 +39,7 @@ abbrev pub refused_call : WorldEvent → Refusal → List Call
 refused_call (happen.Connect side channels info word) why = call.Connect (address_of (other side)) channels info word (Err why) ∷ []
 refused_call (happen.Submit side peer channel flags body) why = call.Submit peer channel (record { flags = flags; body = body }) (Err (why, body)) ∷ []
 refused_call (happen.Disconnect side peer how info) why = call.Disconnect how peer info (Err why) ∷ []
+refused_call (happen.Admit side what) why = call.Admit what (Err why) ∷ []
 refused_call _ why = []
 
 -- the call that an event makes at its side, by what was answered

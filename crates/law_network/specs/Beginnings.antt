@@ -7,19 +7,27 @@ use Rattle.enet_codec.specs.Config.{is_in_range}
 use Rattle.enet_peer.specs.declared.parts.PeerState.TheVariants as state
 use Rattle.enet_peer.specs.Peering.{Peering}
 use Rattle.enet_peer.specs.Peering as peers
-use Rattle.enet_slot.specs.Slot.{SlotState}
+use Rattle.enet_slot.specs.Slot.{SlotState, with_peer}
 use Rattle.enet_slot.specs.Giving.{limits_of, joined_terms}
-use Rattle.enet_host.specs.Host.{Host, slot_named, named}
+use Rattle.enet_host.specs.Host.{Host, named}
 use Rattle.enet_host.specs.Opening as opening
 use Rattle.law_network.specs.Calls.{Call, Steps, Series, later}
-use Rattle.law_network.specs.Common.{common_of}
+use Rattle.law_network.specs.Common.{Common, common_of}
 use Rattle.law_network.specs.Deeds.{Deed, AllAlone}
-use Rattle.law_network.specs.Falling.{Begins, FellAll}
+use Rattle.law_network.specs.Falling.{Fell, Begins, FellAll}
 
--- by this call on a host the peer of this name begins so, in a slot that was free
+-- slot i, which is s, as this call gives it out: it was free, or its peer did what fell to it, which left it free
+pub data IsReady (c : Call) (h : Common) (i : ℕ) (s : SlotState) : SlotState → Type 0 where
+  was_free : s.peer ≡ None → IsReady c h i s s
+  was_left : (p q : Peering) (ds : List Deed) → s.peer ≡ Some p → Fell h (record { number = i; slot = s; peer = p }) c ds → AllAlone ds p q → q.state ≡ state.Free → IsReady c h i s (with_peer s q)
+
+-- by this call on a host the peer of this name begins so
 pub record BeginsAs (c : Call) (h : Host) (name : PeerRef) (first : Peering) : Type 0 where
+  pub before : SlotState
+  pub there : slice_get h.slots name.slot ≡ Some before
   pub slot : SlotState
-  pub there : slot_named h.slots name ≡ Some slot
+  pub ready : IsReady c (common_of h) name.slot before slot
+  pub same : slot.generation ≡ name.generation
   pub given : SlotState
   pub begins : Begins c (common_of h) name.slot slot given
   pub peer : given.peer ≡ Some first

@@ -2,6 +2,7 @@
 use Rattle.std.specs.Prelude.{◌≡◌, ℕ, Bool, true, List, [], ◌∷◌, Option, Result, Ok, Err, IfErr}
 use Rattle.std.specs.List.{list_any}
 use Rattle.enet_codec.specs.declared.address.Addr.{Addr}
+use Rattle.enet_codec.specs.declared.config.Admission.{Admission}
 use Rattle.enet_codec.specs.declared.event.DisconnectMode.{DisconnectMode}
 use Rattle.enet_codec.specs.declared.event.Event.{Event}
 use Rattle.enet_codec.specs.declared.event.PeerRef.{PeerRef}
@@ -16,7 +17,7 @@ use Rattle.enet_host.specs.Serving.{Serves}
 use Rattle.enet_host.specs.Ticking.{ticked}
 use Rattle.enet_slot.specs.Calls.{Submits, Does, DoesWithMemory, submission, leaving, throttling, pinging, waiting}
 use Rattle.enet_slot.specs.Sharing.{wants_room, wants_room_in}
-use Rattle.enet_host.specs.Calls.{Takes, on_named, with_bandwidth}
+use Rattle.enet_host.specs.Calls.{Admits, Takes, on_named, with_bandwidth}
 
 -- whether a call without a result was refused, and why
 abbrev pub Done : Type 0
@@ -35,6 +36,7 @@ pub data Call : Type 0 where
   SetPingInterval : (name : PeerRef) (ms : ℕ) (answer : Done) → Call
   SetTimeout : (name : PeerRef) (limit minimum maximum : ℕ) (answer : Done) → Call
   NextEvent : (answer : Option Event) → Call
+  Admit : (what : Admission) (answer : Done) → Call
 
 -- memory is only refused where this says that it may be wanted
 abbrev pub IsWanted : Done → Bool → Type 0
@@ -63,6 +65,7 @@ Acts (SetPingInterval name ms answer) old new = Does answer (on_named old.slots 
 Acts (SetTimeout name limit minimum maximum answer) old new =
     Does answer (on_named old.slots name (waiting limit minimum maximum)) old.slots new.slots × KeepsRest old new
 Acts (NextEvent answer) old new = Takes answer old new
+Acts (Admit what answer) old new = Admits what answer old new
 
 -- calls, one after another
 abbrev pub Steps : List Call → Host → Host → Type 0

@@ -1,5 +1,5 @@
 -- What one peer alone is asked, one thing after another, and what it answers.
-use Rattle.std.specs.Prelude.{◌≡◌, ℕ, Bool, List, [], ◌∷◌, Option, Some, None, Result, Ok}
+use Rattle.std.specs.Prelude.{◌≡◌, ℕ, Bool, true, List, [], ◌∷◌, Option, Some, None, Result, Ok}
 use Rattle.enet_codec.specs.declared.packet.Packet.{Packet}
 use Rattle.enet_codec.specs.declared.refusal.Refusal.{Refusal}
 use Rattle.enet_codec.specs.declared.stop.Stop.{Stop}
@@ -7,8 +7,11 @@ use Rattle.enet_codec.specs.Message.{Message}
 use Rattle.enet_outbox.specs.Emission.{filled, datagram}
 use Rattle.enet_peer.specs.declared.parts.PeerEvent.{PeerEvent}
 use Rattle.enet_peer.specs.Peering.{Peering}
-use Rattle.enet_peer.specs.CommandEffect.{Obeys, wants_memory, obeyed}
-use Rattle.enet_peer.specs.Calls.{Submits, Leaves, Takes, pace_of, destination_of, gone_on, left, moved, next_event, with_bandwidth, with_throttle_limit}
+use Rattle.enet_peer.specs.CommandEffect.{Obeys, wants_memory}
+use Rattle.enet_peer.specs.Endings.{freed}
+use Rattle.enet_peer.specs.Handling.{Arrival}
+use Rattle.enet_peer.specs.Refusing.{heeded, is_turned_away, told_again}
+use Rattle.enet_peer.specs.Calls.{Submits, Leaves, Takes, pace_of, destination_of, gone_on, is_answering, left, moved, next_event, with_bandwidth, with_throttle_limit}
 use Rattle.enet_slot.specs.Calls.{Does, DoesWithMemory, throttling, pinging, waiting}
 use Rattle.enet_slot.specs.Sharing.{wants_room_in}
 use Rattle.law_connection.specs.Steps.{Way, leave_by, Setting}
@@ -19,11 +22,13 @@ use Rattle.law_network.specs.Calls.{Done, IsWanted}
 pub data Deed : Type 0 where
   Submit : (packet : Packet) (answer : Result (Unit {0}) (Refusal × List ℕ)) → Deed  -- a packet is submitted; a refusal hands its body back
   Emit : (now : ℕ) (given : Option (List ℕ)) → Deed  -- the peer is asked for a datagram and puts out these bytes, or nothing
-  Come : (now : ℕ) (sent : Option ℕ) (message : Message) (answer : Result (Unit {0}) Stop) → Deed  -- a command comes, and may stop its datagram
+  Come : (a : Arrival) (message : Message) (answer : Result (Unit {0}) Stop) → Deed  -- a command comes, and may stop its datagram
   Tick : (now : ℕ) (short : Bool) → Deed  -- time has come to now, where the other end's address may have sent too little for another answer
   Take : (given : Option PeerEvent) → Deed  -- the peer is asked for its next event
   Disconnect : (way : Way) (info : ℕ) (answer : Done) → Deed  -- the user ends the connection
   Set : (setting : Setting) (answer : Done) → Deed
+  GiveWay : Deed  -- it waits for its client, and is let go, since its host gives its slot to another
+  TellAgain : Deed  -- it was refused, and is told so again, since a datagram came that tells a sent time
 
 -- what is left of a peer that was asked for a datagram
 abbrev pub emitted : Peering → ℕ → Peering
@@ -56,11 +61,13 @@ Sets (setting.Timeout limit minimum maximum) answer old new = Does answer (waiti
 abbrev pub Alone : Deed → Peering → Peering → Type 0
 Alone (Submit q answer) old new = Submits answer old new q.channel (record { flags = q.flags; body = q.body })
 Alone (Emit now given) old new = (given ≡ put_out old now) × (new ≡ emitted old now)
-Alone (Come now sent m answer) old new = Obeys answer (wants_memory old now sent m) (obeyed old now sent m) old new
+Alone (Come a m answer) old new = Obeys answer (wants_memory old a.now a.sent m) (heeded a.full old a.now a.sent m) old new
 Alone (Tick now short) old new = new ≡ moved short old now
 Alone (Take given) old new = Takes given (next_event old) old new
 Alone (Disconnect way info answer) old new = Leaves answer (left (leave_by way old.state) old info) old new
 Alone (Set setting answer) old new = Sets setting answer old new
+Alone GiveWay old new = (is_answering old.state ≡ true) × (new ≡ freed old)
+Alone TellAgain old new = (is_turned_away old ≡ true) × (new ≡ told_again old)
 
 -- one peer alone does all these, in order
 abbrev pub AllAlone : List Deed → Peering → Peering → Type 0

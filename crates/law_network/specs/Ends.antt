@@ -19,25 +19,29 @@ is_heeded (Err why) = false
 abbrev pub takes_effect : Deed → Bool
 takes_effect (deed.Submit q answer) = is_ok answer
 takes_effect (deed.Emit now given) = true
-takes_effect (deed.Come now sent m answer) = is_heeded answer
+takes_effect (deed.Come a m answer) = is_heeded answer
 takes_effect (deed.Tick now short) = true
 takes_effect (deed.Take given) = is_some given
 takes_effect (deed.Disconnect way info answer) = is_ok answer
 takes_effect (deed.Set setting answer) = is_ok answer
+takes_effect deed.GiveWay = true
+takes_effect deed.TellAgain = true
 
 -- the event; a command that comes is one of the other end's log
 abbrev pub event_of : Deed → Put → Event
 event_of (deed.Submit q answer) put = event.Submit q
 event_of (deed.Emit now given) put = event.Emit now
-event_of (deed.Come now sent m answer) put = event.Come put now sent
+event_of (deed.Come a m answer) put = event.Come put a.now a.sent
 event_of (deed.Tick now short) put = event.Tick now
 event_of (deed.Take given) put = event.Take
 event_of (deed.Disconnect way info answer) put = event.Disconnect way info
 event_of (deed.Set setting answer) put = event.Set setting
+event_of deed.GiveWay put = event.GiveWay
+event_of deed.TellAgain put = event.TellAgain
 
 -- what is demanded of a command that comes
 abbrev pub Brings : End → End → Deed → Put → Type 0
-Brings own other (deed.Come now sent m answer) put = (put.message ≡ m) × InTime own other put
+Brings own other (deed.Come a m answer) put = (put.message ≡ m) × InTime own other put
 Brings own other d put = Unit {0}
 
 -- the end with a peer that gave this event, or none

@@ -1,5 +1,5 @@
 -- Lists of a world's events that do happen, so that the laws speak of something.
-use Rattle.std.specs.Prelude.{◌≡◌, ◌&&◌, ℕ, true, List, [], ◌∷◌, ◌++◌, Some, None, Result, Ok}
+use Rattle.std.specs.Prelude.{◌≡◌, ◌&&◌, ℕ, true, List, [], ◌∷◌, ◌++◌, Some, None, Result, Ok, false}
 use Rattle.enet_codec.specs.declared.config.Config.{Config}
 use Rattle.enet_codec.specs.Config.{is_in_range}
 use Rattle.enet_codec.specs.declared.event.Event.TheVariants as events
@@ -18,7 +18,7 @@ use Rattle.law_network.specs.World.{World, Runs, open_world, joined_world}
 
 -- a host of one slot
 abbrev pub example_config : Config
-example_config = record { peers = 1; channels = 1; mtu = 576; incoming = 0; outgoing = 0; max_packet = 1000; max_waiting = 1000; generations = 1; clock = 0; secret = None }
+example_config = record { peers = 1; channels = 1; mtu = 576; incoming = 0; outgoing = 0; max_packet = 1000; max_waiting = 1000; generations = 1; clock = 0; secret = None; gives_way = false; most = None }
 
 -- the first peer of such a host
 abbrev pub first_name : PeerRef

@@ -1,5 +1,5 @@
 -- Which of a host's calls fall to a slot, and as what deeds of its peer. Of the host this sees what its connections share alone.
-use Rattle.std.specs.Prelude.{◌≡◌, ◌≢◌, ◌⊎◌, ℕ, ◌==◌, ◌&&◌, ◌+◌, Bool, min, nat_lt, if◌then◌else◌, false, Option, Some, None, Ok, Err, List, [], ◌∷◌, ◌++◌, take}
+use Rattle.std.specs.Prelude.{◌≡◌, ◌≢◌, ◌⊎◌, ℕ, ◌==◌, ◌&&◌, ◌+◌, Bool, min, nat_lt, is_some, if◌then◌else◌, false, Option, Some, None, Ok, Err, List, [], ◌∷◌, ◌++◌, take, true}
 use Rattle.enet_codec.specs.declared.address.Addr.{Addr}
 use Rattle.enet_codec.specs.declared.event.DisconnectMode.{DisconnectMode}
 use Rattle.enet_codec.specs.declared.event.DisconnectMode.TheVariants as mode
@@ -22,7 +22,8 @@ use Rattle.enet_peer.specs.Handling as handling
 use Rattle.enet_peer.specs.Heading.{IsUnreadable, IsRead, IsOffer}
 use Rattle.enet_slot.specs.Slot.{SlotState, name_of, greatest}
 use Rattle.enet_slot.specs.Giving.{asking, answering}
-use Rattle.enet_slot.specs.Receiving.{no_peer, refused_by_slot, stopped}
+use Rattle.enet_slot.specs.Entering.{awaits}
+use Rattle.enet_slot.specs.Receiving.{no_peer, refused_by_slot, stopped, was_refused}
 use Rattle.enet_slot.specs.Sharing.{limit_for}
 use Rattle.enet_host.specs.Host.{slot_named}
 use Rattle.enet_host.specs.Receiving.{handled_one, offer_refused}
@@ -32,7 +33,7 @@ use Rattle.law_connection.specs.Steps as setting
 use Rattle.law_network.specs.Calls as call
 use Rattle.law_network.specs.Calls.{Call, Series, later}
 use Rattle.law_network.specs.Common.{Common, common_of, common_basis}
-use Rattle.law_network.specs.Deeds.{Deed, Submit, Emit, Come, Tick, Take, Disconnect, Set}
+use Rattle.law_network.specs.Deeds.{Deed, Submit, Emit, Come, Tick, Take, Disconnect, Set, GiveWay, TellAgain}
 
 abbrev pub deeds_if : Bool → Deed → List Deed
 deeds_if does d = if does then d ∷ [] else []
@@ -47,26 +48,41 @@ pub data Falls (a : Arrival) : ℕ → List ℕ → Received → List Deed → T
   nothing_left : (handled : ℕ) → Falls a handled [] (record { handled = handled; stop = None }) []
   no_command : (handled : ℕ) (bytes : List ℕ) → bytes ≢ [] → SpellsNone bytes → Falls a handled bytes (record { handled = handled; stop = Some stop.BadCommand }) []
   stops : (handled : ℕ) (text rest : List ℕ) (m : Message) (why : Stop) → Spells text m
-      → Falls a handled (text ++ rest) (record { handled = handling.counted handled why; stop = Some why }) (Come a.now a.sent m (Err why) ∷ [])
+      → Falls a handled (text ++ rest) (record { handled = handling.counted handled why; stop = Some why }) (Come a m (Err why) ∷ [])
   goes_on : (handled : ℕ) (text rest : List ℕ) (m : Message) (answer : Received) (ds : List Deed) → Spells text m
-      → Falls a (one_more handled) rest answer ds → Falls a handled (text ++ rest) answer (Come a.now a.sent m (Ok tt) ∷ ds)
+      → Falls a (one_more handled) rest answer ds → Falls a handled (text ++ rest) answer (Come a m (Ok tt) ∷ ds)
 
--- a call of receive: the clock then, in milliseconds, the address that the datagram came from, its bytes, and what was answered
+-- a call of receive: what the connections share, the address that the datagram came from, its bytes, and what was answered
 pub record Receipt : Type 0 where
-  pub now : ℕ
+  pub host : Common
   pub from : Addr
   pub bytes : List ℕ
   pub answer : Received
 
+-- whether an offer gets slot i, whose peer gives way
+pub record GetsSeat (i : ℕ) (r : Receipt) (header : Header) (commands : List ℕ) : Type 0 where
+  pub offer : Offer
+  pub stranger : header.peer ≡ no_peer
+  pub is : IsOffer commands offer
+  pub taken : offer_refused offer ≡ None
+  pub new : r.host.knows r.from offer.connect_id ≡ false
+  pub seat : r.host.seat ≡ Some i
+  pub answered : r.answer ≡ handled_one
+
 -- what of a datagram reaches the peer of slot i, which is s: nothing where it can't be read, doesn't name this slot or the slot
--- turns it away, and else its commands
+-- turns it away, and else its commands. A peer that was refused is told so again if the datagram tells a sent time. An offer may make the
+-- peer give way
 pub data Reaches (i : ℕ) (s : SlotState) (r : Receipt) : List Deed → Type 0 where
   unreadable : (why : Stop) → IsUnreadable r.bytes why → Reaches i s r []
-  elsewhere : (header : Header) (commands : List ℕ) → IsRead r.bytes header commands → ((header.peer ≡ no_peer) ⊎ (header.peer ≢ i)) → Reaches i s r []
+  elsewhere : (header : Header) (commands : List ℕ) → IsRead r.bytes header commands → ((header.peer ≡ no_peer) ⊎ (header.peer ≢ i)) → (GetsSeat i r header commands → ⊥) → Reaches i s r []
+  gives_way : (header : Header) (commands : List ℕ) → IsRead r.bytes header commands → GetsSeat i r header commands → Reaches i s r (GiveWay ∷ [])
   turned_away : (header : Header) (commands : List ℕ) (why : Stop) → IsRead r.bytes header commands → header.peer ≢ no_peer → header.peer ≡ i
       → refused_by_slot r.from header.session (Some s) ≡ Some why → r.answer ≡ stopped why → Reaches i s r []
   here : (header : Header) (commands : List ℕ) (ds : List Deed) → IsRead r.bytes header commands → header.peer ≢ no_peer → header.peer ≡ i
-      → refused_by_slot r.from header.session (Some s) ≡ None → Falls (record { now = r.now; sent = header.sent }) 0 commands r.answer ds → Reaches i s r ds
+      → refused_by_slot r.from header.session (Some s) ≡ None → was_refused s ≡ false
+      → Falls (record { now = r.host.clock; sent = header.sent; full = awaits s && r.host.full }) 0 commands r.answer ds → Reaches i s r ds
+  told_again : (header : Header) (commands : List ℕ) → IsRead r.bytes header commands → header.peer ≢ no_peer → header.peer ≡ i
+      → refused_by_slot r.from header.session (Some s) ≡ None → was_refused s ≡ true → r.answer ≡ stopped stop.NotConnected → Reaches i s r (deeds_if (is_some header.sent) TellAgain)
 
 -- slots are asked in turn, up to slot j: this falls to slot j, and that to each before it
 abbrev pub up_to : (turn : ℕ → ℕ) (j i : ℕ) (gives passes : Deed) → List Deed
@@ -111,7 +127,7 @@ Fell h x (call.Connect address channels info word answer) ds = ds ≡ []
 Fell h x (call.Submit name channel q answer) ds =
     ds ≡ deeds_if (is_meant name x.number x.slot) (Submit (record { channel = channel; flags = q.flags; body = q.body }) answer)
 Fell h x (call.Receive from bytes answer) ds =
-    Reaches x.number x.slot (record { now = h.clock; from = from; bytes = bytes; answer = answer }) ds
+    Reaches x.number x.slot (record { host = h; from = from; bytes = bytes; answer = answer }) ds
 Fell h x (call.Service answer buf) ds = ds ≡ asked_for h x.number answer buf
 Fell h x (call.Tick ms) ds =
     ds ≡ Tick (clock_after h.clock ms) (h.short x.number)
@@ -125,6 +141,7 @@ Fell h x (call.SetPingInterval name ms answer) ds = ds ≡ deeds_if (is_meant na
 Fell h x (call.SetTimeout name limit minimum maximum answer) ds =
     ds ≡ deeds_if (is_meant name x.number x.slot) (Set (setting.Timeout limit minimum maximum) answer)
 Fell h x (call.NextEvent answer) ds = ds ≡ taken_from h x.number answer
+Fell h x (call.Admit what answer) ds = ds ≡ []
 
 -- slot i, which is s, if it holds a peer
 abbrev pub occupied_in : ℕ → SlotState → Option Peering → Option Occupied
@@ -147,15 +164,15 @@ counted (call.Service (Some gave) buf) h i s = if gave.0.slot == i then min (s.e
 counted (call.Tick ms) h i s = if h.is_due (clock_after h.clock ms) then 0 else s.emitted
 counted c h i s = s.emitted
 
--- by a call a connection begins in slot i, which is s, and leaves it so: the lowest slot that is free and has a generation left. The
--- user asks from it, or it answers a CONNECT whose connection isn't there yet
+-- by a call a connection begins in slot i, which is s, and leaves it so. The user asks from the lowest slot that is free and has a generation
+-- left; a CONNECT whose connection isn't there yet is answered from that one or, where there is none, from one whose peer gave way
 pub data Begins (c : Call) (h : Common) (i : ℕ) (s : SlotState) : SlotState → Type 0 where
   asks : (address : Addr) (channels info word : ℕ) → c ≡ call.Connect address channels info word (Ok (name_of i s)) → channels ≢ 0
       → h.available ≡ Some i
       → Begins c h i s (asking (common_basis h) i s (record { address = address; channels = channels; info = info; word = word }))
   answers : (from : Addr) (bytes commands : List ℕ) (header : Header) (o : Offer) → c ≡ call.Receive from bytes handled_one
       → IsRead bytes header commands → header.peer ≡ no_peer → IsOffer commands o → offer_refused o ≡ None → h.knows from o.connect_id ≡ false
-      → h.available ≡ Some i → Begins c h i s (answering (common_basis h) i s from o)
+      → h.seat ≡ Some i → Begins c h i s (answering (common_basis h) i s from o)
 
 -- the deeds by which a list of calls fell to the peer of this name, one call after another; none once the name is spent
 abbrev pub FellAll : PeerRef → (cs : List Call) → Series cs → List Deed → Type 0

@@ -29,9 +29,13 @@ pub record Stays (c : Call) (h : Common) (i : ℕ) (s : SlotState) (p : Peering)
 -- what one call made of slot i, which was s: of the host this sees only what its connections share
 pub data Fares (c : Call) (h : Common) (i : ℕ) (s t : SlotState) : Type 0 where
   -- its peer stays as it was, or it was free and stays so; its bytes may be counted anew
-  untouched : ((p : Peering) → s.peer ≡ Some p → Stays c h i s p) → ((u : SlotState) → Begins c h i s u → ⊥) → t ≡ having_emitted s (counted c h i s) → Fares c h i s t
-  -- its peer did alone what fell to it; where that leaves it free, so is the slot
-  goes_on : (p q : Peering) (ds : List Deed) → s.peer ≡ Some p → Fell h (record { number = i; slot = s; peer = p }) c ds → AllAlone ds p q → t ≡ having_emitted (with_peer s q) (counted c h i s) → Fares c h i s t
+  untouched : ((p : Peering) → s.peer ≡ Some p → Stays c h i s p) → (s.peer ≡ None → (u : SlotState) → Begins c h i s u → ⊥) → t ≡ having_emitted s (counted c h i s) → Fares c h i s t
+  -- its peer did alone what fell to it; where that leaves it free, so is the slot, and none begins there
+  goes_on : (p q : Peering) (ds : List Deed) → s.peer ≡ Some p → Fell h (record { number = i; slot = s; peer = p }) c ds → AllAlone ds p q
+      → (q.state ≡ state.Free → (u : SlotState) → Begins c h i (with_peer s q) u → ⊥) → t ≡ having_emitted (with_peer s q) (counted c h i s) → Fares c h i s t
+  -- its peer did alone what fell to it, which left it free, and a connection begins in the slot
+  takes_over : (p q : Peering) (ds : List Deed) → s.peer ≡ Some p → Fell h (record { number = i; slot = s; peer = p }) c ds → AllAlone ds p q → q.state ≡ state.Free
+      → (with_peer s q).generation < h.config.generations → Begins c h i (with_peer s q) t → Fares c h i s t
   -- it was free, and a connection begins in it
   begins : s.peer ≡ None → s.generation < h.config.generations → Begins c h i s t → Fares c h i s t
 

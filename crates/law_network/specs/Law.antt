@@ -84,7 +84,8 @@ Asked = (w : Around) (from old new : Site) (address : Addr) (channels info word 
     → (offer : Offer) × (offer.connect_id ≡ word) × Has new.ends (fresh_end w.count name)
     × Shows new (fresh_end w.count name) (asking_pair old.host.clock (time_drawn old.host.config name) offer (limits_of old.host.config)).one
 
--- a datagram that is brought to a host where an end begins is a CONNECT that the other end put out: the end is one that answers it
+-- a datagram that is brought to a host where an end begins is a CONNECT that the other end put out: the end is one that answers it. So it is
+-- at each host that has no more than 2 ^ 32 - 1 generations
 pub record Begins (far : End) (new : Site) (f : HostEnd) : Type 0 where
   pub event : Event
   pub own : End
@@ -92,7 +93,7 @@ pub record Begins (far : End) (new : Site) (f : HostEnd) : Type 0 where
   pub shows : Shows new f own
 
 abbrev pub Answered : Type 0
-Answered = (k : ℕ) (answer : Received) (d : Logged) (from old new : Site) → BringsOne from (Some d) answer old new → slice_get from.log k ≡ Some d
+Answered = (k : ℕ) (answer : Received) (d : Logged) (from old new : Site) → old.host.config.generations ≤ greatest → BringsOne from (Some d) answer old new → slice_get from.log k ≡ Some d
     → HasNothingOf d.connection old → (f : HostEnd) → Has (begun d.connection old.host new.host) f → (far : End) → ShowsFar from d.connection far → Begins far new f
 
 -- a host shows an end of connection x, or has none of it

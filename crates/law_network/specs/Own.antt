@@ -3,11 +3,13 @@ use Rattle.std.specs.Prelude.{◌≡◌, ℕ, if◌then◌else◌, Ok, []}
 use Rattle.enet_codec.specs.declared.config.Config.{Config}
 use Rattle.enet_host.specs.Host.{Host}
 use Rattle.enet_host.specs.Ticking.{clock_after, is_due}
-use Rattle.law_network.specs.Calls.{Call, SetBandwidth, Tick, Acts}
+use Rattle.enet_codec.specs.Config.{admitting}
+use Rattle.law_network.specs.Calls.{Call, SetBandwidth, Tick, Admit, Acts}
 
 -- its settings, its clock, and when its bandwidth was last shared out, after a call: of the slots these see nothing
 abbrev pub config_by : Call → Config → Config
 config_by (SetBandwidth incoming outgoing (Ok done)) config = record config { incoming = incoming; outgoing = outgoing }
+config_by (Admit what (Ok done)) config = admitting config what
 config_by c config = config
 
 abbrev pub clock_by : Call → ℕ → ℕ

@@ -1,4 +1,5 @@
 -- What happens at a host of a network: one host call, with what it adds to what is kept. The other hosts are as they were.
+use Rattle.enet_codec.specs.declared.event.PeerRef.{PeerRef}
 use Rattle.std.specs.Prelude.{◌≡◌, ℕ, ◌+◌, Bool, true, false, List, [], ◌∷◌, ◌++◌, take, Option, Some, None, Ok, slice_get}
 use Rattle.enet_codec.specs.declared.address.Addr.{Addr}
 use Rattle.enet_codec.specs.declared.event.Event.{Event}
@@ -10,9 +11,9 @@ use Rattle.enet_peer.specs.Peering.{Peering}
 use Rattle.enet_peer.specs.Heading.{IsRead}
 use Rattle.law_connection.specs.LinkSteps.{Has}
 use Rattle.law_connection.specs.Law.{mtu_in}
-use Rattle.enet_slot.specs.Slot.{SlotState, name_of}
 use Rattle.enet_host.specs.Host.{Host, named}
-use Rattle.enet_host.specs.Opening.{available}
+use Rattle.enet_host.specs.Foretelling.{guest_name}
+use Rattle.enet_host.specs.Opening.{host_basis}
 use Rattle.enet_host.specs.Serving.{Served, served_of}
 use Rattle.law_network.specs.Calls.{Call, Acts}
 use Rattle.law_network.specs.Calls as call
@@ -74,22 +75,18 @@ pub record Logs (far : ℕ → List ℕ) (gave : Served) (old new : Site) : Type
     ends = with_end (λ (e : HostEnd). record e { greatest = greatest }) gave.name old.ends;
   }
 
--- the end that begins where a host gave the slot i, which was free, to a peer
-abbrev pub end_in : ℕ → ℕ → SlotState → Option Peering → List HostEnd
-end_in x i s None = []
-end_in x i s (Some p) = fresh_end x (name_of i s) ∷ []
+-- the end that begins where a host has a peer of this name, which it hadn't before
+abbrev pub end_of_guest : ℕ → PeerRef → Option Peering → List HostEnd
+end_of_guest x name None = []
+end_of_guest x name (Some p) = fresh_end x name ∷ []
 
-abbrev pub end_in_slot : ℕ → ℕ → Option SlotState → List HostEnd
-end_in_slot x i None = []
-end_in_slot x i (Some s) = end_in x i s s.peer
+abbrev pub begun_by : ℕ → Option PeerRef → Host → List HostEnd
+begun_by x None new = []
+begun_by x (Some name) new = end_of_guest x name (named new.slots name)
 
-abbrev pub begun_in : ℕ → Option ℕ → Host → List HostEnd
-begun_in x None new = []
-begun_in x (Some i) new = end_in_slot x i (slice_get new.slots i)
-
--- the end of connection x that begins where a CONNECT was answered: in the slot that was the next to be given out
+-- the end of connection x that begins where a CONNECT was answered: of the name that the next peer was to get by one
 abbrev pub begun : ℕ → Host → Host → List HostEnd
-begun x old new = begun_in x (available old.config old.slots) new
+begun x old new = begun_by x (guest_name (host_basis old) old.slots) new
 
 -- a datagram of a host at this address comes
 abbrev pub Brought : Addr → Logged → Received → Site → Site → Type 0

@@ -1,20 +1,22 @@
 -- Which events of the law of one connection a turn, a datagram that is brought, a tick and a take are to an end of it at their host. By
 -- these a run of two hosts in which nothing is lost is seen to be one of the two ends.
-use Rattle.std.specs.Prelude.{◌≡◌, ◌≢◌, ◌≤◌, ◌⊎◌, ◌++◌, ℕ, true, List, [], ◌∷◌, Option, Some, None, slice_get}
+use Rattle.std.specs.Prelude.{◌≡◌, ◌≢◌, ◌≤◌, ◌⊎◌, ◌++◌, ℕ, Bool, true, List, [], ◌∷◌, Option, Some, None, slice_get}
 use Rattle.enet_codec.specs.declared.address.Addr.{Addr}
 use Rattle.enet_codec.specs.declared.event.Event.{Event as Told}
 use Rattle.enet_codec.specs.declared.event.PeerRef.{PeerRef}
 use Rattle.enet_codec.specs.declared.event.Received.{Received}
 use Rattle.enet_peer.specs.declared.parts.PeerState.TheVariants as state
 use Rattle.enet_peer.specs.Peering.{Peering}
-use Rattle.enet_peer.specs.CommandEffect.{obeyed}
+use Rattle.enet_peer.specs.Refusing.{heeded}
 use Rattle.enet_rtt.specs.Clock.{told_time}
 use Rattle.law_connection.specs.LinkSteps.{Has}
 use Rattle.law_connection.specs.Law.{offset_of}
 use Rattle.law_connection.specs.Connection.{Put, End}
-use Rattle.law_connection.specs.Steps.{Happens, Emit, Tick, Take, Set, ThrottleLimit, InTime, with_peer}
+use Rattle.law_connection.specs.Steps.{Happens, Emit, Tick, Take, Set, GiveWay, ThrottleLimit, InTime, with_peer}
 use Rattle.enet_slot.specs.Receiving.{no_peer}
 use Rattle.enet_slot.specs.Slot.{greatest}
+use Rattle.enet_host.specs.Opening.{host_basis, seat}
+use Rattle.enet_host.specs.Receiving.{is_full, listener_of}
 use Rattle.enet_host.specs.Ticking.{clock_after}
 use Rattle.law_network.specs.Calls as call
 use Rattle.law_network.specs.Law.{AreNamed, Faces}
@@ -56,11 +58,11 @@ pub record Gave (now : ℕ) (old after : Site) (x : ℕ) (own far new : End) : T
   pub emits : Happens own far (Emit now) new
   pub has : HasPut now own new datagram
 
--- commands come to an end, in order, and none stops its datagram
-abbrev pub AllObeyed : ℕ → Option ℕ → List Put → End → End → End → Type 0
-AllObeyed now sent [] own far new = new ≡ own
-AllObeyed now sent (x ∷ xs) own far new = (p : Peering) × (own.peer ≡ Some p) × InTime own far x × ((obeyed p now sent x.message).stop ≡ None)
-    × AllObeyed now sent xs (with_peer own (obeyed p now sent x.message).after) far new
+-- commands come to an end, in order, and none stops its datagram; its host may be full
+abbrev pub AllHeeded : Bool → ℕ → Option ℕ → List Put → End → End → End → Type 0
+AllHeeded full now sent [] own far new = new ≡ own
+AllHeeded full now sent (x ∷ xs) own far new = (p : Peering) × (own.peer ≡ Some p) × InTime own far x × ((heeded full p now sent x.message).stop ≡ None)
+    × AllHeeded full now sent xs (with_peer own (heeded full p now sent x.message).after) far new
 
 -- time goes on at an end, whose throttle its host may limit then
 abbrev pub Ticks : ℕ → End → End → End → Type 0
@@ -92,12 +94,16 @@ Rests = (w : Around) (from old new : Site) (buf : List ℕ) → CallsAmong w fro
 abbrev pub Brings : Type 0
 Brings = (k : ℕ) (answer : Received) (d : Logged) (from old new : Site) → BringsOne from (Some d) answer old new → slice_get from.log k ≡ Some d → AreNamed from.log
     → (e : HostEnd) (own far : End) → IsEnd old e own → ShowsFar from e.connection far → IsLive own → (l : IsLogged far.log d) → d.connection ≡ e.connection → d.peer ≡ e.name.slot → d.peer ≢ no_peer → answer.stop ≡ None
-    → IsShownAs new e (λ end. AllObeyed old.host.clock l.header.sent l.puts own far end)
+    → IsShownAs new e (λ end. AllHeeded (is_full (listener_of old.host)) old.host.clock l.header.sent l.puts own far end)
 
--- one of another connection is nothing to it
+-- a CONNECT of another connection gets an end's slot: its peer waits for its client, and is let go
+abbrev pub GoesTo : Site → HostEnd → Logged → End → End → End → Type 0
+GoesTo old e d own far new = (d.peer ≡ no_peer) × (seat (host_basis old.host) old.host.slots ≡ Some e.name.slot) × Happens own far GiveWay new
+
+-- a datagram of another connection is nothing to an end, unless its slot goes to that connection
 abbrev pub PassesOver : Type 0
 PassesOver = (k : ℕ) (answer : Received) (d : Logged) (from old new : Site) → BringsOne from (Some d) answer old new → slice_get from.log k ≡ Some d → AreNamed from.log
-    → (e : HostEnd) (own far : End) → IsEnd old e own → ShowsFar from e.connection far → d.connection ≢ e.connection → IsShownAs new e (λ end. end ≡ own)
+    → (e : HostEnd) (own far : End) → IsEnd old e own → ShowsFar from e.connection far → d.connection ≢ e.connection → IsShownAs new e (λ end. (end ≡ own) ⊎ GoesTo old e d own far end)
 
 abbrev pub Times : Type 0
 Times = (w : Around) (from old new : Site) (ms : ℕ) → CallsAmong w from (call.Tick ms) old new → (e : HostEnd) (own far : End) → IsEnd old e own → IsLive own

@@ -1,7 +1,7 @@
 //! What can happen in a world of two hosts, and what is answered.
 
 use bytes::Bytes;
-use enet_codec::{DisconnectMode, Event, PeerRef, Received};
+use enet_codec::{Admission, DisconnectMode, Event, PeerRef, Received};
 
 /// One of the two sides.
 #[derive(Clone, Copy)]
@@ -74,6 +74,13 @@ pub enum WorldEvent {
         how: DisconnectMode,
         /// A word for the other side's user.
         info: u32,
+    },
+    /// The user of a side sets whom its host lets in: E8.
+    Admit {
+        /// The side whose user sets it.
+        side: Side,
+        /// What it sets.
+        what: Admission,
     },
 }
 

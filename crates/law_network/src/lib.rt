@@ -49,7 +49,7 @@ pub use settings::{set_bandwidth, set_ping_interval, set_timeout, throttle_confi
 /// times what the host's secret draws for it, and nothing if there is no secret.
 ///
 /// `answered`: where the network brings a datagram of a connection of which the host has no end, and an end begins, that is
-/// the law's answer to a CONNECT which the other end put out.
+/// the law's answer to a CONNECT which the other end put out. It may have the slot of a peer that was let go for it.
 pub fn each_thing_is_events()
     ensures goes_on { OneThing }
     ensures asked { Asked }
@@ -61,8 +61,9 @@ pub fn each_thing_is_events()
 /// `turns`: a turn by which the host puts a datagram out to another host. An end put it out, with just the commands that its log has more,
 /// in order; or it was asked in vain, or not asked, and nothing of its connection went. `rests`: a turn by which the host puts nothing out
 /// asks each end in vain. `brings`: of a datagram of the end's own connection that the network brings to its slot, and that no command
-/// stops, all commands come, in order. `passes_over`: one of another connection is nothing to it. `times`: where time goes on at the host
-/// it does at the end, whose throttle may be limited then. `takes_one`: where the host's user takes, the end gives an event, or none.
+/// stops, all commands come, in order. `passes_over`: one of another connection is nothing to it, unless its peer, who waits for its client,
+/// is let go for another. `times`: where time goes on at the host it does at the end, whose throttle may be limited then. `takes_one`:
+/// where the host's user takes, the end gives an event, or none.
 pub fn which_events_these_are()
     ensures turns { Turns }
     ensures rests { Rests }
