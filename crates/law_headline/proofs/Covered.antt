@@ -22,7 +22,7 @@ use Rattle.law_network.specs.Calls as call
 use Rattle.law_network.specs.Common.{common_of}
 use Rattle.law_network.specs.Falling as falling
 use Rattle.law_network.specs.Headline as owned
-use Rattle.law_network.specs.IsolationLaw.{Fares, untouched, goes_on, begins, having_emitted}
+use Rattle.law_network.specs.IsolationLaw.{Fares, untouched, goes_on, takes_over, begins, having_emitted}
 use Rattle.law_network.specs.Log.{Logged}
 use Rattle.law_network.specs.Network.{HostEnd, Site, is_same_name}
 use Rattle.law_network.specs.Steps.{Around, Happening, Calls, Delivers, HappensAmong, Called, BringsOne}
@@ -62,9 +62,10 @@ hosts-by is_host c old new acts speaks k i t p there has = by f.2
 
     by : Fares c (common_of old) i f.0 t → is_host t.address ≡ true
     by (untouched fell not' e) = ap (λ (z : SlotState). is_host z.address) e ∙ k i f.0 p f.1 (ap (λ (z : SlotState). z.peer) (sym e) ∙ has)
-    by (goes_on r q ds was fell alone e) =
+    by (goes_on r q ds was fell alone not' e) =
         let held : (with_peer f.0 q).peer ≡ Some p = ap (λ (z : SlotState). z.peer) (sym e) ∙ has in
         ap (λ (z : SlotState). is_host z.address) e ∙ ap is_host (kept-place q.state f.0 q p held) ∙ k i f.0 r f.1 was
+    by (takes_over r q ds was fell alone gone left b) = begun-there is_host c old i (with_peer f.0 q) t speaks b
     by (begins none left b) = begun-there is_host c old i f.0 t speaks b
 
 call-speaks : (w : Around) (from old new : Site) (c : Call) → HappensAmong w from (Calls c) old new → is_guest (Calls c) ≡ false → w.is_host from.address ≡ true → Speaks w.is_host c

@@ -24,14 +24,14 @@ use Rattle.law_network.specs.Calls.{Call, Acts}
 use Rattle.law_network.specs.Calls as call
 use Rattle.law_network.specs.Common.{common_of}
 use Rattle.law_network.specs.Falling as falling
-use Rattle.law_network.specs.IsolationLaw.{Fares, untouched, goes_on, begins, having_emitted}
+use Rattle.law_network.specs.IsolationLaw.{Fares, untouched, goes_on, takes_over, begins, having_emitted}
 use Rattle.law_network.specs.Log.{Logged, ChannelPackets, no_packets, packets_at, with_packets, with_submitted_packet, with_taken, fresh_channels}
 use Rattle.law_network.specs.Network.{HostEnd, Site, fresh_end, is_same_name, with_end}
 use Rattle.law_network.specs.Steps.{Around, Happening, Calls, Delivers, HappensAmong, Called, Logs, LogsIf, BringsOne, ends_after, after_event, with_packet, with_event, packets_by, begun}
 use Rattle.law_network.proofs.Counts.{fares-back}
 use Rattle.law_network.proofs.Growing.{more_of, more_in, begun-is}
 use Rattle.law_network.proofs.Keeping.{kept-there, kept-other, equal-or-not, part-stays, with-long}
-use Rattle.law_network.proofs.Names.{free-or, begun-generation, same-generations}
+use Rattle.law_network.proofs.Names.{free-or, begun-generation, over-generation, same-generations}
 use Rattle.law_network.proofs.OneThing.{event-ends}
 use Rattle.law_network.proofs.Single.{Does, does-named}
 use Rattle.law_network.proofs.Slots.{held, freed-in}
@@ -56,7 +56,10 @@ back-in old new name c s t low left (untouched none not' e) (inl before) = inl (
 back-in old new name c s t low left (untouched none not' e) (inr same) = inr (ap (λ (x : SlotState). x.generation) (sym e) ∙ same.0, ap (λ (x : SlotState). x.peer) (sym e) ∙ same.1)
 back-in old new name c s t low left (begins vacant room b) (inl before) = inl (let g : t.generation ≡ s.generation = begun-generation c old name.slot s t b in omega arith)
 back-in old new name c s t low left (begins vacant room b) (inr same) = inr (sym (begun-generation c old name.slot s t b) ∙ same.0, vacant)
-back-in old new name c s t low left (goes_on p q ds has fell alone e) future = by (free-or q.state)
+back-in old new name c s t low left (takes_over p q ds has fell alone gone room b) future =
+    let g : t.generation ≡ s.generation + 1 = over-generation c old name.slot s t q low gone room b in
+    elim future [ inl before ↦ inl (omega arith) | inr same ↦ inl (let a : t.generation ≡ name.generation = same.0 in omega arith) ]
+back-in old new name c s t low left (goes_on p q ds has fell alone none e) future = by (free-or q.state)
   where
     n : ℕ
     n = falling.counted c (common_of old) name.slot s
@@ -253,6 +256,7 @@ calls-change submitted taken w from old new (call.ConfigureThrottle name interva
 calls-change submitted taken w from old new (call.SetPingInterval name ms answer) x = quiet submitted taken (call.SetPingInterval name ms answer) old new (ap (λ (s : Site). s.ends) x.1) (λ n channel. refl) (λ n. refl)
 calls-change submitted taken w from old new (call.SetTimeout name limit minimum maximum answer) x = quiet submitted taken (call.SetTimeout name limit minimum maximum answer) old new (ap (λ (s : Site). s.ends) x.1) (λ n channel. refl) (λ n. refl)
 calls-change submitted taken w from old new (call.NextEvent None) x = quiet submitted taken (call.NextEvent None) old new (ap (λ (s : Site). s.ends) x.1) (λ n channel. refl) (λ n. refl)
+calls-change submitted taken w from old new (call.Admit what answer) x = quiet submitted taken (call.Admit what answer) old new (ap (λ (s : Site). s.ends) x.1) (λ n channel. refl) (λ n. refl)
 calls-change submitted taken w from old new (call.NextEvent (Some event)) x =
     let a : TakesOne old.host event new.host = x.0 in
     taken-one submitted taken event (name_of a.from a.first.slot) a.gives.taken.event old new a.gives.told (ap (λ (s : Site). s.ends) x.1)
@@ -296,8 +300,8 @@ fresh-unborn : (h : Host) (name : PeerRef) → IsFresh h name → IsUnborn h nam
 fresh-unborn h name f = record {
   slot = f.slot;
   there = f.there;
-  left = (let g : name.generation ≡ f.slot.generation = f.generation in let l : f.slot.generation < h.config.generations = f.left in omega arith);
-  future = inr (sym f.generation, f.vacant);
+  left = f.left;
+  future = f.future;
 }
 
 fresh-tells : (submitted : PeerRef → ℕ → List Packet) (taken : PeerRef → List Event) (x : ℕ) (name : PeerRef) → ((channel : ℕ) → submitted name channel ≡ []) → taken name ≡ [] → Tells submitted taken (fresh_end x name)
@@ -337,5 +341,5 @@ stays-recorded submitted taken w from old new what x k = record {
 
     begun-tells : (e : HostEnd) → Has more e → Tells (and_submitted submitted what) (and_taken taken what) e
     begun-tells e h =
-        let none = none-before e.name (fresh-unborn old.host e.name (fresh-more w from old new what x e h)) in
+        let none = none-before e.name (fresh-unborn old.host e.name (fresh-more w from old new what k.few x e h)) in
         subst (Tells (and_submitted submitted what) (and_taken taken what)) (sym (more-fresh w.count from old new what e h)) (fresh-tells (and_submitted submitted what) (and_taken taken what) e.connection e.name none.0 none.1)

@@ -1,6 +1,6 @@
 -- A call of a host, as what it adds to the end of one peer; to one that isn't there it adds nothing.
 use Rattle.std.proofs.Common.{◌≡◌, ◌≢◌, ℕ, Bool, true, false, cond, not, ◌==◌, ◌&&◌, nat_lt, List, [], ◌∷◌, ◌++◌, take, refl, sym, ap, subst, ◌∙◌, inl, inr, ◌⊎◌, arith, Option, Some, None, Ok, Err}
-use Rattle.std.specs.Prelude.{flat_map}
+use Rattle.std.specs.Prelude.{flat_map, is_some}
 use Rattle.std.specs.List.{slice_get}
 use Rattle.std.proofs.lemmas.Bool.{and_parts}
 use Rattle.std.proofs.lemmas.Bool.Decides.{nat_tests}
@@ -26,8 +26,8 @@ use Rattle.enet_slot.specs.Receiving.{is_same_address, is_deaf, fits_session, re
 use Rattle.enet_slot.specs.Slot.{SlotState, name_of}
 use Rattle.law_network.specs.Calls.{Call, Acts}
 use Rattle.law_network.specs.Calls as call
-use Rattle.law_network.specs.Common.{common_of}
-use Rattle.law_network.specs.Deeds.{Deed, Submit, Emit, Tick, Take}
+use Rattle.law_network.specs.Common.{Common, common_of}
+use Rattle.law_network.specs.Deeds.{Deed, Submit, Emit, Tick, Take, GiveWay, TellAgain}
 use Rattle.law_network.specs.Falling.{Falls, Reaches, Fell, deeds_if, is_meant, up_to, taken_up_to}
 use Rattle.law_network.specs.Falling as falling
 use Rattle.law_network.specs.Network.{is_same_name}
@@ -152,6 +152,7 @@ adds-nothing (call.ConfigureThrottle n interval acceleration deceleration answer
 adds-nothing (call.SetPingInterval n ms answer) old new name acts none = record { told = refl; accepted = refl; given = refl }
 adds-nothing (call.SetTimeout n limit minimum maximum answer) old new name acts none = record { told = refl; accepted = refl; given = refl }
 adds-nothing (call.NextEvent None) old new name acts none = record { told = refl; accepted = refl; given = refl }
+adds-nothing (call.Admit what answer) old new name acts none = record { told = refl; accepted = refl; given = refl }
 adds-nothing (call.NextEvent (Some (event.Connect n info))) old new name acts none =
     let x = teller-there old new (event.Connect n info) n acts refl in
     record { told = if-not (is_same_name name n) _ (not-same old.slots name n x.0 x.1 none); accepted = refl; given = refl }
@@ -244,17 +245,29 @@ heard-from s from session p e = by (is_deaf p.state) (is_same_address s.address 
     by false true rest e = refl
     by false false rest e = absurd (cc)
 
+silent : {a : Addr} → Silent a []
+silent = record { told = refl; accepted = refl; given = refl; brought = refl }
+
+nothing-said : {name : PeerRef} {from : Addr} {bytes : List ℕ} {answer : Received} → AddsNothing name (call.Receive from bytes answer)
+nothing-said = record { told = refl; accepted = refl; given = refl }
+
+-- a peer that was refused is told again at most
+reminds-silent : (a : Addr) (sent : Option ℕ) → Silent a (deeds_if (is_some sent) TellAgain)
+reminds-silent a None = silent
+reminds-silent a (Some time) = record { told = refl; accepted = refl; given = refl; brought = refl }
+
 -- a datagram that came
-adds-received : (name : PeerRef) (s : SlotState) (p : Peering) (a : Addr) → s.peer ≡ Some p → s.address ≡ a → (now : ℕ) (from : Addr) (bytes : List ℕ) (answer : Received) (ds : List Deed)
-    → Reaches name.slot s (record { now = now; from = from; bytes = bytes; answer = answer }) ds → Adds name a (call.Receive from bytes answer) ds
-adds-received name s p a held at now from bytes answer ds (falling.unreadable why u) =
-    adds-silent name a (call.Receive from bytes answer) [] (record { told = refl; accepted = refl; given = refl }) (record { told = refl; accepted = refl; given = refl; brought = refl })
-adds-received name s p a held at now from bytes answer ds (falling.elsewhere header commands read far) =
-    adds-silent name a (call.Receive from bytes answer) [] (record { told = refl; accepted = refl; given = refl }) (record { told = refl; accepted = refl; given = refl; brought = refl })
-adds-received name s p a held at now from bytes answer ds (falling.turned_away header commands why read some at' refused is) =
-    adds-silent name a (call.Receive from bytes answer) [] (record { told = refl; accepted = refl; given = refl }) (record { told = refl; accepted = refl; given = refl; brought = refl })
-adds-received name s p a held at now from bytes answer ds (falling.here header commands es read some at' open' falls) =
-    let k : Spoken a commands es = spoken a (record { now = now; sent = header.sent }) 0 commands answer es falls in
+adds-received : (name : PeerRef) (s : SlotState) (p : Peering) (a : Addr) → s.peer ≡ Some p → s.address ≡ a → (h : Common) (from : Addr) (bytes : List ℕ) (answer : Received) (ds : List Deed)
+    → Reaches name.slot s (record { host = h; from = from; bytes = bytes; answer = answer }) ds → Adds name a (call.Receive from bytes answer) ds
+adds-received name s p a held at h from bytes answer ds (falling.unreadable why u) = adds-silent name a (call.Receive from bytes answer) [] nothing-said silent
+adds-received name s p a held at h from bytes answer ds (falling.elsewhere header commands read far none) = adds-silent name a (call.Receive from bytes answer) [] nothing-said silent
+adds-received name s p a held at h from bytes answer ds (falling.gives_way header commands read gets) =
+    adds-silent name a (call.Receive from bytes answer) (GiveWay ∷ []) nothing-said (record { told = refl; accepted = refl; given = refl; brought = refl })
+adds-received name s p a held at h from bytes answer ds (falling.turned_away header commands why read some at' refused is) = adds-silent name a (call.Receive from bytes answer) [] nothing-said silent
+adds-received name s p a held at h from bytes answer ds (falling.told_again header commands read some at' open' was is) =
+    adds-silent name a (call.Receive from bytes answer) (deeds_if (is_some header.sent) TellAgain) nothing-said (reminds-silent a header.sent)
+adds-received name s p a held at h from bytes answer ds (falling.here header commands es read some at' open' was falls) =
+    let k : Spoken a commands es = spoken a _ 0 commands answer es falls in
     let same : is_same_address a from ≡ true = ap (λ (z : Addr). is_same_address z from) (sym at) ∙ heard-from s from header.session p (ap (λ (o : Option Peering). refused_by_peer s from header.session o) (sym held) ∙ open') in
     record {
       told = k.told;
@@ -319,7 +332,7 @@ adds (call.Submit n channel q (Ok done)) old new name p x a ds at acts fell =
 adds (call.Submit n channel q (Err e)) old new name p x a ds at acts fell =
     adds-of name a (call.Submit n channel q (Err e)) ds (deeds_if (is_meant n name.slot x.slot) (Submit (record { channel = channel; flags = q.flags; body = q.body }) (Err e))) fell (record { told = refl; accepted = refl; given = refl })
     (silent-if a _ (is_meant n name.slot x.slot) (record { told = refl; accepted = refl; given = refl; brought = refl }))
-adds (call.Receive from bytes answer) old new name p x a ds at acts fell = adds-received name x.slot p a x.peer at old.clock from bytes answer ds fell
+adds (call.Receive from bytes answer) old new name p x a ds at acts fell = adds-received name x.slot p a x.peer at (common_of old) from bytes answer ds fell
 adds (call.Service None buf) old new name p x a ds at acts fell =
     adds-of name a (call.Service None buf) ds (Emit old.clock None ∷ []) fell (record { told = refl; accepted = refl; given = refl }) (record { told = refl; accepted = refl; given = refl; brought = refl })
 adds (call.Service (Some gave) buf) old new name p x a ds at acts fell =
@@ -350,6 +363,8 @@ adds (call.SetBandwidth incoming outgoing (Err why)) old new name p x a ds at ac
 adds (call.ConfigureThrottle n interval acceleration deceleration answer) old new name p x a ds at acts fell =
     subst (Adds name a (call.ConfigureThrottle n interval acceleration deceleration answer)) (sym fell) (adds-silent name a (call.ConfigureThrottle n interval acceleration deceleration answer) _ (record { told = refl; accepted = refl; given = refl })
     (silent-if a _ (is_meant n name.slot x.slot) (record { told = refl; accepted = refl; given = refl; brought = refl })))
+adds (call.Admit what answer) old new name p x a ds at acts fell =
+    subst (Adds name a (call.Admit what answer)) (sym fell) (adds-silent name a (call.Admit what answer) _ (record { told = refl; accepted = refl; given = refl }) (record { told = refl; accepted = refl; given = refl; brought = refl }))
 adds (call.SetPingInterval n ms answer) old new name p x a ds at acts fell =
     subst (Adds name a (call.SetPingInterval n ms answer)) (sym fell) (adds-silent name a (call.SetPingInterval n ms answer) _ (record { told = refl; accepted = refl; given = refl })
     (silent-if a _ (is_meant n name.slot x.slot) (record { told = refl; accepted = refl; given = refl; brought = refl })))

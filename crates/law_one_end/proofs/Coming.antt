@@ -12,7 +12,7 @@ use Rattle.law_connection.proofs.CarriageLemmas.{Has-append_left, Has-append_rig
 use Rattle.law_connection.proofs.Lists.{Has-append_cases}
 use Rattle.law_network.specs.Deeds.{Deed}
 use Rattle.law_network.specs.Deeds as deed
-use Rattle.law_one_end.specs.OneEnd.{Heard, OneEnd, Event, Submit, Emit, Come, Tick, Take, Disconnect, Set, heard_as, Happens, Runs, beginning}
+use Rattle.law_one_end.specs.OneEnd.{Heard, OneEnd, Event, Submit, Emit, Come, Tick, Take, Disconnect, Set, GiveWay, TellAgain, heard_as, Happens, Runs, beginning}
 use Rattle.law_one_end.specs.Hosts.{message_in, event_in}
 
 -- the command that came by an event
@@ -33,7 +33,7 @@ came-once : (event : Event) (e new : OneEnd) → Happens e event new → (h : He
 came-once (Submit q) e new k h there = inl (subst (λ (x : OneEnd). Has x.came h) k.1 there)
 came-once (Emit now) e new k h there = inl (subst (λ (x : OneEnd). Has x.came h) k there)
 came-once (Come m now sent) e new k h there =
-    elim (Has-append_cases e.came (heard_as m.head.channel (e.fronts m.head.channel) (data_of m)) h (subst (λ (x : OneEnd). Has x.came h) k.1 there)) [
+    elim (Has-append_cases e.came (heard_as m.head.channel (e.fronts m.head.channel) (data_of m)) h (subst (λ (x : OneEnd). Has x.came h) k.2 there)) [
       | inl old ↦ inl old
       | inr more ↦ (let i = heard-is m.head.channel (e.fronts m.head.channel) (data_of m) h more in inr (m, inl refl, i.0, i.1))
     ]
@@ -41,6 +41,8 @@ came-once (Tick now) e new k h there = inl (subst (λ (x : OneEnd). Has x.came h
 came-once Take e new k h there = inl (subst (λ (x : OneEnd). Has x.came h) k.3 there)
 came-once (Disconnect way info) e new k h there = inl (subst (λ (x : OneEnd). Has x.came h) k.2 there)
 came-once (Set setting) e new k h there = inl (subst (λ (x : OneEnd). Has x.came h) k.1 there)
+came-once GiveWay e new k h there = inl (subst (λ (x : OneEnd). Has x.came h) k.1 there)
+came-once TellAgain e new k h there = inl (subst (λ (x : OneEnd). Has x.came h) k.1 there)
 
 came-by : (es : List Event) (e new : OneEnd) → Runs es e new → (h : Heard) → Has new.came h → Has e.came h ⊎ IsOf (flat_map came_in es) h
 came-by [] e new r h there = inl (subst (λ (x : OneEnd). Has x.came h) (sym r) there)
@@ -57,20 +59,20 @@ of-deed : (d : Deed) (m : Message) → Has (flat_map came_in (event_in d)) m →
 of-deed (deed.Submit q (Ok done)) m there = there
 of-deed (deed.Submit q (Err why)) m there = there
 of-deed (deed.Emit now given) m there = there
-of-deed (deed.Come now sent x (Ok done)) m there = there
-of-deed (deed.Come now sent x (Err stop.Memory)) m there = absurd there
-of-deed (deed.Come now sent x (Err stop.Short)) m there = there
-of-deed (deed.Come now sent x (Err stop.Compressed)) m there = there
-of-deed (deed.Come now sent x (Err stop.UnknownPeer)) m there = there
-of-deed (deed.Come now sent x (Err stop.WrongAddress)) m there = there
-of-deed (deed.Come now sent x (Err stop.WrongSession)) m there = there
-of-deed (deed.Come now sent x (Err stop.BadCommand)) m there = there
-of-deed (deed.Come now sent x (Err stop.NotConnected)) m there = there
-of-deed (deed.Come now sent x (Err stop.BadChannel)) m there = there
-of-deed (deed.Come now sent x (Err stop.BadFragment)) m there = there
-of-deed (deed.Come now sent x (Err stop.Waiting)) m there = there
-of-deed (deed.Come now sent x (Err stop.NoSentTime)) m there = there
-of-deed (deed.Come now sent x (Err stop.NoSlot)) m there = there
+of-deed (deed.Come a x (Ok done)) m there = there
+of-deed (deed.Come a x (Err stop.Memory)) m there = absurd there
+of-deed (deed.Come a x (Err stop.Short)) m there = there
+of-deed (deed.Come a x (Err stop.Compressed)) m there = there
+of-deed (deed.Come a x (Err stop.UnknownPeer)) m there = there
+of-deed (deed.Come a x (Err stop.WrongAddress)) m there = there
+of-deed (deed.Come a x (Err stop.WrongSession)) m there = there
+of-deed (deed.Come a x (Err stop.BadCommand)) m there = there
+of-deed (deed.Come a x (Err stop.NotConnected)) m there = there
+of-deed (deed.Come a x (Err stop.BadChannel)) m there = there
+of-deed (deed.Come a x (Err stop.BadFragment)) m there = there
+of-deed (deed.Come a x (Err stop.Waiting)) m there = there
+of-deed (deed.Come a x (Err stop.NoSentTime)) m there = there
+of-deed (deed.Come a x (Err stop.NoSlot)) m there = there
 of-deed (deed.Tick now short) m there = there
 of-deed (deed.Take None) m there = there
 of-deed (deed.Take (Some e)) m there = there
@@ -78,6 +80,8 @@ of-deed (deed.Disconnect way info (Ok done)) m there = there
 of-deed (deed.Disconnect way info (Err why)) m there = there
 of-deed (deed.Set setting (Ok done)) m there = there
 of-deed (deed.Set setting (Err why)) m there = there
+of-deed deed.GiveWay m there = there
+of-deed deed.TellAgain m there = there
 
 of-deeds : (ds : List Deed) (m : Message) → Has (flat_map came_in (flat_map event_in ds)) m → Has (flat_map message_in ds) m
 of-deeds [] m there = there

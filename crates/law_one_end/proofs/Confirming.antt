@@ -39,16 +39,18 @@ use Rattle.enet_peer.specs.declared.parts.PeerState.{PeerState}
 use Rattle.enet_peer.specs.declared.parts.PeerState.TheVariants as state
 use Rattle.enet_peer.specs.Peering.{Peering, answering}
 use Rattle.enet_peer.specs.Calls.{pace_of, gone_on, left, after_timeouts_by, expiry_of, held_back, is_held_back, moved, ticked, pinged, is_connected}
-use Rattle.enet_peer.specs.CommandEffect.{obeyed, unless_refused, answered, answered_at, is_answered_in, acknowledged, on_match, accepted as accepted_by}
+use Rattle.enet_peer.specs.CommandEffect.{Outcome, obeyed, unless_refused, answered, answered_at, is_answered_in, acknowledged, on_match, accepted as accepted_by}
 use Rattle.enet_peer.specs.Endings.{freed, parting}
+use Rattle.enet_peer.specs.Refusing.{full_word, heeded, told_again, told_full}
 use Rattle.enet_peer.proofs.Obeying.{unless-holds}
+use Rattle.enet_peer.proofs.Refusals.{heeded-holds}
 use Rattle.law_connection.specs.Invariant.{is_young}
 use Rattle.law_connection.specs.Steps.{Way, Asking, Now, Later, leave_by, Setting, Bandwidth, Throttle, ThrottleLimit, PingInterval, Timeout, MaySet, with_setting}
 use Rattle.law_connection.proofs.Emits.{Has-from_map}
 use Rattle.law_connection.proofs.Events.{accepted, took}
 use Rattle.law_connection.proofs.Lists.{Has-push_cases, Has-push_left, Has-push, Has-slice_get}
-use Rattle.law_connection.proofs.PeerChanges.{Core, Changes, kept-moved, kept-left, kept-set, kept-emitted, kept-obeyed}
-use Rattle.law_one_end.specs.OneEnd.{OneEnd, Event, Submit, Emit, Come, Tick, Take, Disconnect, Set, Happens, Runs, beginning, with_emission}
+use Rattle.law_connection.proofs.PeerChanges.{Core, Changes, kept-moved, kept-left, kept-set, kept-emitted, kept-heeded, kept-told_again}
+use Rattle.law_one_end.specs.OneEnd.{OneEnd, Event, Submit, Emit, Come, Tick, Take, Disconnect, Set, GiveWay, TellAgain, Happens, Runs, beginning, with_emission}
 use Rattle.law_one_end.specs.Confirmed.{IsConfirmed, IsToldConfirmed, AnsweringIsConfirmed}
 use Rattle.law_one_end.specs.Refuted.{GuessIsRefused}
 use Rattle.law_one_end.proofs.Sending.{Has-set, Has-remove}
@@ -294,6 +296,7 @@ pasts = record {
   welcomes = λ p v terms e big word h. absurd (let z : true ≡ false = sym (ap is_young e) ∙ h.past in cc);
   acknowledges = λ p j number here h. record { past = h.past; none = h.none };
   marks = λ p tick h. record { past = h.past; none = h.none };
+  refuses = λ p at h. absurd (let z : true ≡ false = sym (ap is_young at) ∙ h.past in cc);
   holds_back = λ p tick at h. record { past = h.past; none = h.none };
   gives_way = λ p on h. record { past = h.past; none = h.none };
   takes = λ p j r c on there h. record { past = h.past; none = h.none };
@@ -488,6 +491,32 @@ young-obeyed S answer offset p h now sent body y = subst (λ (x : Peering). Afte
         match (matched.Control what) e = inl (inl less)
     by b = inl (inl stays)
 
+-- a host that is full, and what it tells one that it refused
+awaits-told : (S : ℕ → Type 0) (answer : Numbered) (c : Commands) → Awaits S answer (controlling.with_queued (controlling.cleared c) (control.DisconnectNow full_word))
+awaits-told S answer c = record {
+  queued = λ m h a. elim h [
+    | inl same ↦ absurd (let z : false ≡ true = ap (λ (x : Numbered). is_answer x.control) same ∙ a in cc)
+    | inr none ↦ absurd none
+  ];
+  sent = λ t h a. absurd h;
+}
+
+young-told : (S : ℕ → Type 0) (answer : Numbered) (offset : ℕ) (p : Peering) → Young S answer offset p → Young S answer offset (told_full p)
+young-told S answer offset p y = record { on = y.on; none = y.none; same = y.same; awaits = awaits-told S answer p.outbox.control }
+
+young-again : (S : ℕ → Type 0) (answer : Numbered) (offset : ℕ) (p : Peering) → Young S answer offset p → Young S answer offset (told_again p)
+young-again S answer offset p y = by (ltb 0 (length p.outbox.control.queued))
+  where
+    by : (b : Bool) → Young S answer offset (cond b p (told_full p))
+    by true = y
+    by false = young-told S answer offset p y
+
+young-heeded : (S : ℕ → Type 0) (answer : Numbered) (offset : ℕ) (full : Bool) (p : Peering) (now : ℕ) (sent : Option ℕ) (m : Message) → Young S answer offset p → After S answer offset m (heeded full p now sent m).after
+young-heeded S answer offset full p now sent m y =
+    let k = young-told S answer offset p y in
+    heeded-holds (λ (o : Outcome). After S answer offset m o.after) full p now sent m (young-obeyed S answer offset p m.head now sent m.body y)
+    (λ answers. inl (inl (record { on = k.on; none = k.none; same = k.same; awaits = k.awaits })))
+
 -- ---- the run
 -- the answer went at this time, among these events
 record WentAt (first : OneEnd) (events : List Event) (answer : Numbered) (time : ℕ) : Type 0 where
@@ -594,14 +623,20 @@ stands-next first answer events (Emit now) e new runs h (inl y) none = inl (subs
     went time (inr new') = record { before = events; behind = []; went = now; end = e; runs = runs; goes = new'.1; is = new'.0; whole = refl }
 stands-next first answer events (Emit now) e new runs h (inr p) none = inl (subst (λ (z : OneEnd). Stage (WentAt first (events ++ Emit now ∷ []) answer) answer first.peer.offset z.peer × NoConnect z.taken) (sym h)
     (inr (kept-emitted Past pasts e.peer now p), none))
-stands-next first answer events (Come m now sent) e new runs h (inl y) none = by (young-obeyed (WentAt first events answer) answer first.peer.offset e.peer m.head now sent m.body y)
+stands-next first answer events (Come m now sent) e new runs h (inl y) none = by (young-heeded (WentAt first events answer) answer first.peer.offset h.1 e.peer now sent m y)
   where
-    by : After (WentAt first events answer) answer first.peer.offset m (obeyed e.peer now sent m).after → Stands first answer (events ++ Come m now sent ∷ []) new
-    by (inl k) = inl (subst (λ (z : OneEnd). Stage (WentAt first (events ++ Come m now sent ∷ []) answer) answer first.peer.offset z.peer × NoConnect z.taken) (sym h.1)
-        (goes-on first answer events (Come m now sent) (obeyed e.peer now sent m).after k, none))
+    by : After (WentAt first events answer) answer first.peer.offset m (heeded h.1 e.peer now sent m).after → Stands first answer (events ++ Come m now sent ∷ []) new
+    by (inl k) = inl (subst (λ (z : OneEnd). Stage (WentAt first (events ++ Come m now sent ∷ []) answer) answer first.peer.offset z.peer × NoConnect z.taken) (sym h.2)
+        (goes-on first answer events (Come m now sent) (heeded h.1 e.peer now sent m).after k, none))
     by (inr k) = inr (confirms first events answer m now sent h.0 k)
-stands-next first answer events (Come m now sent) e new runs h (inr p) none = inl (subst (λ (z : OneEnd). Stage (WentAt first (events ++ Come m now sent ∷ []) answer) answer first.peer.offset z.peer × NoConnect z.taken) (sym h.1)
-    (inr (kept-obeyed Past pasts e.peer m.head now sent m.body p), none))
+stands-next first answer events (Come m now sent) e new runs h (inr p) none = inl (subst (λ (z : OneEnd). Stage (WentAt first (events ++ Come m now sent ∷ []) answer) answer first.peer.offset z.peer × NoConnect z.taken) (sym h.2)
+    (inr (kept-heeded Past pasts h.1 e.peer m.head now sent m.body p), none))
+stands-next first answer events GiveWay e new runs h s none = inl (subst (λ (z : OneEnd). Stage (WentAt first (events ++ GiveWay ∷ []) answer) answer first.peer.offset z.peer × NoConnect z.taken) (sym h.1)
+    (inr (record { past = refl; none = refl }), none))
+stands-next first answer events TellAgain e new runs h (inl y) none = inl (subst (λ (z : OneEnd). Stage (WentAt first (events ++ TellAgain ∷ []) answer) answer first.peer.offset z.peer × NoConnect z.taken) (sym h.1)
+    (goes-on first answer events TellAgain (told_again e.peer) (inl (young-again (WentAt first events answer) answer first.peer.offset e.peer y)), none))
+stands-next first answer events TellAgain e new runs h (inr p) none = inl (subst (λ (z : OneEnd). Stage (WentAt first (events ++ TellAgain ∷ []) answer) answer first.peer.offset z.peer × NoConnect z.taken) (sym h.1)
+    (inr (kept-told_again Past pasts e.peer h.0 p), none))
 stands-next first answer events (Tick now) e new runs h (inl y) none = inl (subst (λ (z : OneEnd). Stage (WentAt first (events ++ Tick now ∷ []) answer) answer first.peer.offset z.peer × NoConnect z.taken) (sym h.1)
     (goes-on first answer events (Tick now) (moved h.0 e.peer now) (young-moved (WentAt first events answer) answer first.peer.offset h.0 e.peer now y), none))
 stands-next first answer events (Tick now) e new runs h (inr p) none = inl (subst (λ (z : OneEnd). Stage (WentAt first (events ++ Tick now ∷ []) answer) answer first.peer.offset z.peer × NoConnect z.taken) (sym h.1)

@@ -10,14 +10,16 @@ use Rattle.enet_codec.specs.Message.{Message, IsMessage}
 use Rattle.enet_outbox.specs.Emission.{filled, datagram}
 use Rattle.enet_peer.specs.declared.parts.PeerEvent.{PeerEvent}
 use Rattle.enet_peer.specs.Peering.{Peering}
-use Rattle.enet_peer.specs.CommandEffect.{Outcome, Obeys, obeyed, wants_memory}
+use Rattle.enet_peer.specs.CommandEffect.{Outcome, Obeys, wants_memory}
+use Rattle.enet_peer.specs.Handling.{Arrival}
+use Rattle.enet_peer.specs.Refusing.{heeded}
 use Rattle.enet_peer.specs.Calls.{pace_of, destination_of}
 use Rattle.enet_receiver.specs.Members.{Has}
 use Rattle.law_connection.proofs.CarriageLemmas.{Has-append_left, Has-append_right}
 use Rattle.law_network.specs.Deeds.{Deed, Alone, AllAlone, bytes_of}
 use Rattle.law_network.specs.Deeds as deed
 use Rattle.law_network.proofs.Matching.{was-set, matches}
-use Rattle.law_one_end.specs.OneEnd.{OneEnd, Event, Come, Tick, Disconnect, Set, with_peer, with_submission, with_emission, with_come, Runs}
+use Rattle.law_one_end.specs.OneEnd.{OneEnd, Event, Come, Tick, Disconnect, Set, GiveWay, TellAgain, with_peer, with_submission, with_emission, with_come, Runs}
 use Rattle.law_one_end.specs.Hosts.{AreOf, message_in, event_in}
 
 -- what a deed adds to the lists of an end
@@ -106,12 +108,12 @@ some-put p now [] bytes e = absurd (cc)
 some-put p now (m ∷ ms) bytes e = cc
 
 -- a command comes
-led-come : (a : Addr) (e : OneEnd) (now : ℕ) (sent : Option ℕ) (m : Message) (q : Peering) → IsMessage m → q ≡ (obeyed e.peer now sent m).after → Led a e (Come m now sent ∷ []) [] [] [] q
-led-come a e now sent m q is after =
-    let p : Peering = (obeyed e.peer now sent m).after in
+led-come : (a : Addr) (e : OneEnd) (full : Bool) (now : ℕ) (sent : Option ℕ) (m : Message) (q : Peering) → IsMessage m → q ≡ (heeded full e.peer now sent m).after → Led a e (Come m now sent ∷ []) [] [] [] q
+led-come a e full now sent m q is after =
+    let p : Peering = (heeded full e.peer now sent m).after in
     record {
       end = with_come e m p;
-      runs = (with_come e m p, (is, refl), refl);
+      runs = (with_come e m p, (is, full, refl), refl);
       peer = sym after;
       taken = sym (append-nil e.taken);
       submitted = sym (append-nil e.submitted);
@@ -121,20 +123,20 @@ led-come a e now sent m q is after =
     }
 
 -- or it is refused for want of memory alone
-led-answered : (a : Addr) (e : OneEnd) (now : ℕ) (sent : Option ℕ) (m : Message) (q : Peering) → IsMessage m → (answer : Result (Unit {0}) Stop)
-    → Obeys answer (wants_memory e.peer now sent m) (obeyed e.peer now sent m) e.peer q → Led a e (event_in (deed.Come now sent m answer)) [] [] [] q
-led-answered a e now sent m q is answer h = by answer h
+led-answered : (a : Addr) (e : OneEnd) (how : Arrival) (m : Message) (q : Peering) → IsMessage m → (answer : Result (Unit {0}) Stop)
+    → Obeys answer (wants_memory e.peer how.now how.sent m) (heeded how.full e.peer how.now how.sent m) e.peer q → Led a e (event_in (deed.Come how m answer)) [] [] [] q
+led-answered a e how m q is answer h = by answer h
   where
     wants : Bool
-    wants = wants_memory e.peer now sent m
+    wants = wants_memory e.peer how.now how.sent m
 
     o : Outcome
-    o = obeyed e.peer now sent m
+    o = heeded how.full e.peer how.now how.sent m
 
-    came : q ≡ o.after → Led a e (Come m now sent ∷ []) [] [] [] q
-    came after = led-come a e now sent m q is after
+    came : q ≡ o.after → Led a e (Come m how.now how.sent ∷ []) [] [] [] q
+    came after = led-come a e how.full how.now how.sent m q is after
 
-    by : (answer : Result (Unit {0}) Stop) → Obeys answer wants o e.peer q → Led a e (event_in (deed.Come now sent m answer)) [] [] [] q
+    by : (answer : Result (Unit {0}) Stop) → Obeys answer wants o e.peer q → Led a e (event_in (deed.Come how m answer)) [] [] [] q
     by (Ok done) h = came h.1
     by (Err stop.Memory) h = led-nothing a e q h.2
     by (Err stop.Short) h = came h.1
@@ -185,7 +187,7 @@ led-deed a e (deed.Emit now (Some bytes)) q alone is =
       puts = (now, destination_of e.peer, ms, [], ap (λ (l : List ℕ). (a, l)) (some-put e.peer now ms bytes alone.0), sym (append-nil ms), refl);
       put = refl;
     }
-led-deed a e (deed.Come now sent m answer) q alone is = led-answered a e now sent m q (is m (inl refl)) answer alone
+led-deed a e (deed.Come how m answer) q alone is = led-answered a e how m q (is m (inl refl)) answer alone
 led-deed a e (deed.Tick now short) q alone is = one-event a e (Tick now) q (with_peer e q, (short, ap (λ (x : Peering). with_peer e x) alone), refl)
 led-deed a e (deed.Take None) q alone is = led-nothing a e q alone.1
 led-deed a e (deed.Take (Some t)) q alone is = record {
@@ -204,6 +206,8 @@ led-deed a e (deed.Set s (Ok done)) q alone is =
     let set = was-set s done e.peer q alone in
     one-event a e (Set s) q (with_peer e q, (set.0, ap (λ (x : Peering). with_peer e x) set.1), refl)
 led-deed a e (deed.Set s (Err why)) q alone is = led-nothing a e q (matches.refused (deed.Set s (Err why)) e.peer q alone refl)
+led-deed a e deed.GiveWay q alone is = one-event a e GiveWay q (with_peer e q, (alone.0, ap (λ (x : Peering). with_peer e x) alone.1), refl)
+led-deed a e deed.TellAgain q alone is = one-event a e TellAgain q (with_peer e q, (alone.0, ap (λ (x : Peering). with_peer e x) alone.1), refl)
 
 -- and all deeds, in order
 pub led-deeds : (a : Addr) (ds : List Deed) (e : OneEnd) (q : Peering) → AllAlone ds e.peer q → ((m : Message) → Has (flat_map message_in ds) m → IsMessage m)

@@ -1,5 +1,5 @@
 -- A short run: a packet comes and is taken.
-use Rattle.std.proofs.Common.{◌≡◌, ◌<◌, [], ◌∷◌, refl, sym, ap, subst, inl, inr, arith, Some}
+use Rattle.std.proofs.Common.{◌≡◌, ◌<◌, false, [], ◌∷◌, refl, sym, ap, subst, inl, inr, arith, Some}
 use Rattle.enet_codec.specs.Message.{IsMessage}
 use Rattle.enet_receiver.specs.Members.{Has}
 use Rattle.enet_sender.specs.CommandChoice.{ChosenPacket}
@@ -70,7 +70,7 @@ a-packet-is-taken = (
   took,
   (
     heard,
-    (is-message, ap (with_come start first_message) (sym (first-comes here refl).1)),
+    (is-message, false, ap (with_come start first_message) (sym (first-comes here refl).1)),
     (
       took,
       (

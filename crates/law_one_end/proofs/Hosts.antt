@@ -11,16 +11,16 @@ use Rattle.enet_peer.specs.declared.parts.PeerState.TheVariants as state
 use Rattle.enet_peer.specs.Peering.{Peering, connecting, answering}
 use Rattle.enet_slot.specs.Giving.{limits_of, offer_from, drawn_for, server_from}
 use Rattle.enet_slot.specs.Slot.{SlotState, with_peer, greatest}
-use Rattle.law_network.specs.Beginnings.{BeginsAs}
+use Rattle.law_network.specs.Beginnings.{was_free, was_left, BeginsAs}
 use Rattle.law_network.specs.Calls.{Call, Acts, Steps, Series}
 use Rattle.law_network.specs.Common.{Common, common_of}
 use Rattle.law_network.specs.Deeds.{Deed, AllAlone}
 use Rattle.law_network.specs.Falling.{Fell, FellAll, Begins, asks, answers, counted}
-use Rattle.law_network.specs.IsolationLaw.{Stays, Fares, untouched, goes_on, begins, having_emitted}
+use Rattle.law_network.specs.IsolationLaw.{Stays, Fares, untouched, goes_on, takes_over, begins, having_emitted}
 use Rattle.law_network.proofs.AllCalls.{spent-all, fell-there}
 use Rattle.law_network.proofs.Counts.{fares-back}
 use Rattle.law_network.proofs.IsolationKeeping.{each-keeps}
-use Rattle.law_network.proofs.Names.{free-or, IsThere, named-there, there-slot, there-named, slot-named, IsSpent, same-generations, begun-generation, past-freed, spent-step, spent-nobody}
+use Rattle.law_network.proofs.Names.{free-or, IsThere, named-there, there-slot, there-named, IsSpent, same-generations, begun-generation, past-freed, over-past, spent-step, spent-nobody}
 use Rattle.law_network.proofs.OneCall.{one-call}
 use Rattle.law_network.proofs.Slots.{held, freed-in}
 use Rattle.law_one_end.specs.OneEnd.{OneEnd, Event, Runs, beginning}
@@ -163,24 +163,37 @@ lives-step c cs old new steps name a p x at low e is later = by
         let r = later q (record { slot = t; there = there; same = generation ∙ x.same; peer = peer }) (address ∙ at) one.end one.peer in
         (lives-on c cs old new steps name p q x a ds e at is fell one r.0, (here, r.1))
 
+    -- the peer in the slot is that of the name
+    owned : (r q : Peering) (ds : List Deed) → x.slot.peer ≡ Some r → Fell (common_of old) (record { number = name.slot; slot = x.slot; peer = r }) c ds → AllAlone ds r q
+        → Fell (common_of old) (record { number = name.slot; slot = x.slot; peer = p }) c ds × AllAlone ds p q
+    owned r q ds has fell alone =
+        let own : r ≡ p = one-peer x.slot.peer r p has x.peer in
+        (subst (λ (z : Peering). Fell (common_of old) (record { number = name.slot; slot = x.slot; peer = z }) c ds) own fell, subst (λ (z : Peering). AllAlone ds z q) own alone)
+
+    -- it is gone after the call
+    ends : (r q : Peering) (ds : List Deed) → x.slot.peer ≡ Some r → Fell (common_of old) (record { number = name.slot; slot = x.slot; peer = r }) c ds → AllAlone ds r q → IsSpent steps.0 name → Stayed name a (c ∷ cs) old new steps e
+    ends r q ds has fell alone spent =
+        let own = owned r q ds has fell alone in
+        let one = called c old steps.0 name p q x a ds e at is steps.1 own.0 own.1 in
+        let r = gone cs steps.0 new steps.2 name a few spent in
+        let none = spent-all cs steps.0 new steps.2 name few spent in
+        (lives-on c cs old new steps name p q x a ds e at is own.0 one (lives-no-more name a cs (record { before = steps.0; after = new; steps = steps.2 }) one.end none.0 r.0), (here, r.1))
+
     by : (t : SlotState) → slice_get steps.0.slots name.slot ≡ Some t → Fares c (common_of old) name.slot x.slot t → Stayed name a (c ∷ cs) old new steps e
     by t there (untouched none not' same) =
         let k : Stays c (common_of old) name.slot x.slot p = none p x.peer in
         on p t k.deeds there (ap (λ (s : SlotState). s.generation) same) (ap (λ (s : SlotState). s.address) same) (ap (λ (s : SlotState). s.peer) same ∙ x.peer) k.fell k.alone
-    by t there (goes_on r q ds has fell alone same) =
+    by t there (goes_on r q ds has fell alone none same) =
         let n : ℕ = counted c (common_of old) name.slot x.slot in
-        let own : r ≡ p = one-peer x.slot.peer r p has x.peer in
-        let fell2 : Fell (common_of old) (record { number = name.slot; slot = x.slot; peer = p }) c ds = subst (λ (z : Peering). Fell (common_of old) (record { number = name.slot; slot = x.slot; peer = z }) c ds) own fell in
-        let alone2 : AllAlone ds p q = subst (λ (z : Peering). AllAlone ds z q) own alone in
         elim (free-or q.state) [
           | inl free ↦
-              let one = called c old steps.0 name p q x a ds e at is steps.1 fell2 alone2 in
-              let spent : IsSpent steps.0 name = record { slot = t; there = there; past = past-freed steps.0 name x.slot t q n few (let g : x.slot.generation ≡ name.generation = x.same in omega arith) free same } in
-              let r = gone cs steps.0 new steps.2 name a few spent in
-              let none = spent-all cs steps.0 new steps.2 name few spent in
-              (lives-on c cs old new steps name p q x a ds e at is fell2 one (lives-no-more name a cs (record { before = steps.0; after = new; steps = steps.2 }) one.end none.0 r.0), (here, r.1))
-          | inr live ↦ (let z = stands x.slot t q n live same in on q t ds there z.generation z.address z.peer fell2 alone2)
+              ends r q ds has fell alone
+              (record { slot = t; there = there; past = past-freed steps.0 name x.slot t q n few (let g : x.slot.generation ≡ name.generation = x.same in omega arith) free same })
+          | inr live ↦ (let z = stands x.slot t q n live same in let own = owned r q ds has fell alone in on q t ds there z.generation z.address z.peer own.0 own.1)
         ]
+    by t there (takes_over r q ds has fell alone free left b) =
+        ends r q ds has fell alone
+        (record { slot = t; there = there; past = inl (over-past c old name.slot x.slot t q low free left b name.generation (let g : x.slot.generation ≡ name.generation = x.same in omega arith)) })
     by t there (begins none left b) = no-peer x.slot.peer p none x.peer
 
 lives : (cs : List Call) (old new : Host) (steps : Steps cs old new) (name : PeerRef) (a : Addr) (p : Peering) (x : IsThere old.slots name p) → x.slot.address ≡ a → old.config.generations ≤ greatest → (e : OneEnd) → e.peer ≡ p → Stayed name a cs old new steps e
@@ -198,12 +211,25 @@ begun : (c : Call) (old : Host) (name : PeerRef) (s t : SlotState) (p : Peering)
     → Fares c (common_of old) name.slot s t → (x : BeginsAs c old name p) × (x.given ≡ t)
 begun c old name s t p there same has none (untouched stays not' e) =
     not-there old.slots name p none (record { slot = s; there = there; same = sym (ap (λ (x : SlotState). x.generation) e) ∙ same; peer = sym (ap (λ (x : SlotState). x.peer) e) ∙ has })
-begun c old name s t p there same has none (goes_on r q ds was fell alone e) = elim (free-or q.state) [
+begun c old name s t p there same has none (goes_on r q ds was fell alone not' e) = elim (free-or q.state) [
   | inl free ↦ no-peer t.peer p (ap (λ (x : SlotState). x.peer) (e ∙ ap (λ (x : SlotState). having_emitted x (counted c (common_of old) name.slot s)) (freed-in s q free))) has
   | inr live ↦ (let z = stands s t q (counted c (common_of old) name.slot s) live e in not-there old.slots name r none (record { slot = s; there = there; same = sym z.generation ∙ same; peer = was }))
 ]
+begun c old name s t p there same has none (takes_over r q ds was fell alone free left b) = (
+  record {
+    before = s;
+    there = there;
+    slot = with_peer s q;
+    ready = was_left r q ds was fell alone free;
+    same = sym (begun-generation c old name.slot (with_peer s q) t b) ∙ same;
+    given = t;
+    begins = b;
+    peer = has;
+  },
+  refl,
+)
 begun c old name s t p there same has none (begins free left b) =
-    (record { slot = s; there = slot-named old.slots name s there (sym (begun-generation c old name.slot s t b) ∙ same); given = t; begins = b; peer = has }, refl)
+    (record { before = s; there = there; slot = s; ready = was_free free; same = sym (begun-generation c old name.slot s t b) ∙ same; given = t; begins = b; peer = has }, refl)
 
 -- so the laws of one end hold of it
 

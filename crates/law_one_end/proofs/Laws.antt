@@ -1,5 +1,5 @@
 -- The law of one end, by induction over what happens there.
-use Rattle.std.proofs.Common.{◌≡◌, ℕ, true, List, [], ◌∷◌, ◌++◌, refl, sym, ap, subst, ◌∙◌, inl, inr, ◌⊎◌, Option, Some, None, append_assoc}
+use Rattle.std.proofs.Common.{◌≡◌, ℕ, Bool, true, List, [], ◌∷◌, ◌++◌, refl, sym, ap, subst, ◌∙◌, inl, inr, ◌⊎◌, Option, Some, None, append_assoc}
 use Rattle.std.proofs.lemmas.List.{append-nil, map-append}
 use Rattle.std.specs.List.{slice_get, range_with_len}
 use Rattle.enet_codec.specs.declared.packet.Packet.{Packet}
@@ -19,7 +19,8 @@ use Rattle.enet_peer.specs.declared.parts.PeerEvent.{PeerEvent}
 use Rattle.enet_peer.specs.declared.parts.PeerEvent.TheVariants as told
 use Rattle.enet_peer.specs.declared.parts.PeerState.TheVariants as state
 use Rattle.enet_peer.specs.Peering.{Peering, joined, connecting, answering}
-use Rattle.enet_peer.specs.CommandEffect.{obeyed}
+use Rattle.enet_peer.specs.Endings.{freed}
+use Rattle.enet_peer.specs.Refusing.{heeded, told_again}
 use Rattle.enet_peer.specs.Calls.{moved, next_event, pace_of}
 use Rattle.law_connection.specs.Connection.{packets_of, in_sequence}
 use Rattle.law_connection.specs.Follows.{FollowsCarried}
@@ -35,13 +36,13 @@ use Rattle.law_connection.proofs.Lists.{Has-append_cases}
 use Rattle.law_connection.proofs.Moves.{packets-push}
 use Rattle.law_connection.proofs.Runs.{get-map}
 use Rattle.law_connection.proofs.WireReceiver.{Shows-nothing}
-use Rattle.law_one_end.specs.OneEnd.{OneEnd, Event, Submit, Emit, Come, Tick, Take, Disconnect, Set, with_peer, with_come, with_submission, with_emission, loose_of, Happens, Runs, beginning}
+use Rattle.law_one_end.specs.OneEnd.{OneEnd, Event, Submit, Emit, Come, Tick, Take, Disconnect, Set, GiveWay, TellAgain, with_peer, with_come, with_submission, with_emission, loose_of, Happens, Runs, beginning}
 use Rattle.law_one_end.specs.Carried.{AreCarried}
 use Rattle.law_one_end.specs.Law.{taken_on, IsHeard, OfEachRun, OfEachAnswering, OfEachAsking, OfEachJoined}
 use Rattle.law_one_end.proofs.Rows.{carried-front}
 use Rattle.law_one_end.proofs.Gathering.{hears-nothing}
 use Rattle.law_one_end.proofs.Following.{all-cut, ready-nothing}
-use Rattle.law_one_end.proofs.Turns.{core, StaysAt, stays, moved-stays, left-stays, set-stays, gone_on-stays, obeyed-becomes}
+use Rattle.law_one_end.proofs.Turns.{core, StaysAt, stays, moved-stays, left-stays, set-stays, gone_on-stays, freed-stays, told_again-stays, heeded-becomes}
 use Rattle.law_one_end.proofs.Loose.{arrival-loose}
 use Rattle.law_one_end.proofs.Ears.{Told, IsEar, AllHear, told-stays, told-taken, told-arrival, told-passed, after}
 
@@ -81,11 +82,11 @@ kept-stays e new came fronts taken loose s k = record {
 }
 
 -- a command comes
-kept-come : (e : OneEnd) (m : Message) (now : ℕ) (sent : Option ℕ) → IsMessage m → Kept e → Kept (with_come e m (obeyed e.peer now sent m).after)
-kept-come e m now sent is k = by (obeyed-becomes e.peer m.head now sent m.body)
+kept-come : (e : OneEnd) (full : Bool) (m : Message) (now : ℕ) (sent : Option ℕ) → IsMessage m → Kept e → Kept (with_come e m (heeded full e.peer now sent m).after)
+kept-come e full m now sent is k = by (heeded-becomes full e.peer m.head now sent m.body)
   where
     q : Peering
-    q = (obeyed e.peer now sent m).after
+    q = (heeded full e.peer now sent m).after
 
     u : Told
     u = told_of (with_come e m q)
@@ -152,11 +153,13 @@ kept-took e q event next k = took (λ q event. Kept (record e { peer = q; taken 
 kept-happens : (e new : OneEnd) (event : Event) → Happens e event new → Kept e → Kept new
 kept-happens e new (Submit q) h k = subst Kept (sym h.1) (kept-stays e (with_submission e q) refl refl refl refl (stays (core e.peer)) k)
 kept-happens e new (Emit now) h k = subst Kept (sym h) (kept-stays e (with_emission e now) refl refl refl refl (gone_on-stays (record e.peer { outbox = (filled (pace_of e.peer now) e.peer.outbox).outbox })) k)
-kept-happens e new (Come m now sent) h k = subst Kept (sym h.1) (kept-come e m now sent h.0 k)
+kept-happens e new (Come m now sent) h k = subst Kept (sym h.2) (kept-come e h.1 m now sent h.0 k)
 kept-happens e new (Tick now) h k = subst Kept (sym h.1) (kept-stays e (with_peer e (moved h.0 e.peer now)) refl refl refl refl (moved-stays h.0 e.peer now) k)
 kept-happens e new Take h k = subst Kept (sym h.3) (kept-took e h.1 h.0 h.2 k)
 kept-happens e new (Disconnect way info) h k = subst Kept (sym h.2) (kept-stays e (with_peer e h.0) refl refl refl refl (left-stays e.peer h.0 way info h.1) k)
 kept-happens e new (Set setting) h k = subst Kept (sym h.1) (kept-stays e (with_peer e (with_setting setting e.peer)) refl refl refl refl (set-stays e.peer setting) k)
+kept-happens e new GiveWay h k = subst Kept (sym h.1) (kept-stays e (with_peer e (freed e.peer)) refl refl refl refl (freed-stays e.peer) k)
+kept-happens e new TellAgain h k = subst Kept (sym h.1) (kept-stays e (with_peer e (told_again e.peer)) refl refl refl refl (told_again-stays e.peer) k)
 
 kept-runs : (events : List Event) (e new : OneEnd) → Runs events e new → Kept e → Kept new
 kept-runs [] e new r k = subst Kept r k

@@ -149,6 +149,7 @@ changes qs put = record {
       };
   acknowledges = λ p j number here h. record { senders = acknowledged-senders p.terms.mtu qs p.outbox j number h.senders; logged = h.logged; young = h.young };
   marks = λ p tick h. record { senders = map-senders p.terms.mtu qs (marked_sender tick) p.outbox.senders (λ s. (refl, marked-fewer tick s.sender)) h.senders; logged = h.logged; young = h.young };
+  refuses = λ p at h. record { senders = h.senders; logged = h.logged; young = h.young };
   holds_back = λ p tick at h. record { senders = h.senders; logged = h.logged; young = h.young };
   gives_way = λ p on h. record { senders = h.senders; logged = h.logged; young = h.young };
   takes = λ p j r c on there h. record { senders = h.senders; logged = h.logged; young = h.young };

@@ -7,8 +7,8 @@ use Rattle.enet_sender.specs.Sender.{nothing_sent}
 use Rattle.enet_sender.specs.Due.{SendingEnd, new_end}
 use Rattle.enet_peer.specs.Peering.{Peering, joined, connecting, answering}
 use Rattle.law_connection.proofs.Events.{took}
-use Rattle.law_connection.proofs.PeerChanges.{kept-moved, kept-left, kept-set, kept-obeyed}
-use Rattle.law_one_end.specs.OneEnd.{OneEnd, Event, Submit, Emit, Come, Tick, Take, Disconnect, Set, Happens, Runs, beginning}
+use Rattle.law_connection.proofs.PeerChanges.{kept-moved, kept-left, kept-set, kept-given_way, kept-heeded, kept-told_again}
+use Rattle.law_one_end.specs.OneEnd.{OneEnd, Event, Submit, Emit, Come, Tick, Take, Disconnect, Set, GiveWay, TellAgain, Happens, Runs, beginning}
 use Rattle.law_one_end.specs.Law.{OfEachRun, OfEachAnswering, OfEachAsking, OfEachJoined}
 use Rattle.law_one_end.specs.Sent.{IsSent}
 use Rattle.law_one_end.proofs.PuttingOut.{Sends, changes, sends-emitted, sends-submitted, sends-nothing}
@@ -19,7 +19,9 @@ Kept e = Sends e.submitted e.put e.peer
 kept-happens : (e new : OneEnd) (event : Event) → Happens e event new → Kept e → Kept new
 kept-happens e new (Submit q) h k = subst Kept (sym h.1) (sends-submitted e.submitted e.put e.peer q h.0 k)
 kept-happens e new (Emit now) h k = subst Kept (sym h) (sends-emitted e.submitted e.put e.peer now k)
-kept-happens e new (Come m now sent) h k = subst Kept (sym h.1) (kept-obeyed (Sends e.submitted e.put) (changes e.submitted e.put) e.peer m.head now sent m.body k)
+kept-happens e new (Come m now sent) h k = subst Kept (sym h.2) (kept-heeded (Sends e.submitted e.put) (changes e.submitted e.put) h.1 e.peer m.head now sent m.body k)
+kept-happens e new GiveWay h k = subst Kept (sym h.1) (kept-given_way (Sends e.submitted e.put) (changes e.submitted e.put) e.peer k)
+kept-happens e new TellAgain h k = subst Kept (sym h.1) (kept-told_again (Sends e.submitted e.put) (changes e.submitted e.put) e.peer h.0 k)
 kept-happens e new (Tick now) h k = subst Kept (sym h.1) (kept-moved (Sends e.submitted e.put) (changes e.submitted e.put) h.0 e.peer now k)
 kept-happens e new Take h k = subst Kept (sym h.3) (took (λ q event. Sends e.submitted e.put q) e.peer h.1 h.0 h.2
     (λ info g. record { senders = k.senders; logged = k.logged; young = k.young })

@@ -26,7 +26,9 @@ use Rattle.enet_peer.specs.declared.parts.PeerState.{PeerState}
 use Rattle.enet_peer.specs.declared.parts.PeerState.TheVariants as state
 use Rattle.enet_peer.specs.Endings.{ended, freed, disconnecting, parting, settled, is_later, cut_off_in}
 use Rattle.enet_peer.specs.CommandEffect.{Outcome, answered, answered_at, is_answered_in, is_allowed, is_of_handshake, obeyed, unless_refused, by_body, by_answer, by_arrival, on_data, stopped, sampled, with_answer, on_match, accepted, is_connecting, on_acknowledge, welcomed, on_verify_in, on_last_disconnect, on_disconnect_in, on_bandwidth, on_throttle}
+use Rattle.enet_peer.specs.Refusing.{heeded, told_again, told_full}
 use Rattle.enet_peer.proofs.Obeying.{unless-holds, unwelcomed-holds}
+use Rattle.enet_peer.proofs.Refusals.{heeded-holds}
 use Rattle.enet_peer.specs.Calls.{left, after_timeouts, after_timeouts_by, expiry_of, held_back, is_held_back, is_pinged, moved, ticked, is_connected, gone_on, gone_on_in}
 use Rattle.law_connection.specs.Linked.{dispatches_in}
 use Rattle.law_connection.specs.Steps.{Way, Asking, Now, Later, leave_by, Setting, Bandwidth, Throttle, ThrottleLimit, PingInterval, Timeout, with_setting}
@@ -93,7 +95,7 @@ StaysAt p q = Stays (core p) (core q)
 ended-stays : (p : Peering) (info : ℕ) → StaysAt p (ended p info)
 ended-stays p info = shut (core p) (core (ended p info)) refl refl
 
-freed-stays : (p : Peering) → StaysAt p (freed p)
+pub freed-stays : (p : Peering) → StaysAt p (freed p)
 freed-stays p = forgets (core p) (core (freed p)) refl refl
 
 parting-stays : (p : Peering) (info : ℕ) → StaysAt p (parting p info)
@@ -303,3 +305,13 @@ obeyed-becomes p h now sent body = by body
     by (send_unreliable n payload) = data-becomes p (message (send_unreliable n payload)) sent (is_allowed p.state (send_unreliable n payload)) (allowed-opens p.state (send_unreliable n payload) refl)
     by (send_fragment f payload) = data-becomes p (message (send_fragment f payload)) sent (is_allowed p.state (send_fragment f payload)) (allowed-opens p.state (send_fragment f payload) refl)
     by (send_unreliable_fragment f payload) = data-becomes p (message (send_unreliable_fragment f payload)) sent (is_allowed p.state (send_unreliable_fragment f payload)) (allowed-opens p.state (send_unreliable_fragment f payload) refl)
+
+-- one that was refused is told so again
+pub told_again-stays : (p : Peering) → StaysAt p (told_again p)
+told_again-stays p = if-peer (StaysAt p) (ltb 0 (length p.outbox.control.queued)) p (told_full p) (stays (core p)) (stays (core p))
+
+-- a command comes to a host that may be full
+pub heeded-becomes : (full : Bool) (p : Peering) (h : Head) (now : ℕ) (sent : Option ℕ) (body : Body) → Becomes p (record { head = h; body = body }) (heeded full p now sent (record { head = h; body = body })).after
+heeded-becomes full p h now sent body =
+    let m : Message = record { head = h; body = body } in
+    heeded-holds (λ (o : Outcome). Becomes p m o.after) full p now sent m (obeyed-becomes p h now sent body) (λ answers. inl (stays (core p)))

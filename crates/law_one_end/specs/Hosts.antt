@@ -25,7 +25,7 @@ use Rattle.law_network.specs.Deeds.{Deed}
 use Rattle.law_network.specs.Deeds as deed
 use Rattle.law_network.specs.Falling.{FellAll}
 use Rattle.law_network.specs.Network.{is_same_name}
-use Rattle.law_one_end.specs.OneEnd.{OneEnd, Event, Submit, Emit, Come, Tick, Take, Disconnect, Set, Runs, beginning}
+use Rattle.law_one_end.specs.OneEnd.{OneEnd, Event, Submit, Emit, Come, Tick, Take, Disconnect, Set, GiveWay, TellAgain, Runs, beginning}
 use Rattle.law_one_end.specs.Datagrams.{Begins}
 use Rattle.law_one_end.specs.Law.{IsHeard}
 use Rattle.law_one_end.specs.Sent.{IsSent}
@@ -55,7 +55,7 @@ given_by name c = []
 
 -- the command that came by a deed
 abbrev pub message_in : Deed → List Message
-message_in (deed.Come now sent m answer) = m ∷ []
+message_in (deed.Come a m answer) = m ∷ []
 message_in d = []
 
 -- a datagram names this slot, and these commands stand at its front, one after another
@@ -93,12 +93,14 @@ BeganAt name a (c ∷ cs) series first ds =
 abbrev pub event_in : Deed → List Event
 event_in (deed.Submit q (Ok done)) = Submit q ∷ []
 event_in (deed.Emit now given) = Emit now ∷ []
-event_in (deed.Come now sent m (Err stop.Memory)) = []
-event_in (deed.Come now sent m answer) = Come m now sent ∷ []
+event_in (deed.Come a m (Err stop.Memory)) = []
+event_in (deed.Come a m answer) = Come m a.now a.sent ∷ []
 event_in (deed.Tick now short) = Tick now ∷ []
 event_in (deed.Take (Some e)) = Take ∷ []
 event_in (deed.Disconnect way info (Ok done)) = Disconnect way info ∷ []
 event_in (deed.Set setting (Ok done)) = Set setting ∷ []
+event_in deed.GiveWay = GiveWay ∷ []
+event_in deed.TellAgain = TellAgain ∷ []
 event_in d = []
 
 -- the peer of this name began by one of these calls, at an address where it stayed, and is one end since: what happens there is what fell to

@@ -1,6 +1,6 @@
 -- One end of a connection, ours, whatever stands at the other: what came to it and what its user took, what its user submitted and what it
 -- put out.
-use Rattle.std.specs.Prelude.{◌≡◌, Bool, ℕ, ◌+◌, ◌%◌, List, [], ◌∷◌, ◌++◌, length, Option, Some, None, slice_get}
+use Rattle.std.specs.Prelude.{◌≡◌, Bool, true, ℕ, ◌+◌, ◌%◌, List, [], ◌∷◌, ◌++◌, length, Option, Some, None, slice_get}
 use Rattle.enet_codec.specs.declared.packet.Packet.{Packet}
 use Rattle.enet_codec.specs.Message.{Message, Body, IsMessage, send_unsequenced}
 use Rattle.enet_seq.specs.Windows.{ahead}
@@ -9,8 +9,9 @@ use Rattle.enet_fragment.specs.DataCommand.{data_of}
 use Rattle.enet_outbox.specs.Emission.{filled}
 use Rattle.enet_peer.specs.declared.parts.PeerEvent.{PeerEvent}
 use Rattle.enet_peer.specs.Peering.{Peering}
-use Rattle.enet_peer.specs.CommandEffect.{obeyed}
-use Rattle.enet_peer.specs.Calls.{submission_refusal, submitted, pace_of, gone_on, left, moved, next_event}
+use Rattle.enet_peer.specs.Endings.{freed}
+use Rattle.enet_peer.specs.Refusing.{heeded, is_turned_away, told_again}
+use Rattle.enet_peer.specs.Calls.{submission_refusal, submitted, pace_of, gone_on, is_answering, left, moved, next_event}
 use Rattle.law_connection.specs.Linked.{receiver_in}
 use Rattle.law_connection.specs.Steps.{Way, leave_by, Setting, MaySet, with_setting}
 
@@ -39,6 +40,8 @@ pub data Event : Type 0 where
   Take : Event  -- the user takes the next event
   Disconnect : (way : Way) (info : ℕ) → Event
   Set : (setting : Setting) → Event
+  GiveWay : Event  -- the peer waits for its client, and is let go, since its host gives its slot to another
+  TellAgain : Event  -- it was refused, and is told so again, since a datagram came
 
 abbrev pub heard_as : ℕ → ℕ → Option DataCommand → List Heard
 heard_as channel front None = []
@@ -81,11 +84,13 @@ with_emission e now = record e {
 abbrev pub Happens : OneEnd → Event → OneEnd → Type 0
 Happens e (Submit q) new = (submission_refusal e.peer q.channel (length q.body) ≡ None) × (new ≡ with_submission e q)
 Happens e (Emit now) new = new ≡ with_emission e now
-Happens e (Come m now sent) new = IsMessage m × (new ≡ with_come e m (obeyed e.peer now sent m).after)
+Happens e (Come m now sent) new = IsMessage m × (full : Bool) × (new ≡ with_come e m (heeded full e.peer now sent m).after)
 Happens e (Tick now) new = (short : Bool) × (new ≡ with_peer e (moved short e.peer now))
 Happens e Take new = (told : PeerEvent) × (q : Peering) × (next_event e.peer ≡ Some (record { event = told; after = q })) × (new ≡ record e { peer = q; taken = e.taken ++ told ∷ [] })
 Happens e (Disconnect way info) new = (q : Peering) × (left (leave_by way e.peer.state) e.peer info ≡ Some q) × (new ≡ with_peer e q)
 Happens e (Set setting) new = MaySet setting e.peer × (new ≡ with_peer e (with_setting setting e.peer))
+Happens e GiveWay new = (is_answering e.peer.state ≡ true) × (new ≡ with_peer e (freed e.peer))
+Happens e TellAgain new = (is_turned_away e.peer ≡ true) × (new ≡ with_peer e (told_again e.peer))
 
 -- events, one after another
 abbrev pub Runs : List Event → OneEnd → OneEnd → Type 0

@@ -3,8 +3,9 @@
 //!
 //! An end is a peer of ours (`enet_peer`) with each data command that came to it, what its user submitted and took, and what it put out. It
 //! begins as a server's peer that answers a CONNECT, as a client's that asks, or as one that is connected. Then anything happens, any number
-//! of times: commands come, well-formed ones of any content, time passes, the user submits, takes, disconnects and sets, a datagram goes.
-//! Want of memory changes nothing, so it is no event.
+//! of times: commands come, well-formed ones of any content, time passes, the user submits, takes, disconnects and sets, a datagram goes. A
+//! server's host may be full when its client confirms, and tell it so again, and may give the slot of a peer that waits to another. Want of
+//! memory changes nothing, so it is no event.
 //!
 //! Proved: what the user takes was carried by what came, in order, each packet whole and each reliable number once; where the other end keeps
 //! the rules of the wire it follows what that end sent (`what_is_taken`). That rules something out (`false_takes_are_refuted`). Each data
@@ -14,12 +15,12 @@
 //! (`each_peer_of_a_host`). Not promised: that an unsequenced packet is taken once, or that anything arrives.
 #![tactic(auto)]
 
-ghost use Rattle.std.specs.Prelude.{ℕ, List, [], ◌∷◌};
+ghost use Rattle.std.specs.Prelude.{ℕ, ◌⊎◌, List, [], ◌∷◌};
 ghost use Rattle.enet_codec.specs.declared.event.Received.{Received};
 ghost use Rattle.enet_packets.specs.declared.incoming_packet.Dispatched.{Dispatched};
 ghost use Rattle.enet_peer.specs.Peering.{Peering};
-ghost use Rattle.enet_peer.specs.Handling.{Arrival, Handles};
-ghost use Rattle.law_one_end.specs.OneEnd.{Heard, OneEnd};
+ghost use Rattle.enet_peer.specs.Handling.{Arrival, Handles, Hears};
+ghost use Rattle.law_one_end.specs.OneEnd.{Heard, OneEnd, TellAgain, Happens, with_peer};
 ghost use Rattle.law_one_end.specs.Datagrams.{HasCome};
 ghost use Rattle.law_one_end.specs.Law.{IsHeard, OfEachAnswering, OfEachAsking, OfEachJoined};
 ghost use Rattle.law_one_end.specs.Sent.{IsSent};
@@ -67,11 +68,14 @@ pub fn who_is_told()
     ensures { AnsweringIsConfirmed }
 {}
 
-/// A datagram is some of these events: where a peer is handed the commands of one (`Handles`, the contract of `enet_peer::receive`), it fares as
-/// by some of those at the front of its bytes, one after another; how many isn't said.
+/// A datagram is some of these events. Where a peer is handed the commands of one (`Handles`), it fares as by some of those at the front of its
+/// bytes, one after another; how many isn't said (`commands`). A datagram that comes to a peer (`Hears`, the contract of
+/// `enet_peer::receive`) does that, or it is one event: the peer was refused, and is told so again (`datagram`).
 pub fn a_datagram_comes_as_commands()
-    ensures { (a : Arrival) (handled : ℕ) (bytes : List ℕ) (answer : Received) (e : OneEnd) (q : Peering)
+    ensures commands { (a : Arrival) (handled : ℕ) (bytes : List ℕ) (answer : Received) (e : OneEnd) (q : Peering)
         → Handles a (record { handled = handled; peer = e.peer }) bytes answer q → HasCome a bytes e q }
+    ensures datagram { (a : Arrival) (bytes : List ℕ) (answer : Received) (e : OneEnd) (q : Peering)
+        → Hears a bytes e.peer answer q → HasCome a bytes e q ⊎ Happens e TellAgain (with_peer e q) }
 {}
 
 /// Each peer of a host that there is, by the calls of the host alone, whatever is called on it and whoever sends to it: datagrams from any

@@ -1,5 +1,8 @@
-use Rattle.law_one_end.proofs.Datagrams.{datagram-comes}
+use Rattle.law_one_end.proofs.Datagrams.{datagram-comes, datagram-heard}
 use Rattle.law_one_end.proofs.a_datagram_comes_as_commands.Goals as goal
 
-pub returns : goal.returns
-returns c = datagram-comes
+pub returns-clause-commands : goal.returns-clause-commands
+returns-clause-commands c = datagram-comes
+
+pub returns-clause-datagram : goal.returns-clause-datagram
+returns-clause-datagram c = datagram-heard
