@@ -80,6 +80,7 @@ refuses : (f : Fleet) (event : FleetEvent) (why : Refusal) (was : Place) → pla
 refuses f (happen.Connect client channels info word) why was there r = at-there f (Client client) _ (happen.Connect client channels info word) why was there refl (λ x. x) r
 refuses f (happen.Submit node peer channel flags body) why was there r = at-there f node _ (happen.Submit node peer channel flags body) why was there refl (λ x. x) r
 refuses f (happen.Disconnect node peer how info) why was there r = at-there f node _ (happen.Disconnect node peer how info) why was there refl (λ x. x) r
+refuses f (happen.Admit node what') why was there r = at-there f node _ (happen.Admit node what') why was there refl (λ x. x) r
 refuses f (happen.Deliver to from k) why was there r = refl
 refuses f (happen.Stranger to addr bytes) why was there r = refl
 refuses f (happen.Turn node) why was there r = refl

@@ -78,8 +78,8 @@ unborn-fresh : (h : Host) (name : PeerRef) → IsFresh h name → IsUnborn h nam
 unborn-fresh h name f = record {
   slot = f.slot;
   there = f.there;
-  left = (let g : name.generation ≡ f.slot.generation = f.generation in let l : f.slot.generation < h.config.generations = f.left in omega arith);
-  future = inr (sym f.generation, f.vacant);
+  left = f.left;
+  future = f.future;
 }
 
 fact-stays : (f g : Fleet) (m from : Node) (what : Happening) → Sound f → (h : HappensAt m from what f g) → (n : Node) (p : PeerRef) (a : Addr) → Fact f n p a → Fact g n p a
@@ -104,7 +104,7 @@ fact-stays f g m from what s h n p a k q there = by (where-is m n from what f g 
         let same : b.0.connection ≡ e.connection = sym (grown.connection b.0) ∙ ap (λ (z : HostEnd). z.connection) b.2 in
         far-stays n m what f g rest e.connection a (subst (λ (x : ℕ). far_address f n x ≡ Some a) same old)
     ends was e (inr new) name =
-        absurd (was.0 (subst (λ (z : PeerRef). IsUnborn h.was.site.host z) name (unborn-fresh h.was.site.host e.name (fresh-more (around f m) h.sender.site h.was.site h.is.site what h.here e new))))
+        absurd (was.0 (subst (λ (z : PeerRef). IsUnborn h.was.site.host z) name (unborn-fresh h.was.site.host e.name (fresh-more (around f m) h.sender.site h.was.site h.is.site what few h.here e new))))
 
     by : Placed m n what f h.was h.is q → AtSite g n p a q.site
     by (is_here same was is) = subst (λ (z : Place). AtSite g n p a z.site) is (

@@ -111,7 +111,7 @@ brings-acknowledgement = record { there = refl; at = refl; of = refl; in_time = 
 
 obeys-acknowledgement : Obeys B (sending told_asker told_answerer) (header_of server.peer acknowledging_message).session None acknowledging_message relieved.peer
 unfolding cutting.piece_count
-obeys-acknowledgement = record { let_in = refl; goes = refl; after = refl; live = λ e. absurd (let z : state.Connected ≡ state.Free = e in cc) }
+obeys-acknowledgement = record { let_in = refl; kept = refl; goes = refl; after = refl; live = λ e. absurd (let z : state.Connected ≡ state.Free = e in cc) }
 
 abbrev client-stands : Stands (site B relieved) 0
 client-stands = record { end = end_of relieved; there = refl; peer = relieved.peer; is = refl }
@@ -144,7 +144,7 @@ crosses = (
             pair (site B welcomed) 1 (site A verified) 1,
             delivered (pair (site B asked) 1 (site A verified) 1) (Client 0) Server 0 0 (place (site B asked) 1) (place (site A verified) 1) (site B welcomed) handled_one refl refl refl
                 (λ next. hears next B (site A verified) asked 0 (header_of answering.peer verifying_message).session (Some 0) verify verifying_message welcomed.peer brings-verify
-                (record { let_in = refl; goes = refl; after = refl; live = λ e. absurd (cc) })),
+                (record { let_in = refl; kept = refl; goes = refl; after = refl; live = λ e. absurd (cc) })),
             (
               pair (site B confirmed) 2 (site A verified) 1,
               client-turns welcomed 1 (site A verified) 1 confirming_message puts-confirm refl refl,
@@ -152,7 +152,7 @@ crosses = (
                 pair (site B confirmed) 2 (site A standing) 1,
                 delivered (pair (site B confirmed) 2 (site A verified) 1) Server (Client 0) 1 1 (place (site A verified) 1) (place (site B confirmed) 2) (site A standing) handled_one refl refl refl
                     (λ next. hears next A (site B confirmed) verified 1 (header_of welcomed.peer confirming_message).session None confirm confirming_message standing.peer brings-confirm
-                    (record { let_in = refl; goes = refl; after = refl; live = λ e. absurd (cc) })),
+                    (record { let_in = refl; kept = refl; goes = refl; after = refl; live = λ e. absurd (cc) })),
                 (
                   pair (site B told_asker) 2 (site A standing) 1,
                   taken-one (pair (site B confirmed) 2 (site A standing) 1) (Client 0) (place (site B confirmed) 2) (site B told_asker) (events.Connect first_name 0) (address_of Server) refl

@@ -12,16 +12,17 @@ use Rattle.enet_outbox.specs.Emission.{filled}
 use Rattle.enet_peer.specs.Peering.{Peering, answering}
 use Rattle.enet_peer.specs.declared.parts.PeerEvent.{PeerEvent}
 use Rattle.enet_peer.specs.Calls.{moved, pace_of, gone_on, submitted}
-use Rattle.enet_peer.specs.CommandEffect.{obeyed}
+use Rattle.enet_peer.specs.Endings.{freed}
+use Rattle.enet_peer.specs.Refusing.{heeded, told_again}
 use Rattle.law_connection.specs.LinkSteps.{Has}
 use Rattle.law_connection.specs.Connection.{Put, End, packets_of}
-use Rattle.law_connection.specs.Steps.{Event, Answer, Submit, Emit, Come, Tick, Take, Disconnect, Set, Happens, with_setting}
+use Rattle.law_connection.specs.Steps.{Event, Answer, Submit, Emit, Come, Tick, Take, Disconnect, Set, GiveWay, TellAgain, Happens, with_setting}
 use Rattle.law_connection.specs.Invariant.{IsFit, is_young}
 use Rattle.law_connection.proofs.FitEnds.{fit-peer}
 use Rattle.law_unsequenced.specs.Unsequenced.{come_unsequenced, come_by, carried, TakenAs, ComeAs, Each}
 use Rattle.law_unsequenced.specs.Law.{AreInTime, AreDistinct}
 use Rattle.law_unsequenced.proofs.Parts.{IsPart, part-front, part-of_map, each-part, each-map, pairs-part}
-use Rattle.law_unsequenced.proofs.Staying.{core, Stays, Becomes, packet_in, moved-stays, left-stays, set-stays, gone_on-stays, obeyed-becomes}
+use Rattle.law_unsequenced.proofs.Staying.{core, Stays, Becomes, packet_in, moved-stays, left-stays, set-stays, gone_on-stays, heeded-becomes, freed-stays, told_again-stays}
 use Rattle.law_unsequenced.proofs.Taking.{Gets, seen_in, untaken_in, gets-more, gets-took, all-dispatched}
 
 as-taken : (qs : List Packet) (n : ℕ) (u : Unsequenced) → ComeAs qs n u → TakenAs qs n (packet_in u)
@@ -50,8 +51,8 @@ taken-once qs come events o g numbers each in_time =
 receivers-of : (own : End) (p : Peering) → own.peer ≡ Some p → IsFit own → (i : ℕ) (r : ReceivingEnd) → slice_get p.inbox.receivers i ≡ Some r → HasSequenced r.receiver
 receivers-of own p is f i r there = let k = fit-peer own p is f in let t = k.0 in let x = t.receivers i r there in x.1
 
-coming : (own : End) (p : Peering) (put : Put) (now : ℕ) (sent : Option ℕ) → own.peer ≡ Some p → IsFit own → Becomes (is_young p.state) (carried put.message) (core p) (core (obeyed p now sent put.message).after)
-coming own p put now sent is f = obeyed-becomes p put.message.head now sent put.message.body (receivers-of own p is f)
+coming : (own : End) (full : Bool) (p : Peering) (put : Put) (now : ℕ) (sent : Option ℕ) → own.peer ≡ Some p → IsFit own → Becomes (is_young p.state) (carried put.message) (core p) (core (heeded full p now sent put.message).after)
+coming own full p put now sent is f = heeded-becomes full p now sent put.message (receivers-of own p is f)
 
 with-peer : (come : List Unsequenced) (e : End) (o : Option Peering) → e.peer ≡ o → Gets come e.events e.peer → Gets come e.events o
 with-peer come e o is g = subst (Gets come e.events) is g
@@ -76,13 +77,15 @@ into own other new (Emit now) come f h g =
     subst (GetsTo (come ++ [])) (sym h.2) (gets-more come [] own.events (Some p) (gone_on between) (inl (k.seen, k.untaken)) (with-peer come own (Some p) h.1 g))
 into own other new (Come put now sent) come f h g =
     let p : Peering = h.0 in
-    let b = coming own p put now sent h.1 f in
-    subst (GetsTo (come ++ carried put.message)) (sym h.3) (gets-more come (carried put.message) own.events (Some p) (obeyed p now sent put.message).after b.comes (with-peer come own (Some p) h.1 g))
+    let b = coming own h.3 p put now sent h.1 f in
+    subst (GetsTo (come ++ carried put.message)) (sym h.4) (gets-more come (carried put.message) own.events (Some p) (heeded h.3 p now sent put.message).after b.comes (with-peer come own (Some p) h.1 g))
 into own other new (Tick now) come f h g = subst (GetsTo (come ++ [])) (sym h.3) (gets-staying come own h.0 (moved h.2 h.0 now) h.1 (moved-stays h.2 h.0 now) g)
 into own other new Take come f h g =
     subst (GetsTo (come ++ [])) (sym h.5) (subst (λ l. Gets l (own.events ++ h.2 ∷ []) (Some h.1)) (sym (append-nil come)) (gets-took come own.events h.0 h.1 h.2 h.4 (with-peer come own (Some h.0) h.3 g)))
 into own other new (Disconnect way info) come f h g = subst (GetsTo (come ++ [])) (sym h.4) (gets-staying come own h.0 h.1 h.2 (left-stays h.0 h.1 way info h.3) g)
 into own other new (Set setting) come f h g = subst (GetsTo (come ++ [])) (sym h.3) (gets-staying come own h.0 (with_setting setting h.0) h.1 (set-stays h.0 setting) g)
+into own other new GiveWay come f h g = subst (GetsTo (come ++ [])) (sym h.3) (gets-staying come own h.0 (freed h.0) h.1 (freed-stays h.0) g)
+into own other new TellAgain come f h g = subst (GetsTo (come ++ [])) (sym h.3) (gets-staying come own h.0 (told_again h.0) h.1 (told_again-stays h.0) g)
 
 -- what comes was put out by the other end
 pub comes-of : (own other new : End) (e : Event) → Happens own other e new → (u : Unsequenced) → Has (come_by e) u → (x : Put) × Has other.log x × Has (carried x.message) u
@@ -94,6 +97,8 @@ comes-of own other new (Tick now) h u c = absurd c
 comes-of own other new Take h u c = absurd c
 comes-of own other new (Disconnect way info) h u c = absurd c
 comes-of own other new (Set setting) h u c = absurd c
+comes-of own other new GiveWay h u c = absurd c
+comes-of own other new TellAgain h u c = absurd c
 
 -- nothing came, and nothing was taken
 pub gets-first : (e : End) → e.events ≡ [] → seen_in e.peer ≡ nothing_seen → untaken_in e.peer ≡ [] → Gets [] e.events e.peer

@@ -339,7 +339,7 @@ begun-track w from old new count k x qs none shown (Delivers i answer) happens t
         let b = begun-is d.connection old.host new.host t y in
         let at : d.connection ≡ x = ap (λ (z : HostEnd). z.connection) (sym b.4) ∙ of in
         let far = shown d (Has-slice_get from.log i d is) in
-        let z : Begins far.0 new t = answered i answer d from old new brings is (nothing-of old count d.connection k (λ e h same. none e h (same ∙ at))) t y far.0 far.1 in
+        let z : Begins far.0 new t = answered i answer d from old new k.few brings is (nothing-of old count d.connection k (λ e h same. none e h (same ∙ at))) t y far.0 far.1 in
         record {
           own = z.own;
           shows = z.shows;
@@ -399,6 +399,7 @@ brought-by f (happen.Tick node ms) answers.Done what m sender x qs sends here mk
 brought-by f (happen.Take node) (answers.Taken None) what m sender x qs sends here mk r = subst (BroughtRecent x qs sender.site) (sym mk) tt
 brought-by f (happen.Take node) (answers.Taken (Some told')) what m sender x qs sends here mk r = subst (BroughtRecent x qs sender.site) (sym mk.0) tt
 brought-by f (happen.Disconnect node peer how info) answers.Done what m sender x qs sends here mk r = subst (BroughtRecent x qs sender.site) (sym mk) tt
+brought-by f (happen.Admit node what') answers.Done what m sender x qs sends here mk r = subst (BroughtRecent x qs sender.site) (sym mk) tt
 brought-by f v a what m sender x qs sends here mk r = absurd mk
 
 -- a run

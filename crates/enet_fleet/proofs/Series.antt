@@ -55,6 +55,7 @@ set-at f n was there (call.ConfigureThrottle name interval acceleration decelera
 set-at f n was there (call.SetPingInterval name ms answer) is h acts = called n (call.SetPingInterval name ms answer) f was (record was.site { host = h }) refl there (acts, refl) refl
 set-at f n was there (call.SetTimeout name limit minimum maximum answer) is h acts =
     called n (call.SetTimeout name limit minimum maximum answer) f was (record was.site { host = h }) refl there (acts, refl) refl
+set-at f n was there (call.Admit what answer) is h acts = called n (call.Admit what answer) f was (record was.site { host = h }) refl there (acts, refl) refl
 set-at f n was there c is h acts = absurd (let e : false ≡ true = is in cc)
 
 allowed-at : (n : Node) (c : Call) → is_setting c ≡ true → AllowsCall n Server c
@@ -62,6 +63,7 @@ allowed-at n (call.SetBandwidth incoming outgoing answer) is = plain n (call.Set
 allowed-at n (call.ConfigureThrottle name interval acceleration deceleration answer) is = plain n (call.ConfigureThrottle name interval acceleration deceleration answer) refl
 allowed-at n (call.SetPingInterval name ms answer) is = plain n (call.SetPingInterval name ms answer) refl
 allowed-at n (call.SetTimeout name limit minimum maximum answer) is = plain n (call.SetTimeout name limit minimum maximum answer) refl
+allowed-at n (call.Admit what answer) is = plain n (call.Admit what answer) refl
 allowed-at n c is = absurd (let e : false ≡ true = is in cc)
 
 pub settings-happen : SettingsHappen

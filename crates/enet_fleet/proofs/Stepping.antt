@@ -19,6 +19,7 @@ use Rattle.enet_host.specs.Host.{Host}
 use Rattle.enet_host.specs.Calls.{TakesOne, address_in, address_named}
 use Rattle.enet_host.specs.Calls as host_calls
 use Rattle.enet_host.specs.Foretelling.{teller_of, Foretells}
+use Rattle.enet_codec.specs.declared.config.Admission.{Admission}
 use Rattle.law_network.specs.Calls.{Call}
 use Rattle.law_network.specs.Calls as call
 use Rattle.enet_fleet.specs.declared.answer.Answer.{Answer}
@@ -159,6 +160,13 @@ pub left : (f : Fleet) (n : Node) (was : Place) (new : Site) (peer : PeerRef) (h
     → Steps f (happen.Disconnect n peer how info) (Ok answers.Done) (with_place f n (record was { site = new }))
 left f n was new peer how info there h =
     let c = call.Disconnect how peer info (Ok tt) in
+    (Calls c, refl, called n c f was new refl there (h (length f.asked) f.server.site) refl)
+
+pub admitted : (f : Fleet) (n : Node) (was : Place) (new : Site) (what : Admission) → place_of f n ≡ Some was
+    → CallsAt (call.Admit what (Ok tt)) was.site new
+    → Steps f (happen.Admit n what) (Ok answers.Done) (with_place f n (record was { site = new }))
+admitted f n was new what there h =
+    let c = call.Admit what (Ok tt) in
     (Calls c, refl, called n c f was new refl there (h (length f.asked) f.server.site) refl)
 
 pub heard : (f : Fleet) (n : Node) (was : Place) (new : Site) (addr : Addr) (bytes : List ℕ) (answer : Received) → place_of f n ≡ Some was

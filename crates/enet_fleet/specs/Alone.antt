@@ -17,6 +17,7 @@ abbrev pub refused_call : FleetEvent → Refusal → List Call
 refused_call (happen.Connect client channels info word) why = call.Connect (address_of Server) channels info word (Err why) ∷ []
 refused_call (happen.Submit node peer channel flags body) why = call.Submit peer channel (record { flags = flags; body = body }) (Err (why, body)) ∷ []
 refused_call (happen.Disconnect node peer how info) why = call.Disconnect how peer info (Err why) ∷ []
+refused_call (happen.Admit node what) why = call.Admit what (Err why) ∷ []
 refused_call _ why = []
 
 -- the call that an event makes at its host, by what was answered

@@ -270,6 +270,14 @@ impl Fleet {
         sent_by(place, k)
     }
 
+    /// How many slots a host has; None where the host isn't there.
+    pub fn slots(&self, node: Node) -> Option<u16>
+        ensures { result ≡ option_map (λ p. length p.site.host.slots) (place_of self.now node) }
+    {
+        let place = self.hosts.place(node)?;
+        Some(place.site.slots())
+    }
+
     /// Lets the fleet go. A crate that drops one in any other way proves anew how all that its hosts hold is dropped.
     pub fn close(self) {
         self.hosts.close();

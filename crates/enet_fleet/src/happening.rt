@@ -13,7 +13,7 @@ use crate::event::FleetEvent;
 use crate::hosts::{Hosts, is_host};
 use crate::turning::turn;
 use bytes::Bytes;
-use enet_codec::{Addr, DisconnectMode, Event, PeerRef, Refusal};
+use enet_codec::{Addr, Admission, DisconnectMode, Event, PeerRef, Refusal};
 use law_headline::Node;
 use std::alloc::Global;
 
@@ -96,6 +96,17 @@ fn disconnect(
     Ok(Answer::Done)
 }
 
+/// The user of a host sets whom it lets in.
+fn admit(hosts: &mut Hosts, node: Node, what: Admission) -> Result<Answer, Refusal>
+    ensures { Steps hosts.old (happen.Admit node what) result hosts.new }
+{
+    let Some(here) = hosts.place_mut(node) else {
+        return Err(Refusal::NoSuchHost);
+    };
+    here.site.admit(what)?;
+    Ok(Answer::Done)
+}
+
 /// What an event does.
 pub(crate) fn happen(
     hosts: &mut Hosts,
@@ -130,5 +141,6 @@ pub(crate) fn happen(
             how,
             info,
         } => disconnect(hosts, *node, *peer, *how, *info),
+        FleetEvent::Admit { node, what } => admit(hosts, *node, *what),
     }
 }

@@ -4,10 +4,8 @@ use Rattle.enet_codec.specs.declared.event.PeerRef.{PeerRef}
 use Rattle.enet_codec.specs.declared.refusal.Refusal.{Refusal}
 use Rattle.enet_peer.specs.Peering.{Peering}
 use Rattle.law_connection.specs.LinkSteps.{Has}
-use Rattle.enet_slot.specs.Slot.{SlotState}
 use Rattle.enet_host.specs.Host.{Host, Keeps}
 use Rattle.enet_slot.specs.Giving.{no_address}
-use Rattle.enet_host.specs.Opening.{available}
 use Rattle.law_network.specs.Calls.{Call, Acts}
 use Rattle.law_network.specs.Calls as call
 use Rattle.law_network.proofs.IsolationKeeping.{each-keeps}
@@ -15,9 +13,10 @@ use Rattle.law_network.proofs.Names.{IsThere}
 use Rattle.law_network.specs.Log.{Logged}
 use Rattle.law_network.specs.Network.{HostEnd, Site}
 use Rattle.law_network.specs.Shown.{ShowsPeer}
-use Rattle.law_network.specs.Steps.{Around, Happening, Calls, Delivers, HappensAmong, end_in, end_in_slot, begun_in}
+use Rattle.law_network.specs.Steps.{Around, Happening, Calls, Delivers, HappensAmong, begun}
 use Rattle.law_network.proofs.Beginnings.{asked-in}
 use Rattle.law_network.proofs.Growing.{more_of, more_in, Grows, grows, from-before}
+use Rattle.law_network.proofs.Guests.{guest}
 use Rattle.law_network.proofs.Peers.{shows-held, is_gone, goes, Moved, moved}
 use Rattle.law_network.proofs.Worlds.{some-acts}
 use Rattle.enet_records.specs.Records.{Records}
@@ -29,19 +28,9 @@ use Rattle.enet_site.specs.Private.Sites.{AreShown, IsWhole}
 Held : Host → PeerRef → Type 0
 Held h name = (p : Peering) × IsThere h.slots name p
 
-held-end : (x i : ℕ) (h : Host) (s : SlotState) (o : Option Peering) (f : HostEnd) → slice_get h.slots i ≡ Some s → s.peer ≡ o → Has (end_in x i s o) f → Held h f.name
+held-begun : (x : ℕ) (old new : Host) (f : HostEnd) → Has (begun x old new) f → Held new f.name
 unfolding Held
-held-end x i h s None f there is m = absurd m
-held-end x i h s (Some p) f there is (inl e) = subst (λ (z : HostEnd). (q : Peering) × IsThere h.slots z.name q) e (p, record { slot = s; there = there; same = refl; peer = is })
-held-end x i h s (Some p) f there is (inr m) = absurd m
-
-held-at : (x i : ℕ) (h : Host) (o : Option SlotState) (f : HostEnd) → slice_get h.slots i ≡ o → Has (end_in_slot x i o) f → Held h f.name
-held-at x i h None f there m = absurd m
-held-at x i h (Some s) f there m = held-end x i h s s.peer f there refl m
-
-held-begun : (x : ℕ) (o : Option ℕ) (h : Host) (f : HostEnd) → Has (begun_in x o h) f → Held h f.name
-held-begun x None h f m = absurd m
-held-begun x (Some i) h f m = held-at x i h (slice_get h.slots i) f refl m
+held-begun x old new f m = (let g = guest x old new f m in subst (λ (z : HostEnd). (q : Peering) × IsThere new.slots z.name q) (sym g.is) (g.peer, g.held))
 
 held-more : (w : Around) (from old new : Site) (what : Happening) → HappensAmong w from what old new → (f : HostEnd) → Has (more_of w.count from old new what) f → Held new.host f.name
 unfolding Held
@@ -54,7 +43,7 @@ held-more w from old new (Delivers k answer) x f m = by (slice_get from.log k) m
   where
     by : (found : Option Logged) → Has (more_in w.count old new found) f → Held new.host f.name
     by None y = absurd y
-    by (Some d) y = held-begun d.connection (available old.host.config old.host.slots) new.host f y
+    by (Some d) y = held-begun d.connection old.host new.host f y
 
 -- each end is shown
 

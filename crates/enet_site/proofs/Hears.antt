@@ -8,7 +8,8 @@ use Rattle.enet_codec.specs.declared.refusal.Refusal.{Refusal}
 use Rattle.enet_codec.specs.declared.header.Header.{Header}
 use Rattle.enet_peer.specs.Heading.{IsRead}
 use Rattle.enet_host.specs.Host.{Host}
-use Rattle.enet_host.specs.Foretelling.{next_name}
+use Rattle.enet_host.specs.Foretelling.{guest_name}
+use Rattle.enet_host.specs.Opening.{host_basis}
 use Rattle.enet_slot.specs.Receiving.{no_peer}
 use Rattle.law_network.specs.Calls.{Acts}
 use Rattle.law_network.specs.Calls as call
@@ -17,13 +18,13 @@ use Rattle.law_network.specs.Network.{HostEnd, delivery_refusal}
 use Rattle.law_network.specs.Steps.{BringsOne, Brought, begun}
 use Rattle.enet_records.specs.Records.{Records}
 use Rattle.enet_site.specs.Sites.{site}
-use Rattle.enet_site.proofs.Beginning.{next-none, begun-none}
+use Rattle.enet_site.proofs.Beginning.{begun-none}
 
 pub other-peer : (b : Bool) (text : List ℕ) → b ≡ false → ((header : Header) (commands : List ℕ) → IsRead text header commands → b ≡ (header.peer == no_peer)) → (header : Header) (commands : List ℕ) → IsRead text header commands → header.peer ≢ no_peer
 other-peer b text is says header commands read same = (let t : (header.peer == no_peer) ≡ false = sym (says header commands read) ∙ is in grind (arith, nat_tests))
 
-pub none-answers : (o : Option PeerRef) (h : Host) (text : List ℕ) → o ≡ next_name h.config h.slots → IfNone o ((from : Addr) (x : ℕ) (answer : Received) (after : Host) → Acts (call.Receive from text answer) h after → begun x h after ≡ [])
-none-answers None h text is = λ from x answer after acts. begun-none x h after (next-none h (sym is))
+pub none-answers : (o : Option PeerRef) (h : Host) (text : List ℕ) → o ≡ guest_name (host_basis h) h.slots → IfNone o ((from : Addr) (x : ℕ) (answer : Received) (after : Host) → Acts (call.Receive from text answer) h after → begun x h after ≡ [])
+none-answers None h text is = λ from x answer after acts. begun-none x h after (sym is)
 none-answers (Some name) h text is = tt
 
 -- what a datagram of this connection does that begins these ends

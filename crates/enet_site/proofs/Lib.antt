@@ -11,3 +11,4 @@ pub mod Hears
 pub mod AtSite
 pub mod Opens
 pub mod Ended
+pub mod Admitted

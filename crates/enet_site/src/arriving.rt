@@ -5,8 +5,9 @@ ghost use Rattle.enet_codec.specs.declared.address.Addr.{Addr};
 ghost use Rattle.enet_codec.specs.declared.event.Received.{Received};
 ghost use Rattle.enet_codec.specs.declared.header.Header.{Header};
 ghost use Rattle.enet_peer.specs.Heading.{IsRead};
-ghost use Rattle.enet_host.specs.Host.{Host};
-ghost use Rattle.enet_host.specs.Foretelling.{next_name};
+ghost use Rattle.enet_host.specs.Host.{Host, Keeps};
+ghost use Rattle.enet_host.specs.Foretelling.{guest_name};
+ghost use Rattle.enet_host.specs.Opening.{host_basis};
 ghost use Rattle.enet_slot.specs.Receiving.{no_peer};
 ghost use Rattle.law_network.specs.Calls.{Acts};
 ghost use Rattle.law_network.specs.Calls as call;
@@ -34,19 +35,21 @@ fn names_nobody(text: &[u8]) -> bool
 }
 
 /// The name of the peer that would answer this datagram, if any does.
-fn answering_peer(host: &HostCore, text: &[u8]) -> Option<PeerRef>
-    ensures next { IfSome result (λ name. next_name host.now.config host.now.slots ≡ Some name) }
-    ensures none { IfNone result ((from : Addr) (x : ℕ) (answer : Received) (after : Host) → Acts (call.Receive from text.now answer) host.now after → begun x host.now after ≡ []) }
+fn answering_peer(host: &mut HostCore, text: &[u8]) -> Option<PeerRef>
+    requires { Keeps host.old }
+    ensures next { IfSome result (λ name. guest_name (host_basis host.old) host.old.slots ≡ Some name) }
+    ensures none { IfNone result ((from : Addr) (x : ℕ) (answer : Received) (after : Host) → Acts (call.Receive from text.now answer) host.old after → begun x host.old after ≡ []) }
+    ensures same { host.new ≡ host.old }
 {
     if !names_nobody(text) {
         return None;
     }
-    host.next_peer()
+    host.next_guest()
 }
 
 /// A datagram comes from an address, and whether the peer that has this name next answers it.
 fn receive(host: &mut HostCore, name: PeerRef, from: Addr, text: &[u8]) -> (Received, bool)
-    requires { next_name host.old.config host.old.slots ≡ Some name }
+    requires { guest_name (host_basis host.old) host.old.slots ≡ Some name }
     ensures receives { Acts (call.Receive from text.now result.0) host.old host.new }
     ensures begins { (x : ℕ) → begun x host.old host.new ≡ begun_if result.1 x name }
 {

@@ -25,7 +25,9 @@ use crate::submitting::submit;
 use crate::taking::{next_event_from, take};
 use crate::turn::turn;
 use bytes::Bytes;
-use enet_codec::{Addr, Config, DisconnectMode, Event, Packet, PeerRef, Received, Refusal};
+use enet_codec::{
+    Addr, Admission, Config, DisconnectMode, Event, Packet, PeerRef, Received, Refusal,
+};
 use enet_host::{HostCore, PeerState};
 use enet_records::{Around, Records, numbers_of};
 use std::alloc::Global;
@@ -218,6 +220,22 @@ impl Site {
         ensures ends { IfOk result (λ done. CallsAt (call.Disconnect how peer info (Ok tt)) self.old self.new) }
     {
         disconnect(&mut self.host, peer, how, info)
+    }
+
+    /// Its user sets whom the host lets in. E8 as by the host, with nothing changed.
+    pub fn admit(&mut self, what: Admission) -> Result<(), Refusal>
+        ensures refused { IfErr result (λ why. RefusesCall (call.Admit what (Err why)) self.old) }
+        ensures unchanged { OnErr result (self.new ≡ self.old) }
+        ensures admits { IfOk result (λ done. CallsAt (call.Admit what (Ok tt)) self.old self.new) }
+    {
+        self.host.admit(what)
+    }
+
+    /// How many slots the host has.
+    pub fn slots(&self) -> u16
+        ensures { result ≡ length self.now.host.slots }
+    {
+        self.host.slot_count()
     }
 
     /// The first refusal but want of memory that datagram `k` of the host `from` meets here, if there is one: E13 where `from`

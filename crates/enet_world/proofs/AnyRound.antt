@@ -1,5 +1,5 @@
 -- Whatever stands in the way of a round: once its moments have come to two connected peers, they stay connected to its end.
-use Rattle.std.proofs.Common.{◌≡◌, ◌≢◌, ◌⊎◌, ℕ, zero, suc, Bool, false, List, [], ◌∷◌, refl, sym, ap, subst, ◌∙◌, inl, inr, Option, Some, None, Result, Ok, Err}
+use Rattle.std.proofs.Common.{◌≡◌, ◌≢◌, ◌⊎◌, ◌&&◌, ℕ, zero, suc, Bool, true, false, List, [], ◌∷◌, refl, sym, ap, subst, ◌∙◌, inl, inr, Option, Some, None, Result, Ok, Err}
 use Rattle.std.specs.List.{slice_get}
 use Rattle.enet_codec.specs.Datagram.{SpellsDatagram}
 use Rattle.enet_codec.specs.Message.{Message, disconnect}
@@ -8,8 +8,11 @@ use Rattle.enet_codec.specs.declared.refusal.Refusal.{Refusal}
 use Rattle.enet_peer.specs.declared.parts.PeerState.{PeerState}
 use Rattle.enet_peer.specs.declared.parts.PeerState.TheVariants as state
 use Rattle.enet_peer.specs.Peering.{Peering}
-use Rattle.enet_peer.specs.CommandEffect.{obeyed, wants_memory}
-use Rattle.enet_peer.specs.Handling.{Arrival, SoFar, HandlesEach, Handles, one_more}
+use Rattle.enet_peer.specs.Calls.{is_answering}
+use Rattle.enet_peer.specs.CommandEffect.{Outcome, wants_memory}
+use Rattle.enet_peer.specs.Handling.{Arrival, SoFar, HandlesEach, Handles, HearsIf, one_more}
+use Rattle.enet_peer.specs.Refusing.{heeded}
+use Rattle.enet_peer.proofs.Refusals.{heeded-obeyed}
 use Rattle.enet_peer.proofs.Each.{handles-each}
 use Rattle.enet_peer.proofs.Obeying.{obeys-holds}
 use Rattle.enet_slot.specs.Slot.{SlotState}
@@ -31,7 +34,7 @@ use Rattle.law_network.specs.Network.{Site, is_earlier, is_late}
 use Rattle.law_network.specs.Shown.{IsLogged, Shows, ShowsPeer, RunsAt}
 use Rattle.law_network.specs.Steps.{Happening, Delivers, BringsOne, beside}
 use Rattle.law_network.specs.World.{World, HappensAt, Steps, site_of, other}
-use Rattle.law_network.proofs.Delivering.{same-connection, IsHeard, heard-at-address, heard-peer, received-by}
+use Rattle.law_network.proofs.Delivering.{arrival, same-connection, IsHeard, heard-at-address, heard-peer, received-by}
 use Rattle.law_network.proofs.Marked.{behind}
 use Rattle.law_network.proofs.OneThing.{in-none, one-thing}
 use Rattle.law_network.proofs.Runs.{Sound}
@@ -50,12 +53,15 @@ use Rattle.enet_world.proofs.Through.{AtMoment, Along, along, reached-ticked, ha
 use Rattle.enet_world.proofs.TwoEnds.{from_start, sound, host-at, twice, Ends, swapped, far-end, faces, Up, up-swapped, up-back, IsOn}
 
 -- ---- commands come, until one stops them
+heeds-on : (a : Arrival) (p : Peering) (m : Message) → p.state ≡ state.Connected → ((info : ℕ) → m.body ≡ disconnect info → ⊥) → (heeded a.full p a.now a.sent m).after.state ≡ state.Connected
+heeds-on a p m on none = ap (λ (o : Outcome). o.after.state) (heeded-obeyed a.full p a.now a.sent m (ap is_answering on)) ∙ hears-on p a.now a.sent m on none
+
 each-stays : (a : Arrival) (old : SoFar) (ms : List Message) (answer : Received) (q : Peering) → old.peer.state ≡ state.Connected → ((m : Message) (info : ℕ) → Has ms m → m.body ≡ disconnect info → ⊥) → HandlesEach a old ms answer q → q.state ≡ state.Connected
 each-stays a old [] answer q on none h = ap (λ (y : Peering). y.state) h.1 ∙ on
 each-stays a old (m ∷ ms) answer q on none (inl s) =
-    obeys-holds (λ y. y.state ≡ state.Connected) (Err s.0) (wants_memory old.peer a.now a.sent m) (obeyed old.peer a.now a.sent m) old.peer q on (hears-on old.peer a.now a.sent m on (λ info e. none m info (inl refl) e)) s.1
+    obeys-holds (λ y. y.state ≡ state.Connected) (Err s.0) (wants_memory old.peer a.now a.sent m) (heeded a.full old.peer a.now a.sent m) old.peer q on (heeds-on a old.peer m on (λ info e. none m info (inl refl) e)) s.1
 each-stays a old (m ∷ ms) answer q on none (inr g) =
-    each-stays a (record { handled = one_more old.handled; peer = g.0 }) ms answer q (ap (λ (y : Peering). y.state) g.1.1 ∙ hears-on old.peer a.now a.sent m on (λ info e. none m info (inl refl) e)) (λ y info h e. none y info (inr h) e) g.2
+    each-stays a (record { handled = one_more old.handled; peer = g.0 }) ms answer q (ap (λ (y : Peering). y.state) g.1.1 ∙ heeds-on a old.peer m on (λ info e. none m info (inl refl) e)) (λ y info h e. none y info (inr h) e) g.2
 
 put-of : (puts : List Put) (m : Message) → Has (messages_of puts) m → (x : Put) × Has puts x × (x.message ≡ m)
 put-of [] m h = absurd h
@@ -165,15 +171,21 @@ arrives-on joined b v x side now own far p k received o r h is lone q is_q on_q 
             l : IsLogged o.new.log c
             l = w.is
 
+            -- it isn't one who was refused
+            handled : Handles (arrival to.host z.header z.slot) (record { handled = 0; peer = z.hears.peer }) z.commands received z.hears.after
+            handled = subst (λ (b : Bool). HearsIf b (arrival to.host z.header z.slot) z.commands z.hears.peer received z.hears.after)
+                (ap (λ (s : PeerState). is_answering s && z.hears.peer.refused) (ap (λ (y : Peering). y.state) was ∙ on)) z.hears.heard
+
             stays : z.hears.after.state ≡ state.Connected
-            stays = each-stays (record { now = to.host.clock; sent = z.header.sent }) (record { handled = 0; peer = ends.shows.peer }) (messages_of l.puts) received z.hears.after on
+            stays = each-stays (arrival to.host z.header z.slot) (record { handled = 0; peer = ends.shows.peer }) (messages_of l.puts) received z.hears.after on
                 (λ m info has says. (let put = put-of l.puts m has in puts-none-ends now own far o.new p l.puts is lone w.goes w.all put.0 info put.1 (ap (λ (y : Message). y.body) put.2 ∙ says)))
-                (handles-each (record { now = to.host.clock; sent = z.header.sent }) (record { handled = 0; peer = ends.shows.peer }) z.commands (messages_of l.puts) received z.hears.after
+                (handles-each (arrival to.host z.header z.slot) (record { handled = 0; peer = ends.shows.peer }) z.commands (messages_of l.puts) received z.hears.after
                 (behind d.text l.header z.header z.read.front z.commands (messages_of l.puts) z.read.split z.read.spelled (subst (λ t. SpellsDatagram t l.header (messages_of l.puts)) text l.spelled))
-                (subst (λ (y : Peering). Handles (record { now = to.host.clock; sent = z.header.sent }) (record { handled = 0; peer = y }) z.commands received z.hears.after) was z.hears.handled))
+                (subst (λ (y : Peering). Handles (arrival to.host z.header z.slot) (record { handled = 0; peer = y }) z.commands received z.hears.after) was handled))
 
     last : Stays
-    last = received-by Stays from.address found.0.text received to to' ends.e far host.few found.2.1.0 ends.shows (λ shown. (ends.shows.peer, shown, on)) heard
+    last = received-by Stays from.address found.0.text received to to' ends.e far host.few found.2.1.0 ends.shows (λ shown. (ends.shows.peer, shown, on))
+        (λ header commands read stranger seats answers. absurd (let y : true ≡ false = sym answers ∙ ap is_answering on in cc)) heard
 
     same : g.went.shows.peer ≡ last.0
     same = held-so g.went.shows.peer.state g.went.shows.peer last.0 (sym g.went.shows.shows.is ∙ ap (λ n. named_at to'.host.slots n) g.name ∙ last.1.is ∙ held-on last.0 last.2)

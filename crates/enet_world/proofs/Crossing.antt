@@ -12,7 +12,9 @@ use Rattle.enet_peer.specs.declared.parts.PeerState.TheVariants as state
 use Rattle.enet_peer.specs.Peering.{Peering}
 use Rattle.enet_peer.specs.Endings.{is_later}
 use Rattle.enet_peer.specs.CommandEffect.{Outcome, obeyed, stopped, is_connect, is_allowed, unless_refused, by_body, by_answer, by_arrival}
-use Rattle.enet_peer.specs.Calls.{pace_of}
+use Rattle.enet_peer.specs.Calls.{is_answering, pace_of}
+use Rattle.enet_peer.specs.Refusing.{heeded}
+use Rattle.enet_peer.proofs.Refusals.{heeded-obeyed}
 use Rattle.enet_inbox.specs.DataEffect.{arrival, passed_over}
 use Rattle.enet_slot.specs.Receiving.{no_peer}
 use Rattle.enet_slot.specs.Receiving as slots
@@ -27,7 +29,7 @@ use Rattle.law_network.specs.Log.{Logged}
 use Rattle.law_network.specs.Network.{HostEnd, Site, is_earlier, is_late}
 use Rattle.law_network.specs.Shown.{IsLogged, IsApart}
 use Rattle.law_network.specs.Steps.{BringsOne}
-use Rattle.law_network.specs.Telling.{AllObeyed}
+use Rattle.law_network.specs.Telling.{AllHeeded}
 use Rattle.law_network.proofs.Addresses.{same-address}
 use Rattle.law_network.proofs.Beginnings.{the-offer}
 use Rattle.law_network.proofs.Delivering.{same-connection}
@@ -83,26 +85,29 @@ same-obeyed p now time sent m asks = by m.head.acknowledge refl
         (unasked p now time m.head.channel m.head.number sent m.head.unsequenced m.body)
 
 -- ---- what comes and isn't stopped, and is no DISCONNECT, in the law's words
-pub all-come : (now time : ℕ) (sent : Option ℕ) (puts : List Put) (from to new : End) → ((x : Put) → Has puts x → x.message.head.acknowledge ≡ true → sent ≡ Some time) → ((x : Put) (info : ℕ) → Has puts x → x.message.body ≡ disconnect info → ⊥)
-    → AllObeyed now sent puts to from new → IsOn to → AllCome now time from puts to new × IsOn new
+pub all-come : (full : Bool) (now time : ℕ) (sent : Option ℕ) (puts : List Put) (from to new : End) → ((x : Put) → Has puts x → x.message.head.acknowledge ≡ true → sent ≡ Some time) → ((x : Put) (info : ℕ) → Has puts x → x.message.body ≡ disconnect info → ⊥)
+    → AllHeeded full now sent puts to from new → IsOn to → AllCome now time from puts to new × IsOn new
 unfolding IsOn
-all-come now time sent [] from to new told none a on = (a, subst (λ (e : End). (p : Peering) × (e.peer ≡ Some p) × (p.state ≡ state.Connected)) (sym a) on)
-all-come now time sent (x ∷ puts) from to new told none a on = by (λ stays. all-come now time sent puts from (with_peer to q) new (λ y h. told y (inr h)) (λ y info h. none y info (inr h)) a.4 (q, refl, stays))
+all-come full now time sent [] from to new told none a on = (a, subst (λ (e : End). (p : Peering) × (e.peer ≡ Some p) × (p.state ≡ state.Connected)) (sym a) on)
+all-come full now time sent (x ∷ puts) from to new told none a on = by (λ stays. all-come full now time sent puts from (with_peer to q) new (λ y h. told y (inr h)) (λ y info h. none y info (inr h)) a.4 (q, refl, stays))
   where
     p : Peering
     p = a.0
 
     q : Peering
-    q = (obeyed p now sent x.message).after
-
-    same : obeyed p now sent x.message ≡ obeyed p now (Some time) x.message
-    same = same-obeyed p now time sent x.message (told x (inl refl))
+    q = (heeded full p now sent x.message).after
 
     connected : p.state ≡ state.Connected
     connected = ap (λ (y : Peering). y.state) (same-some p on.0 (sym a.1 ∙ on.1)) ∙ on.2
 
+    plain : heeded full p now sent x.message ≡ obeyed p now sent x.message
+    plain = heeded-obeyed full p now sent x.message (ap is_answering connected)
+
+    same : heeded full p now sent x.message ≡ obeyed p now (Some time) x.message
+    same = plain ∙ same-obeyed p now time sent x.message (told x (inl refl))
+
     stays : q.state ≡ state.Connected
-    stays = hears-on p now sent x.message connected (λ info e. none x info (inl refl) e)
+    stays = ap (λ (o : Outcome). o.after.state) plain ∙ hears-on p now sent x.message connected (λ info e. none x info (inl refl) e)
 
     comes : Comes now time from x to (with_peer to q)
     comes = record {
@@ -110,7 +115,7 @@ all-come now time sent (x ∷ puts) from to new told none a on = by (λ stays. a
       is = a.1;
       connected = connected;
       room = inr (ap (λ (o : Outcome). o.stop) (sym same) ∙ a.3);
-      after = inl (p, a.1, a.2, ap (λ (o : Outcome). with_peer to o.after) same);
+      after = inl (p, a.1, a.2, false, ap (λ (o : Outcome). with_peer to o.after) same);
       stays = λ r is. (let z : q ≡ r = same-some q r is in ap (λ (y : Peering). y.state) (sym z) ∙ stays);
     }
 

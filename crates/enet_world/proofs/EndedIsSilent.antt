@@ -33,8 +33,10 @@ use Rattle.enet_peer.specs.declared.parts.PeerState.{PeerState}
 use Rattle.enet_peer.specs.declared.parts.PeerState.TheVariants as state
 use Rattle.enet_peer.specs.Peering.{Peering}
 use Rattle.enet_peer.specs.Endings.{settled, disconnecting, ended, is_later, freed, cut_off_in}
-use Rattle.enet_peer.specs.CommandEffect.{obeyed, unless_refused, stopped, is_allowed, is_connect, by_body, answered, answered_at, is_answered_in, is_connecting, on_acknowledge, on_match, sampled, with_answer, on_verify_in, welcomed, on_disconnect_in, on_last_disconnect}
-use Rattle.enet_peer.specs.Calls.{Leave, AtOnce, TellsOnce, Asks, AsksLater, Refused, expiry_of, is_connected, left, moved, pace_of, gone_on_in, submission_refusal, submitted, ticked, pinged, is_pinged, after_timeouts_by, tick_of}
+use Rattle.enet_peer.specs.Refusing.{told_full}
+use Rattle.enet_peer.proofs.Refusals.{heeded-holds}
+use Rattle.enet_peer.specs.CommandEffect.{Outcome, obeyed, unless_refused, stopped, is_allowed, is_connect, by_body, answered, answered_at, is_answered_in, is_connecting, on_acknowledge, on_match, sampled, with_answer, on_verify_in, welcomed, on_disconnect_in, on_last_disconnect}
+use Rattle.enet_peer.specs.Calls.{Leave, AtOnce, TellsOnce, Asks, AsksLater, Refused, expiry_of, is_answering, is_connected, left, moved, pace_of, gone_on_in, submission_refusal, submitted, ticked, pinged, is_pinged, after_timeouts_by, tick_of}
 use Rattle.enet_host.specs.Host.{named}
 use Rattle.law_connection.specs.Steps.{leave_by}
 use Rattle.law_connection.specs.Steps as event
@@ -286,7 +288,9 @@ silent-lasts : Lasts IsSilent
 silent-lasts = record {
   submits = λ p channel q free h e. absurd (not-connected p channel (length q.body) free (same-state p channel q e));
   emits = λ p now h. silent-went (record p { outbox = (filled (pace_of p now) p.outbox).outbox }) p.state (λ e. (let k = fills-none (pace_of p now) p.outbox (h e) in k.left));
-  comes = λ p now sent m h. silent-obeyed p now sent m h;
+  comes = λ full p now sent m h. heeded-holds (λ (o : Outcome). IsSilent o.after) full p now sent m (silent-obeyed p now sent m h) (λ answers e. absurd (let y : false ≡ true = ap is_answering (sym e) ∙ answers in cc));
+  yields = λ p answers h e. absurd (cc);
+  tells = λ p away h. again p (and-left (is_answering p.state) p.refused away) h (nat_lt 0 (length p.outbox.control.queued));
   ticks = λ short p now h. silent-moved short p now h;
   takes = λ p q e next h. took (λ y t. IsSilent y) p q e next (λ info g. h) (λ x rest g u. h) (λ g u at s. absurd (cc));
   leaves = λ p q way info e h. subst (λ (o : Option Peering). IsSilent (after_leave p o)) e (silent-left p (leave_by way p.state) info h);
@@ -295,6 +299,10 @@ silent-lasts = record {
   where
     same-state : (p : Peering) (channel : ℕ) (q : Packet) → (submitted p channel q).state ≡ state.Ended → p.state ≡ state.Ended
     same-state p channel q e = e
+
+    again : (p : Peering) → is_answering p.state ≡ true → IsSilent p → (b : Bool) → IsSilent (cond b p (told_full p))
+    again p answers h true = h
+    again p answers h false = λ e. absurd (let y : false ≡ true = ap is_answering (sym e) ∙ answers in cc)
 
 named-silent : (joined : Bool) (w : World) → IsReached joined w → (side : Side) (name : PeerRef) (p : Peering) → named (site_of w side).host.slots name ≡ Some p → IsSilent p
 named-silent = named-has IsSilent silent-lasts (record {

@@ -1,4 +1,5 @@
 -- What each deed is that falls to a peer by a call, by what each of its kind is.
+use Rattle.std.specs.Prelude.{is_some}
 use Rattle.std.proofs.Common.{ℕ, ◌==◌, Bool, true, false, cond, List, [], ◌∷◌, subst, Option, Result, nat_lt}
 use Rattle.enet_codec.specs.declared.event.Received.{Received}
 use Rattle.enet_codec.specs.declared.stop.Stop.{Stop}
@@ -33,16 +34,19 @@ each-up-to D turn j i gives passes g p = by (j == i)
 
 -- each command that comes in a datagram at this moment
 abbrev Come : (Deed → Type 0) → ℕ → Type 0
-Come D now = (sent : Option ℕ) (m : Message) (answer : Result (Unit {0}) Stop) → D (deed.Come now sent m answer)
+Come D now = (sent : Option ℕ) (full : Bool) (m : Message) (answer : Result (Unit {0}) Stop) → D (deed.Come (record { now = now; sent = sent; full = full }) m answer)
 
 each-falls : (D : Deed → Type 0) (a : Arrival) (handled : ℕ) (bytes : List ℕ) (answer : Received) (ds : List Deed) → Come D a.now → Falls a handled bytes answer ds → Each D ds
 each-falls D a handled bytes answer ds come (falling.nothing_left n) = tt
 each-falls D a handled bytes answer ds come (falling.no_command n text some none) = tt
-each-falls D a handled bytes answer ds come (falling.stops n text rest m why spelled) = (come a.sent m _, tt)
-each-falls D a handled bytes answer ds come (falling.goes_on n text rest m told more spelled f) = (come a.sent m _, each-falls D a _ rest told more come f)
+each-falls D a handled bytes answer ds come (falling.stops n text rest m why spelled) = (come a.sent a.full m _, tt)
+each-falls D a handled bytes answer ds come (falling.goes_on n text rest m told more spelled f) = (come a.sent a.full m _, each-falls D a _ rest told more come f)
 
-pub each-reaches : (D : Deed → Type 0) (i : ℕ) (s : SlotState) (r : Receipt) (ds : List Deed) → Come D r.now → Reaches i s r ds → Each D ds
-each-reaches D i s r ds come (falling.unreadable why un) = tt
-each-reaches D i s r ds come (falling.elsewhere header commands read not-here) = tt
-each-reaches D i s r ds come (falling.turned_away header commands why read some is refused told) = tt
-each-reaches D i s r ds come (falling.here header commands ds' read some is taken f) = each-falls D _ 0 commands r.answer ds' come f
+-- or its peer gives way, or is told again
+pub each-reaches : (D : Deed → Type 0) (i : ℕ) (s : SlotState) (r : Receipt) (ds : List Deed) → Come D r.host.clock → D deed.GiveWay → D deed.TellAgain → Reaches i s r ds → Each D ds
+each-reaches D i s r ds come yields tells (falling.unreadable why un) = tt
+each-reaches D i s r ds come yields tells (falling.elsewhere header commands read not-here none) = tt
+each-reaches D i s r ds come yields tells (falling.gives_way header commands read seat) = (yields, tt)
+each-reaches D i s r ds come yields tells (falling.turned_away header commands why read some is refused told) = tt
+each-reaches D i s r ds come yields tells (falling.here header commands ds' read some is taken not' f) = each-falls D _ 0 commands r.answer ds' come f
+each-reaches D i s r ds come yields tells (falling.told_again header commands read some is taken was told) = each-if D (is_some header.sent) deed.TellAgain tells

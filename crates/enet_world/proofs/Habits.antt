@@ -1,10 +1,11 @@
 -- What each peer of a world has kept since it began, since in a world nothing is set: ENet's patience and ping interval, room for 576 bytes in a
 -- datagram, at most a PING on channel 0xFF while it is connected, and that whatever was sent is due to go again, or its timeout isn't over; and how
 -- long it has waited, by how much the clocks have gone on since the world's beginning.
-use Rattle.std.proofs.Common.{◌≡◌, ℕ, ◌+◌, ◌%◌, ◌^◌, ◌<◌, ◌≤◌, ◌&&◌, min, ◌⊎◌, inl, inr, Bool, true, false, List, [], ◌∷◌, ◌++◌, append-nil, refl, sym, ap, subst, ◌∙◌, arith, Option, Some, None, Result, Ok, Err}
+use Rattle.std.proofs.Common.{◌≡◌, ℕ, ◌+◌, ◌%◌, ◌^◌, ◌<◌, ◌≤◌, ◌&&◌, min, ◌⊎◌, inl, inr, Bool, true, false, cond, nat_lt, length, List, [], ◌∷◌, ◌++◌, append-nil, refl, sym, ap, subst, ◌∙◌, arith, Option, Some, None, Result, Ok, Err}
 use Rattle.std.proofs.lemmas.Bool.Decides.{nat_tests}
 use Rattle.std.specs.List.{slice_get}
 use Rattle.enet_codec.specs.declared.address.Addr.{Addr}
+use Rattle.enet_codec.specs.declared.config.Admission.TheVariants as admission
 use Rattle.enet_codec.specs.declared.config.Config.{Config}
 use Rattle.enet_codec.specs.Config.{is_in_range}
 use Rattle.enet_codec.specs.declared.event.Event.TheVariants as tells
@@ -12,9 +13,11 @@ use Rattle.enet_codec.specs.declared.event.PeerRef.{PeerRef}
 use Rattle.enet_codec.specs.declared.refusal.Refusal.{Refusal}
 use Rattle.enet_rtt.specs.declared.transmission.Transmission.{Transmission}
 use Rattle.enet_peer.specs.Peering.{Peering}
-use Rattle.enet_peer.specs.CommandEffect.{obeyed, wants_memory}
+use Rattle.enet_peer.specs.CommandEffect.{Outcome, wants_memory}
+use Rattle.enet_peer.specs.Refusing.{heeded, told_full}
+use Rattle.enet_peer.proofs.Refusals.{heeded-holds}
 use Rattle.enet_outbox.specs.Emission.{filled}
-use Rattle.enet_peer.specs.Calls.{moved, pace_of}
+use Rattle.enet_peer.specs.Calls.{AtOnce, is_answering, moved, pace_of}
 use Rattle.enet_slot.specs.Slot.{SlotState}
 use Rattle.enet_host.specs.Host.{Host, named, peer_in, slot_named}
 use Rattle.enet_host.specs.Opening as opening
@@ -53,13 +56,13 @@ use Rattle.law_network.proofs.Submitting.{same-some}
 use Rattle.law_progress.specs.Attempts.{after_take}
 use Rattle.law_progress.specs.Waits.{after_leave}
 use Rattle.law_progress.proofs.Ageing.{Aged, Ages, most, ages-moved, ages-emitted, ages-more}
-use Rattle.law_progress.proofs.Waiting.{none-new, fair-obeyed, fair-takes, fair-submitted, fair-left, Fair}
+use Rattle.law_progress.proofs.Waiting.{none-new, fair-again, fair-heeded, fair-takes, fair-submitted, fair-left, Fair}
 use Rattle.law_progress.proofs.Wide.{IsWide, at-least, wide-obeyed, wide-takes, wide-went, wide-left, wide-moved}
 use Rattle.enet_world.specs.Worlds.{first}
 use Rattle.enet_world.specs.Private.Worlds.{IsReachedIn, passes, all_pass}
 use Rattle.enet_world.proofs.Fallen.{Each, kept-by-each, each-if, each-up-to, each-reaches}
 use Rattle.enet_world.proofs.Lasting.{obeys}
-use Rattle.enet_world.proofs.Modest.{IsModest, modest-obeyed, modest-moved, modest-emitted, modest-submitted, modest-left}
+use Rattle.enet_world.proofs.Modest.{IsModest, modest-obeyed, modest-told, modest-moved, modest-emitted, modest-submitted, modest-left}
 use Rattle.enet_world.proofs.Pings.{Idle, Queued}
 use Rattle.enet_world.proofs.Punctual.{Rests, rests-moved, rests-emitted}
 use Rattle.enet_world.proofs.Unset.{IsUnset, unset-obeyed, unset-went, unset-left, unset-moved}
@@ -80,12 +83,14 @@ pub record Habit (now time : ℕ) (p : Peering) : Type 0 where
 abbrev pub IsNow : ℕ → Deed → Type 0
 IsNow n (deed.Submit packet answer) = Unit {0}
 IsNow n (deed.Emit now given) = now ≡ n
-IsNow n (deed.Come now sent m answer) = now ≡ n
+IsNow n (deed.Come b m answer) = b.now ≡ n
 IsNow n (deed.Tick now short) = ⊥
 IsNow n (deed.Take given) = Unit {0}
 IsNow n (deed.Disconnect way info answer) = Unit {0}
 IsNow n (deed.Set (setting.ThrottleLimit limit) answer) = Unit {0}
 IsNow n (deed.Set s answer) = ⊥
+IsNow n deed.GiveWay = Unit {0}
+IsNow n deed.TellAgain = Unit {0}
 
 pub clock-sum : (now d : ℕ) → (now % 2 ^ 32 + d) % 2 ^ 32 ≡ (now + d) % 2 ^ 32
 clock-sum now d = omega arith
@@ -111,14 +116,31 @@ deed-keeps now time (deed.Emit n given) p q at a h = subst (Habit now time) (sym
   modest = modest-emitted p (now % 2 ^ 32) h.modest;
   unsent = unsent-lasts.emits p (now % 2 ^ 32) h.unsent;
 })
-deed-keeps now time (deed.Come n sent m answer) p q at a h = obeys (Habit now time) answer (wants_memory p n sent m) (obeyed p n sent m) p q a h (record {
-  aged = λ near. fair-obeyed (Aged now time) most p n sent m (h.aged near);
-  rests = fair-obeyed (Rests (now % 2 ^ 32)) most p n sent m h.rests;
-  wide = wide-obeyed p n sent m h.wide;
-  unset = unset-obeyed p n sent m (low-now n now at) h.unset;
-  modest = modest-obeyed p n sent m h.modest;
-  unsent = unsent-lasts.comes p n sent m h.unsent;
+deed-keeps now time (deed.Come b m answer) p q at a h = obeys (Habit now time) answer (wants_memory p b.now b.sent m) (heeded b.full p b.now b.sent m) p q a h (record {
+  aged = λ near. fair-heeded (Aged now time) most b.full p b.now b.sent m (h.aged near);
+  rests = fair-heeded (Rests (now % 2 ^ 32)) most b.full p b.now b.sent m h.rests;
+  wide = heeded-holds (λ (o : Outcome). IsWide o.after) b.full p b.now b.sent m (wide-obeyed p b.now b.sent m h.wide) (λ answers. h.wide);
+  unset = heeded-holds (λ (o : Outcome). IsUnset o.after) b.full p b.now b.sent m (unset-obeyed p b.now b.sent m (low-now b.now now at) h.unset) (λ answers. h.unset);
+  modest = heeded-holds (λ (o : Outcome). IsModest o.after) b.full p b.now b.sent m (modest-obeyed p b.now b.sent m h.modest) (λ answers. modest-told p answers);
+  unsent = unsent-lasts.comes b.full p b.now b.sent m h.unsent;
 })
+deed-keeps now time deed.GiveWay p q at a h = subst (Habit now time) (sym a.1) (record {
+  aged = λ near. fair-left (Aged now time) most p AtOnce 0 (h.aged near);
+  rests = fair-left (Rests (now % 2 ^ 32)) most p AtOnce 0 h.rests;
+  wide = h.wide;
+  unset = h.unset;
+  modest = tt;
+  unsent = unsent-lasts.yields p a.0 h.unsent;
+})
+deed-keeps now time deed.TellAgain p q at a h = subst (Habit now time) (sym a.1)
+    (again told (λ near. fair-again (Aged now time) most true told p (h.aged near)) (fair-again (Rests (now % 2 ^ 32)) most true told p h.rests) (unsent-lasts.tells p a.0 h.unsent))
+  where
+    told : Bool
+    told = nat_lt 0 (length p.outbox.control.queued)
+
+    again : (b : Bool) → (time < 2 ^ 32 → Ages now time (cond b p (told_full p))) → Fair (Rests (now % 2 ^ 32)) most (cond b p (told_full p)) → IsUnsent (cond b p (told_full p)) → Habit now time (cond b p (told_full p))
+    again true aged rests unsent = h
+    again false aged rests unsent = record { aged = aged; rests = rests; wide = h.wide; unset = h.unset; modest = modest-told p (both (is_answering p.state) p.refused a.0).0; unsent = unsent }
 deed-keeps now time (deed.Tick n short) p q at a h = absurd at
 deed-keeps now time (deed.Take None) p q at a h = subst (Habit now time) (sym a.1) h
 deed-keeps now time (deed.Take (Some e)) p q at a h = record {
@@ -156,7 +178,7 @@ IsStill c = Unit {0}
 fell-now : (h : Common) (x : Occupied) (c : Call) (ds : List Deed) → IsStill c → Fell h x c ds → Each (IsNow h.clock) ds
 fell-now h x (call.Connect address channels info word answer) ds k f = subst (Each (IsNow h.clock)) (sym f) tt
 fell-now h x (call.Submit name channel q answer) ds k f = subst (Each (IsNow h.clock)) (sym f) (each-if (IsNow h.clock) (falling.is_meant name x.number x.slot) _ tt)
-fell-now h x (call.Receive from bytes answer) ds k f = each-reaches (IsNow h.clock) x.number x.slot _ ds (λ sent m told. refl) f
+fell-now h x (call.Receive from bytes answer) ds k f = each-reaches (IsNow h.clock) x.number x.slot _ ds (λ sent full m told. refl) tt tt f
 fell-now h x (call.Service None buf) ds k f = subst (Each (IsNow h.clock)) (sym f) (refl, tt)
 fell-now h x (call.Service (Some gave) buf) ds k f = subst (Each (IsNow h.clock)) (sym f) (each-up-to (IsNow h.clock) h.turn gave.0.slot x.number _ _ refl refl)
 fell-now h x (call.Disconnect mode name info answer) ds k f = subst (Each (IsNow h.clock)) (sym f) (each-if (IsNow h.clock) (falling.is_meant name x.number x.slot) _ tt)
@@ -165,6 +187,7 @@ fell-now h x (call.NextEvent (Some (tells.Connect name info))) ds k f = subst (E
 fell-now h x (call.NextEvent (Some (tells.Receive name packet))) ds k f = subst (Each (IsNow h.clock)) (sym f) (each-up-to (IsNow h.clock) h.event_turn name.slot x.number _ _ tt tt)
 fell-now h x (call.NextEvent (Some (tells.Disconnect name info))) ds k f = subst (Each (IsNow h.clock)) (sym f) (each-up-to (IsNow h.clock) h.event_turn name.slot x.number _ _ tt tt)
 fell-now h x (call.NextEvent (Some (tells.Refused seat number why))) ds k f = subst (Each (IsNow h.clock)) (sym f) tt
+fell-now h x (call.Admit what answer) ds k f = subst (Each (IsNow h.clock)) (sym f) tt
 fell-now h x c ds k f = absurd k
 
 -- ---- a host
@@ -233,6 +256,8 @@ by-one P Q c h g acts goes begins old name p is = began l.began
 
 still-mtu : (c : Call) (k : Config) → IsStill c → (config_by c k).mtu ≡ k.mtu
 still-mtu (call.SetBandwidth incoming outgoing answer) k still = absurd still
+still-mtu (call.Admit admission.GiveWay (Ok done)) k still = refl
+still-mtu (call.Admit (admission.Most peers) (Ok done)) k still = refl
 still-mtu c k still = refl
 
 still-call : (time : ℕ) (c : Call) (h g : Host) → IsStill c → Acts c h g → HostHabits time h → HostHabits time g
@@ -338,7 +363,9 @@ is-tick-or w (happen.Tick side ms) answer what m = absurd m
 is-tick-or w (happen.Take side) (answers.Taken event) what m = inr (subst IsStillThing (sym m) tt)
 is-tick-or w (happen.Take side) answer what m = absurd m
 is-tick-or w (happen.Disconnect side peer how info) answers.Done what m = inr (subst IsStillThing (sym m) tt)
+is-tick-or w (happen.Admit side what') answers.Done what m = inr (subst IsStillThing (sym m) tt)
 is-tick-or w (happen.Disconnect side peer how info) answer what m = absurd m
+is-tick-or w (happen.Admit side what') answer what m = absurd m
 
 world-step : (time : ℕ) (w v : World) (e : WorldEvent) (answer : Result Answer Refusal) → world.Steps w e answer v → WorldHabits time w → WorldHabits (time + passes e) v
 world-step time w v e (Err why) step k = λ side. subst (λ (u : World). HostHabits (time + passes e) (site_of u side).host) (sym step.1) (host-more time (time + passes e) (site_of w side).host (omega arith) (k side))

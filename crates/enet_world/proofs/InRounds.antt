@@ -19,6 +19,7 @@ use Rattle.enet_peer.specs.Calls as peers
 use Rattle.enet_rtt.specs.Clock.{told_time}
 use Rattle.enet_slot.specs.Calls.{peer_tells}
 use Rattle.enet_host.specs.Host.{named}
+use Rattle.enet_host.specs.Receiving.{is_full, listener_of}
 use Rattle.enet_host.specs.Ticking.{clock_after}
 use Rattle.law_connection.specs.Connection.{Put, End}
 use Rattle.law_connection.specs.Law.{offset_of}
@@ -39,7 +40,7 @@ use Rattle.law_network.specs.Network.{Site}
 use Rattle.law_network.specs.Own.{clock_by}
 use Rattle.law_network.specs.Shown.{IsLogged}
 use Rattle.law_network.specs.Steps.{Happening, Calls, Delivers, BringsOne, beside}
-use Rattle.law_network.specs.Telling.{HasNothingNew, IsPassedBy, Gave, AllObeyed, Ticks}
+use Rattle.law_network.specs.Telling.{HasNothingNew, IsPassedBy, Gave, AllHeeded, GoesTo, Ticks}
 use Rattle.law_network.specs.World.{World, HappensAt, Steps, site_of, other}
 use Rattle.law_network.proofs.Names.{IsThere, named-there}
 use Rattle.law_network.proofs.Own.{of-the-host}
@@ -67,7 +68,7 @@ use Rattle.enet_world.proofs.Moments.{waited, ticks-joint}
 use Rattle.enet_world.proofs.Offers.{NoOffers, connected-plain}
 use Rattle.enet_world.proofs.Pings.{IsLone, is_ping}
 use Rattle.enet_world.proofs.Reaching.{reached-step}
-use Rattle.enet_world.proofs.Staying.{puts-none-ends, emits-on, none-filled}
+use Rattle.enet_world.proofs.Staying.{puts-none-ends, emits-on, none-filled, not-let-go}
 use Rattle.enet_world.proofs.TwoEnds.{from_start, sound, host-at, twice, Ends, swapped, is-end, far-end, faces, Moved, moved, IsDown, down-step, Up, up-back, begun-here, IsOn, up-or-down, live}
 
 -- ---- the hosts' clocks
@@ -336,8 +337,9 @@ brought joined b v x side now own far p k received o r h none is plain lone q is
         let apart : found.0.connection ≢ x = passed.0 found.0 (subst (λ (t : Site). slice_get t.log k ≡ Some found.0) same_from found.1) in
         let shown = passes-over k received found.0 from to (site_of v (other side)) found.2 found.1 (host-at j b s (other (other side))).named ends.e far o.new (is-end j b x (other side) far o.new s ends)
         (far-end j b x (other side) far o.new s ends) (λ e. apart (e ∙ ends.of_e)) in
-        let m : Moved v x (other side) o.new (λ end. end ≡ far) = moved b v x (other side) far o.new (Delivers k received) (λ end. end ≡ far) ends h shown in
-        let up : Up joined v x side o.new far = done far (subst (λ (e : End). Ends v x (other side) e o.new) m.2 m.1) o.joint (q, is_q, on_q) in
+        let m : Moved v x (other side) o.new (λ end. (end ≡ far) ⊎ GoesTo to ends.e found.0 far o.new end) =
+        moved b v x (other side) far o.new (Delivers k received) (λ end. (end ≡ far) ⊎ GoesTo to ends.e found.0 far o.new end) ends h shown in
+        let up : Up joined v x side o.new far = done far (subst (λ (e : End). Ends v x (other side) e o.new) (not-let-go to ends.e found.0 far o.new m.0 q is_q on_q m.2) m.1) o.joint (q, is_q, on_q) in
         elim passed.1 [
           | inl same ↦ (0, o.new, far, up, (same, refl))
           | inr emits ↦ (1, o.new, far, up, one-put now there own far o.new far (record { goes = emits; new = []; logged = passed.2 ∙ sym (append-nil own.log); arrived = far; come = refl; events = 0; takes = refl }))
@@ -351,9 +353,10 @@ brought joined b v x side now own far p k received o r h none is plain lone q is
         (puts-plain now own far o.new p g.is.puts is plain g.goes g.all) in
         let shown = brings k received d from to (site_of v (other side)) brings' there' (host-at j b s (other (other side))).named ends.e far o.new (is-end j b x (other side) far o.new s ends)
         (far-end j b x (other side) far o.new s ends) (live far q is_q on_q) g.is (g.of ∙ sym ends.of_e) slot.0 slot.1 none in
-        let m : Moved v x (other side) o.new (λ end. AllObeyed there g.is.header.sent g.is.puts far o.new end) =
-        moved b v x (other side) far o.new (Delivers k received) (λ end. AllObeyed there g.is.header.sent g.is.puts far o.new end) ends h shown in
-        let came = all-come there (told_time now (offset_of own)) g.is.header.sent g.is.puts o.new far m.0 g.sent (puts-none-ends now own far o.new p g.is.puts is lone g.goes g.all) m.2 (q, is_q, on_q) in (
+        let full : Bool = is_full (listener_of to.host) in
+        let m : Moved v x (other side) o.new (λ end. AllHeeded full there g.is.header.sent g.is.puts far o.new end) =
+        moved b v x (other side) far o.new (Delivers k received) (λ end. AllHeeded full there g.is.header.sent g.is.puts far o.new end) ends h shown in
+        let came = all-come full there (told_time now (offset_of own)) g.is.header.sent g.is.puts o.new far m.0 g.sent (puts-none-ends now own far o.new p g.is.puts is lone g.goes g.all) m.2 (q, is_q, on_q) in (
           1,
           o.new,
           m.0,

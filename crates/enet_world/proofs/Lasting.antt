@@ -8,13 +8,15 @@ use Rattle.enet_peer.specs.declared.parts.PeerEvent.{PeerEvent}
 use Rattle.enet_peer.specs.declared.parts.PeerState.{PeerState}
 use Rattle.enet_peer.specs.declared.parts.PeerState.TheVariants as state
 use Rattle.enet_peer.specs.Peering.{Peering}
-use Rattle.enet_peer.specs.CommandEffect.{Outcome, Obeys, obeyed, wants_memory}
-use Rattle.enet_peer.specs.Calls.{submission_refusal, left, moved, submitted, next_event}
+use Rattle.enet_peer.specs.CommandEffect.{Outcome, Obeys, wants_memory}
+use Rattle.enet_peer.specs.Calls.{submission_refusal, is_answering, left, moved, submitted, next_event}
+use Rattle.enet_peer.specs.Endings.{freed}
+use Rattle.enet_peer.specs.Refusing.{heeded, is_turned_away, told_again}
 use Rattle.law_connection.specs.Connection.{End}
 use Rattle.law_connection.specs.Steps.{Way, leave_by, Setting, MaySet, with_setting, Happens, Event}
 use Rattle.law_connection.specs.Steps as event
 use Rattle.law_connection.proofs.Events.{took}
-use Rattle.law_connection.proofs.PeerChanges.{Core, Changes, kept-moved, kept-left, kept-set, kept-emitted, kept-obeyed}
+use Rattle.law_connection.proofs.PeerChanges.{Core, Changes, kept-moved, kept-left, kept-set, kept-emitted, kept-given_way, kept-heeded, kept-told_again}
 use Rattle.law_network.specs.Deeds.{Deed, Alone, AllAlone, emitted}
 use Rattle.law_network.specs.Deeds as deed
 use Rattle.law_network.proofs.Matching.{was-set, matches}
@@ -25,7 +27,9 @@ use Rattle.law_network.specs.Shown.{RunsAt}
 pub record Lasts (P : Peering → Type 0) : Type 0 where
   pub submits : (p : Peering) (channel : ℕ) (q : Packet) → submission_refusal p channel (length q.body) ≡ None → P p → P (submitted p channel q)
   pub emits : (p : Peering) (now : ℕ) → P p → P (emitted p now)
-  pub comes : (p : Peering) (now : ℕ) (sent : Option ℕ) (m : Message) → P p → P (obeyed p now sent m).after
+  pub comes : (full : Bool) (p : Peering) (now : ℕ) (sent : Option ℕ) (m : Message) → P p → P (heeded full p now sent m).after
+  pub yields : (p : Peering) → is_answering p.state ≡ true → P p → P (freed p)
+  pub tells : (p : Peering) → is_turned_away p ≡ true → P p → P (told_again p)
   pub ticks : (short : Bool) (p : Peering) (now : ℕ) → P p → P (moved short p now)
   pub takes : (p q : Peering) (e : PeerEvent) → next_event p ≡ Some (record { event = e; after = q }) → P p → P q
   pub leaves : (p q : Peering) (way : Way) (info : ℕ) → left (leave_by way p.state) p info ≡ Some q → P p → P q
@@ -41,7 +45,7 @@ pub lasts-alone : (P : Peering → Type 0) → Lasts P → (d : Deed) (p q : Pee
 lasts-alone P k (deed.Submit x (Ok done)) p q a h = subst P (sym a.1) (k.submits p x.channel (record { flags = x.flags; body = x.body }) a.0 h)
 lasts-alone P k (deed.Submit x (Err why)) p q a h = subst P (sym a.1) h
 lasts-alone P k (deed.Emit now given) p q a h = subst P (sym a.1) (k.emits p now h)
-lasts-alone P k (deed.Come now sent m answer) p q a h = obeys P answer (wants_memory p now sent m) (obeyed p now sent m) p q a h (k.comes p now sent m h)
+lasts-alone P k (deed.Come b m answer) p q a h = obeys P answer (wants_memory p b.now b.sent m) (heeded b.full p b.now b.sent m) p q a h (k.comes b.full p b.now b.sent m h)
 lasts-alone P k (deed.Tick now short) p q a h = subst P (sym a) (k.ticks short p now h)
 lasts-alone P k (deed.Take None) p q a h = subst P (sym a.1) h
 lasts-alone P k (deed.Take (Some e)) p q a h = k.takes p q e a h
@@ -49,6 +53,8 @@ lasts-alone P k (deed.Disconnect way info (Ok done)) p q a h = k.leaves p q way 
 lasts-alone P k (deed.Disconnect way info (Err why)) p q a h = subst P (sym a.2) h
 lasts-alone P k (deed.Set s (Ok done)) p q a h = (let set = was-set s done p q a in subst P (sym set.1) (k.sets p s set.0 h))
 lasts-alone P k (deed.Set s (Err why)) p q a h = subst P (sym (matches.refused (deed.Set s (Err why)) p q a refl)) h
+lasts-alone P k deed.GiveWay p q a h = subst P (sym a.1) (k.yields p a.0 h)
+lasts-alone P k deed.TellAgain p q a h = subst P (sym a.1) (k.tells p a.0 h)
 
 pub lasts-all : (P : Peering → Type 0) → Lasts P → (ds : List Deed) (p q : Peering) → AllAlone ds p q → P p → P q
 lasts-all P k [] p q a h = subst P a h
@@ -71,11 +77,13 @@ lasts-event P k own other new (event.Submit q) x h =
     held P new (event.with_submission own x.0 q) (submitted x.0 q.channel (record { flags = q.flags; body = q.body })) x.3 refl (k.submits x.0 q.channel (record { flags = q.flags; body = q.body }) x.2 (holds-here P own x.0 x.1 h))
 lasts-event P k own other new (event.Emit now) x h = held P new (event.with_emission own other x.0 now) (emitted x.0 now) x.2 refl (k.emits x.0 now (holds-here P own x.0 x.1 h))
 lasts-event P k own other new (event.Come put now sent) x h =
-    held P new (event.with_peer own (obeyed x.0 now sent put.message).after) (obeyed x.0 now sent put.message).after x.3 refl (k.comes x.0 now sent put.message (holds-here P own x.0 x.1 h))
+    held P new (event.with_peer own (heeded x.3 x.0 now sent put.message).after) (heeded x.3 x.0 now sent put.message).after x.4 refl (k.comes x.3 x.0 now sent put.message (holds-here P own x.0 x.1 h))
 lasts-event P k own other new (event.Tick now) x h = held P new (event.with_peer own (moved x.2 x.0 now)) (moved x.2 x.0 now) x.3 refl (k.ticks x.2 x.0 now (holds-here P own x.0 x.1 h))
 lasts-event P k own other new event.Take x h = (x.1, ap (λ (e : End). e.peer) x.5, k.takes x.0 x.1 x.2 x.4 (holds-here P own x.0 x.3 h))
 lasts-event P k own other new (event.Disconnect way info) x h = held P new (event.with_peer own x.1) x.1 x.4 refl (k.leaves x.0 x.1 way info x.3 (holds-here P own x.0 x.2 h))
 lasts-event P k own other new (event.Set setting) x h = held P new (event.with_peer own (with_setting setting x.0)) (with_setting setting x.0) x.3 refl (k.sets x.0 setting x.2 (holds-here P own x.0 x.1 h))
+lasts-event P k own other new event.GiveWay x h = held P new (event.with_peer own (freed x.0)) (freed x.0) x.3 refl (k.yields x.0 x.2 (holds-here P own x.0 x.1 h))
+lasts-event P k own other new event.TellAgain x h = held P new (event.with_peer own (told_again x.0)) (told_again x.0) x.3 refl (k.tells x.0 x.2 (holds-here P own x.0 x.1 h))
 
 pub lasts-run : (P : Peering → Type 0) → Lasts P → (es : List Event) (own far new : End) → RunsAt es own far new → Holds P own → Holds P new
 lasts-run P k [] own far new r h = subst (Holds P) r h
@@ -87,7 +95,9 @@ pub changes-last : (P : Peering → Type 0) → Changes P → ((p : Peering) (ch
 changes-last P k submits same frees = record {
   submits = λ p channel q free h. submits p channel q h;
   emits = λ p now h. kept-emitted P k p now h;
-  comes = λ p now sent m h. kept-obeyed P k p m.head now sent m.body h;
+  comes = λ full p now sent m h. kept-heeded P k full p m.head now sent m.body h;
+  yields = λ p answers h. kept-given_way P k p h;
+  tells = λ p away h. kept-told_again P k p away h;
   ticks = λ short p now h. kept-moved P k short p now h;
   takes = λ p q e next h. took (λ r t. P r) p q e next
       (λ info g. same p (record p { greeting = None }) refl refl h)
@@ -127,6 +137,7 @@ falls-changes f k = record {
   welcomes = λ p v terms e big word h. absurd (let z : true ≡ false = sym h ∙ ap f e ∙ k.connecting in cc);
   acknowledges = λ p j number here h. h;
   marks = λ p tick h. h;
+  refuses = λ p at h. h;
   holds_back = λ p tick at h. h;
   gives_way = λ p on h. h;
   takes = λ p j r c on there h. h;

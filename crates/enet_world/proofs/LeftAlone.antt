@@ -35,7 +35,7 @@ use Rattle.law_network.specs.IsolationLaw.{held_if}
 use Rattle.law_network.specs.Network.{HostEnd, Site, end_of, is_same_name, numbers_of}
 use Rattle.law_network.specs.Shown.{Shows}
 use Rattle.law_network.specs.Steps.{Happening, Calls, Delivers, BringsOne, Logs, beside, Happens as HappensBeside}
-use Rattle.law_network.specs.Telling.{IsShownAs, HasNothingNew, IsPassedBy, Gave, Ticks}
+use Rattle.law_network.specs.Telling.{IsShownAs, HasNothingNew, IsPassedBy, Gave, GoesTo, Ticks}
 use Rattle.law_network.specs.World.{World, HappensAt, Steps, side_of, site_of, other}
 use Rattle.law_network.proofs.Names.{IsThere, IsSpent, spent-step, spent-nobody, there-named}
 use Rattle.law_network.proofs.OneThing.{one-thing}
@@ -59,7 +59,7 @@ use Rattle.enet_world.proofs.Through.{shown-end-of}
 use Rattle.enet_world.proofs.TwoEnds.{from_start, sound, host-at, twice, Ends, swapped, back, is-end, far-end, faces, Moved, goes, live}
 use Rattle.enet_world.proofs.Unanswered.{Goes}
 use Rattle.enet_world.proofs.UntouchedEnd.{IsEither}
-use Rattle.enet_world.proofs.Staying.{emits-on, none-filled}
+use Rattle.enet_world.proofs.Staying.{emits-on, none-filled, not-let-go}
 
 -- ---- what is known of the two sides
 -- the peer of an end is gone for good, or it has ended, and is told of so and gone
@@ -216,7 +216,7 @@ deliver-near : (joined : Bool) (P : Peering → Type 0) (w v : World) (x : ℕ) 
     → Lone P w x side → Lone P v x side
 deliver-near joined P w v x side n (Err why) r step apart k = subst (λ (u : World). Lone P u x side) (sym step.1) k
 deliver-near joined P w v x side n (Ok (answers.Received received)) r step apart k =
-    near P P w v x side (Delivers n received) k h (shown-so (λ end. end ≡ k.own) (Holds (IsOnWith P)) (site_of v side) k.ends.e (λ end same. same-on P k.own end k.p k.is k.on k.holds same) shown)
+    near P P w v x side (Delivers n received) k h (shown-so Went (Holds (IsOnWith P)) (site_of v side) k.ends.e (λ end went. same-on P k.own end k.p k.is k.on k.holds (not-let-go (site_of w side) k.ends.e found.0 k.own k.far end k.p k.is k.on went)) shown)
   where
     h : HappensAt side (Delivers n received) w v
     h = subst (λ (e : Happening). HappensAt side e w v) step.1 step.2
@@ -230,7 +230,10 @@ deliver-near joined P w v x side n (Ok (answers.Received received)) r step apart
     found : (d : Logged) × (slice_get from.log n ≡ Some d) × BringsOne from (Some d) received (site_of w side) (site_of v side)
     found = found-in from (site_of w side) (site_of v side) received (slice_get from.log n) h.here
 
-    shown : IsShownAs (site_of v side) k.ends.e (λ end. end ≡ k.own)
+    Went : End → Type 0
+    Went end = (end ≡ k.own) ⊎ GoesTo (site_of w side) k.ends.e found.0 k.own k.far end
+
+    shown : IsShownAs (site_of v side) k.ends.e Went
     shown = passes-over n received found.0 from (site_of w side) (site_of v side) found.2 found.1 (host-at (from_start joined) w s (other side)).named k.ends.e k.own k.far (is-end (from_start joined) w x side k.own k.far s k.ends)
         (far-end (from_start joined) w x side k.own k.far s k.ends) (λ e. apart found.0 found.1 (e ∙ k.ends.of_e))
 deliver-near joined P w v x side n (Ok answer) r step apart k = absurd step.1

@@ -1,7 +1,8 @@
 -- What each peer of a world has kept since it began: all that it has to send fits its datagrams, and only a client that asks has a CONNECT.
-use Rattle.std.proofs.Common.{◌≡◌, ℕ, ◌≤◌, ◌&&◌, min, inl, inr, Bool, true, false, cond, List, [], ◌∷◌, refl, sym, ap, subst, ◌∙◌, arith, Option, Some, None, Ok, Err}
+use Rattle.std.proofs.Common.{◌≡◌, ℕ, ◌≤◌, ◌&&◌, min, inl, inr, Bool, true, false, cond, List, [], ◌∷◌, length, nat_lt, refl, sym, ap, subst, ◌∙◌, arith, Option, Some, None, Ok, Err}
 use Rattle.std.proofs.lemmas.Bool.Decides.{nat_tests}
 use Rattle.enet_codec.specs.declared.command.Offer.{Offer}
+use Rattle.enet_codec.specs.declared.config.Admission.TheVariants as admission
 use Rattle.enet_codec.specs.declared.config.Config.{Config}
 use Rattle.enet_codec.specs.Config.{is_in_range}
 use Rattle.enet_codec.specs.declared.event.PeerRef.{PeerRef}
@@ -11,7 +12,7 @@ use Rattle.enet_outbox.proofs.Rooms.{awaited-filled}
 use Rattle.enet_outbox.specs.Emission.{filled}
 use Rattle.enet_peer.specs.Peering.{Peering}
 use Rattle.enet_peer.specs.Peering as peers
-use Rattle.enet_peer.specs.Calls.{pace_of, is_connected}
+use Rattle.enet_peer.specs.Calls.{AtOnce, pace_of, is_connected}
 use Rattle.enet_slot.specs.declared.giving.Question.{Question}
 use Rattle.enet_slot.specs.Giving.{limits_of, joined_terms, offer_from, drawn_for, server_from}
 use Rattle.enet_slot.specs.Slot.{SlotState}
@@ -35,7 +36,7 @@ use Rattle.law_network.proofs.Beginning.{each-beginning}
 use Rattle.law_network.proofs.Own.{of-the-host}
 use Rattle.law_network.proofs.Runs.{both}
 use Rattle.law_network.proofs.Submitting.{same-some}
-use Rattle.law_progress.proofs.Fitting.{Fits, fits-same, fits-obeyed, fits-takes, fits-went, fits-submitted, fits-left, fits-moved, small-filled, room_of, joined-fits, asking-fits, answering-fits}
+use Rattle.law_progress.proofs.Fitting.{Fits, fits-same, fits-again, fits-heeded, fits-takes, fits-went, fits-submitted, fits-left, fits-moved, small-filled, room_of, joined-fits, asking-fits, answering-fits}
 use Rattle.law_progress.specs.Attempts.{after_take}
 use Rattle.law_progress.specs.Waits.{after_leave}
 use Rattle.enet_world.specs.Worlds.{first}
@@ -57,6 +58,9 @@ given P k c h i s t p low (falling.answers from bytes commands header o is read 
 same-mtu : (c : Call) (k : Config) → (config_by c k).mtu ≡ k.mtu
 same-mtu (call.SetBandwidth incoming outgoing (Ok done)) k = refl
 same-mtu (call.SetBandwidth incoming outgoing (Err why)) k = refl
+same-mtu (call.Admit admission.GiveWay (Ok done)) k = refl
+same-mtu (call.Admit (admission.Most peers) (Ok done)) k = refl
+same-mtu (call.Admit what (Err why)) k = refl
 same-mtu c k = refl
 
 began : (P : Peering → Type 0) → Starts P → (name : PeerRef) (cs : List Call) (series : Series cs) (p : Peering) (ds : List Deed) → series.before.config.mtu ≤ 4096 → BeganBy name cs series p ds → P p
@@ -106,7 +110,9 @@ fits-lasts = record {
   submits = λ p channel q free f. fits-submitted p channel q f;
   emits = λ p now f. (let o = (filled (pace_of p now) p.outbox).outbox in
       fits-went (record p { outbox = o }) p.state (record { mtu = f.mtu; small = small-filled (room_of p.terms.mtu) (pace_of p now) p.outbox f.small; awaited = awaited-filled (pace_of p now) p.outbox f.awaited }));
-  comes = λ p now sent m f. fits-obeyed p now sent m f;
+  comes = λ full p now sent m f. fits-heeded full p now sent m f;
+  yields = λ p answers f. fits-left p AtOnce 0 f;
+  tells = λ p away f. fits-again true (nat_lt 0 (length p.outbox.control.queued)) p f;
   ticks = λ short p now f. fits-moved short p now f;
   takes = λ p q e next f. subst (λ t. Fits (after_take p t)) next (fits-takes p f);
   leaves = λ p q way info e f. subst (λ (o : Option Peering). Fits (after_leave p o)) e (fits-left p (leave_by way p.state) info f);

@@ -24,7 +24,8 @@ use Rattle.enet_peer.specs.declared.parts.PeerState.TheVariants as state
 use Rattle.enet_peer.specs.Peering.{Peering}
 use Rattle.enet_peer.specs.Endings.{settled, disconnecting, freed, cut_off_in, is_later}
 use Rattle.enet_peer.specs.CommandEffect.{obeyed, answered, on_acknowledge, on_match, acknowledged, welcomed, on_last_disconnect}
-use Rattle.enet_peer.specs.Calls.{Leave, AtOnce, TellsOnce, Asks, AsksLater, Refused, left, expiry_of, is_connected, moved, pace_of, pinged, is_pinged, after_timeouts_by, tick_of, ticked, submitted, gone_on, gone_on_in}
+use Rattle.enet_peer.specs.Refusing.{full_word, told_full}
+use Rattle.enet_peer.specs.Calls.{Leave, AtOnce, TellsOnce, Asks, AsksLater, Refused, left, expiry_of, is_answering, is_connected, moved, pace_of, pinged, is_pinged, after_timeouts_by, tick_of, ticked, submitted, gone_on, gone_on_in}
 use Rattle.law_progress.specs.Waits.{after_leave}
 use Rattle.law_progress.proofs.Moving.{by-moved}
 use Rattle.law_network.proofs.Runs.{both}
@@ -129,7 +130,15 @@ modest-obeyed p now sent m h = by p.state refl
     by state.Connected e = subst (λ (x : Peering). IsModest (obeyed x now sent m).after) (was-in p state.Connected e) (meets-stands p now sent m (subst (λ (s : PeerState). Controlled s p.outbox.control) e h))
     by state.Answering e = subst (λ (x : Peering). IsModest (obeyed x now sent m).after) (was-in p state.Answering e) (meets-answering p now sent m (subst (λ (s : PeerState). Controlled s p.outbox.control) e h))
     by state.Connecting e = subst (λ (x : Peering). IsModest (obeyed x now sent m).after) (was-in p state.Connecting e) (meets-asking p now sent m)
-    by s e = past-modest (obeyed p now sent m).after (past-lasts.comes p now sent m (ap is_past e))
+    by s e = past-modest (obeyed p now sent m).after (past-lasts.comes false p now sent m (ap is_past e))
+
+-- one who was refused is told so alone
+told-alone : (s : PeerState) (c : Commands) → is_answering s ≡ true → Controlled s (controlling.with_queued (controlling.cleared c) (control.DisconnectNow full_word))
+told-alone state.Answering c e = queued-lone is_any (controlling.cleared c) (control.DisconnectNow full_word) refl refl refl
+told-alone s c e = absurd (cc)
+
+pub modest-told : (p : Peering) → is_answering p.state ≡ true → IsModest (told_full p)
+modest-told p answers = told-alone p.state p.outbox.control answers
 
 -- ---- time goes on
 pinged-modest : (q : Peering) (now : ℕ) → IsModest q → IsModest (pinged q now)

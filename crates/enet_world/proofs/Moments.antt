@@ -17,10 +17,10 @@ use Rattle.law_connection.specs.Steps.{Tick, Set, ThrottleLimit}
 use Rattle.enet_sender.specs.declared.sent.Sent.{Sent}
 use Rattle.enet_sender.specs.Sender as sender
 use Rattle.enet_sender.specs.Due.{SendingEnd}
-use Rattle.enet_outbox.specs.Outbox.{has_ended, has_late, has_waited, marked_sender, with_control}
+use Rattle.enet_outbox.specs.Outbox.{has_ended, has_late, marked_sender, with_control}
 use Rattle.enet_outbox.specs.Outbox as outbox
 use Rattle.enet_peer.specs.Peering.{Peering}
-use Rattle.enet_peer.specs.Calls.{answering_time, is_answering, is_over, ticked, pinged, is_pinged, after_timeouts_by, tick_of, with_throttle_limit}
+use Rattle.enet_peer.specs.Calls.{has_stayed, is_answering, is_over, ticked, pinged, is_pinged, after_timeouts_by, tick_of, with_throttle_limit}
 use Rattle.law_connection.proofs.Runs.{get-map}
 use Rattle.law_progress.specs.Exchanges.{HasSent}
 use Rattle.law_progress.specs.InTurn.{Ticks}
@@ -76,7 +76,7 @@ unmarked tick t e = ap (λ b. cond b (record t { timeout = transmission.next_tim
 
 -- only a client that was answered is waited for no longer
 pub not-over : (p : Peering) (now : ℕ) → is_answering p.state ≡ false → is_over p now ≡ false
-not-over p now e = ap (λ b. b && has_waited p.outbox answering_time now) e
+not-over p now e = ap (λ b. b && has_stayed p now) e
 
 pub waited : (p : Peering) (now : ℕ) → is_answering p.state ≡ false → has_ended p.outbox now p.patience p.heard ≡ false → Waited now p (ticked p now)
 waited p now elsewhere lasts = subst (λ (x : Peering). Waited now p x) (sym is) (by (has_late p.outbox now) refl)

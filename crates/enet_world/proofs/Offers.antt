@@ -26,6 +26,7 @@ use Rattle.enet_outbox.proofs.Filled.{by-filling}
 use Rattle.enet_peer.specs.declared.parts.PeerState.TheVariants as state
 use Rattle.enet_peer.specs.Peering.{Peering}
 use Rattle.enet_peer.specs.Calls.{is_connected, submitted}
+use Rattle.enet_peer.specs.Refusing.{full_word}
 use Rattle.law_connection.specs.LinkSteps.{Has}
 use Rattle.law_connection.proofs.Lists.{Has-push_cases, Has-slice_get}
 use Rattle.law_connection.proofs.Emits.{Has-from_map}
@@ -140,6 +141,7 @@ asks-changes = record {
   welcomes = λ p v terms e big word h. inr (none-offered p.outbox.control.number);
   acknowledges = λ p j number here h. elim h [ inl e ↦ inl e | inr a ↦ inr (gone-plain p.outbox j number a) ];
   marks = λ p tick h. elim h [ inl e ↦ inl e | inr a ↦ inr (marked-plain tick p.outbox.control a) ];
+  refuses = λ p at h. inr (one-queued (record { number = p.outbox.control.number; queued = []; sent = [] }) (control.DisconnectNow full_word) refl (none-offered p.outbox.control.number));
   holds_back = λ p tick at h. elim h [ inl e ↦ inl e | inr a ↦ inr (held_back-plain tick p.outbox.control a) ];
   gives_way = λ p on h. h;
   takes = λ p j r c on there h. h;

@@ -22,7 +22,9 @@ use Rattle.enet_peer.specs.declared.parts.PeerState.{PeerState}
 use Rattle.enet_peer.specs.declared.parts.PeerState.TheVariants as state
 use Rattle.enet_peer.specs.Peering.{Peering}
 use Rattle.enet_peer.specs.CommandEffect.{Outcome, obeyed, stopped, on_last_disconnect}
-use Rattle.enet_peer.specs.Calls.{next_event}
+use Rattle.enet_peer.specs.Calls.{is_answering, next_event}
+use Rattle.enet_peer.specs.Refusing.{heeded}
+use Rattle.enet_peer.proofs.Refusals.{heeded-obeyed}
 use Rattle.law_connection.specs.Connection.{Put, End}
 use Rattle.law_connection.specs.Steps.{InTime, with_peer}
 use Rattle.law_connection.proofs.Events.{took}
@@ -88,11 +90,16 @@ pub record Stood (now : ℕ) (new : End) (q : Peering) : Type 0 where
   pub leaves : Leaves now q peer
   pub lone : IsLone is_ping peer.outbox.control
 
+-- a connected peer obeys, whether its host is full or not
+plainly : (to new : End) (full : Bool) (q : Peering) (now time : ℕ) (m : Message) → q.state ≡ state.Connected → new ≡ with_peer to (heeded full q now (Some time) m).after → new ≡ with_peer to (obeyed q now (Some time) m).after
+plainly to new full q now time m on e = e ∙ ap (λ (o : Outcome). with_peer to o.after) (heeded-obeyed full q now (Some time) m (ap is_answering on))
+
 stood-one : (now time : ℕ) (from : End) (put : Put) (to new : End) (q : Peering) → Comes now time from put to new → to.peer ≡ Some q → IsLone is_ping q.outbox.control → Stood now new q
 stood-one now time from put to new q c is lone = elim c.after [
   | inl h ↦
       let same : h.0 ≡ q = same-peer to h.0 q h.1 is in
-      let after : new ≡ with_peer to (obeyed q now (Some time) put.message).after = subst (λ (x : Peering). new ≡ with_peer to (obeyed x now (Some time) put.message).after) same h.3 in
+      let after : new ≡ with_peer to (obeyed q now (Some time) put.message).after =
+      plainly to new h.3 q now time put.message on (subst (λ (x : Peering). new ≡ with_peer to (heeded h.3 x now (Some time) put.message).after) same h.4) in
       let peer : new.peer ≡ Some (obeyed q now (Some time) put.message).after = ap (λ (e : End). e.peer) after in
       let stays = c.stays (obeyed q now (Some time) put.message).after peer in
       record {
@@ -190,7 +197,8 @@ came-pinged now time from (x ∷ puts) to new put n come (inl same) ping message
   | inl h ↦
       let it : h.0 ≡ q = same-peer to h.0 q h.1 k.is in
       let after : come.0 ≡ with_peer to (obeyed q now (Some time) (controlling.message_of n)).after =
-      subst (λ (m : Message). come.0 ≡ with_peer to (obeyed q now (Some time) m).after) said (subst (λ (y : Peering). come.0 ≡ with_peer to (obeyed y now (Some time) x.message).after) it h.3) in
+      subst (λ (m : Message). come.0 ≡ with_peer to (obeyed q now (Some time) m).after) said
+      (plainly to come.0 h.3 q now time x.message k.connected (subst (λ (y : Peering). come.0 ≡ with_peer to (heeded h.3 y now (Some time) x.message).after) it h.4)) in
       let peer : come.0.peer ≡ Some (obeyed q now (Some time) (controlling.message_of n)).after = ap (λ (e : End). e.peer) after in
       let rest = all-came now time from puts come.0 new (obeyed q now (Some time) (controlling.message_of n)).after come.2 peer (k.stays (obeyed q now (Some time) (controlling.message_of n)).after peer) in
       (rest.peer, rest.is, rest.kept.acknowledgements a (one-answered q n now time k.connected ping (free k.room)))
@@ -272,7 +280,8 @@ came-away now time from (x ∷ puts) to new p put number then' come (inl same) i
       let k = stood-one now time from x to come.0 p come.1 is lone in
       let it : h.0 ≡ p = same-peer to h.0 p h.1 is in
       let after : come.0 ≡ with_peer to (obeyed p now (Some time) m).after =
-      subst (λ (y : Message). come.0 ≡ with_peer to (obeyed p now (Some time) y).after) said (subst (λ (y : Peering). come.0 ≡ with_peer to (obeyed y now (Some time) x.message).after) it h.3) in
+      subst (λ (y : Message). come.0 ≡ with_peer to (obeyed p now (Some time) y).after) said
+      (plainly to come.0 h.3 p now time x.message on (subst (λ (y : Peering). come.0 ≡ with_peer to (heeded h.3 y now (Some time) x.message).after) it h.4)) in
       let peer : k.peer ≡ (obeyed p now (Some time) m).after = same-peer come.0 k.peer (obeyed p now (Some time) m).after k.is (ap (λ (e : End). e.peer) after) in
       let rest = stood-all now time from puts come.0 new k.peer come.2 k.is k.on k.lone in
       (rest.peer, rest.is, λ t j e went. none t (subst (λ (y : Peering). Has y.outbox.control.sent t) peer (rest.leaves.controls t j)) e went)

@@ -1,5 +1,5 @@
 -- While both ends are connected, no DISCONNECT goes: a connected peer has none to send, and by no other command it ceases to be connected.
-use Rattle.std.proofs.Common.{◌≡◌, ℕ, Bool, true, false, List, [], ◌∷◌, ◌++◌, append-nil, map, refl, sym, ap, subst, ◌∙◌, Option, Some, None}
+use Rattle.std.proofs.Common.{◌≡◌, ◌⊎◌, inl, inr, ℕ, Bool, true, false, List, [], ◌∷◌, ◌++◌, append-nil, map, refl, sym, ap, subst, ◌∙◌, Option, Some, None}
 use Rattle.enet_codec.specs.declared.command.Fragment.{Fragment}
 use Rattle.enet_codec.specs.Message.{Message, disconnect}
 use Rattle.enet_senders.specs.declared.control.Control.{Control}
@@ -12,11 +12,15 @@ use Rattle.enet_outbox.specs.Emission.{filled}
 use Rattle.enet_peer.specs.declared.parts.PeerState.TheVariants as state
 use Rattle.enet_peer.specs.Peering.{Peering}
 use Rattle.enet_peer.specs.CommandEffect.{obeyed}
-use Rattle.enet_peer.specs.Calls.{pace_of}
+use Rattle.enet_peer.specs.Calls.{is_answering, pace_of}
 use Rattle.law_connection.specs.Connection.{Put, End, put_by}
 use Rattle.law_connection.specs.LinkSteps.{Has}
 use Rattle.law_connection.specs.Steps.{Emit, Happens, with_emission}
 use Rattle.law_connection.proofs.Emits.{Has-from_map}
+use Rattle.law_network.specs.Log.{Logged}
+use Rattle.law_network.specs.Network.{HostEnd, Site}
+use Rattle.law_network.specs.Telling.{GoesTo}
+use Rattle.law_network.proofs.Submitting.{same-some}
 use Rattle.law_progress.proofs.Exchanges.{same-peer, goes-on, put_out}
 use Rattle.std.proofs.lemmas.List.{append_cancel_left}
 use Rattle.enet_world.proofs.Pings.{IsLone, is_ping, next-lone, meets}
@@ -33,6 +37,14 @@ hears-on p now sent m on none = meets (λ q. q.state ≡ state.Connected) p now 
   ends = λ b info e. absurd (none info e);
   answers = λ q a k. k;
 })
+
+-- nor is it let go for another
+pub not-let-go : (s : Site) (e : HostEnd) (d : Logged) (own far new : End) (p : Peering) → own.peer ≡ Some p → p.state ≡ state.Connected → (new ≡ own) ⊎ GoesTo s e d own far new → new ≡ own
+not-let-go s e d own far new p is on (inl same) = same
+not-let-go s e d own far new p is on (inr x) =
+    let gone = x.2 in
+    let same : gone.0 ≡ p = same-some gone.0 p (sym gone.1 ∙ is) in
+    absurd (let y : true ≡ false = sym gone.2 ∙ ap (λ (q : Peering). is_answering q.state) same ∙ ap is_answering on in cc)
 
 -- it puts out none
 control-said : (what : Control) (info : ℕ) → is_ping what ≡ true → body_of what ≡ disconnect info → ⊥

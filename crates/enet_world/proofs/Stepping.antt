@@ -4,6 +4,7 @@ use Rattle.enet_codec.specs.declared.event.DisconnectMode.{DisconnectMode}
 use Rattle.enet_codec.specs.declared.event.Event.{Event}
 use Rattle.enet_codec.specs.declared.event.PeerRef.{PeerRef}
 use Rattle.enet_codec.specs.declared.event.Received.{Received}
+use Rattle.enet_codec.specs.declared.config.Admission.{Admission}
 use Rattle.law_network.specs.Calls as call
 use Rattle.law_network.specs.declared.event.Answer.{Answer}
 use Rattle.law_network.specs.declared.event.Answer.TheVariants as answers
@@ -58,3 +59,8 @@ pub left : (side : Side) (peer : PeerRef) (how : DisconnectMode) (info : ℕ) (h
     → Steps (world_of side here far n) (happen.Disconnect side peer how info) (Ok answers.Done) (world_of side new far n)
 left side peer how info here new far n h =
     done side here new far n n (happen.Disconnect side peer how info) answers.Done (Calls (call.Disconnect how peer info (Ok tt))) refl refl (h n far) refl
+
+pub admitted : (side : Side) (what : Admission) (here new far : Site) (n : ℕ) → CallsAt (call.Admit what (Ok tt)) here new
+    → Steps (world_of side here far n) (happen.Admit side what) (Ok answers.Done) (world_of side new far n)
+admitted side what here new far n h =
+    done side here new far n n (happen.Admit side what) answers.Done (Calls (call.Admit what (Ok tt))) refl refl (h n far) refl

@@ -113,6 +113,7 @@ adds w (happen.Take side) (answers.Taken (Some event)) what m s q here = subst (
   events = ap (λ (b : Bool). cond (b && is_of q event) (event ∷ []) []) here;
 })
 adds w (happen.Disconnect side peer how info) answers.Done what m s q here = adds-none s q _ _ what _ m (λ channel. refl) refl (λ channel. refl) refl
+adds w (happen.Admit side what') answers.Done what m s q here = adds-none s q _ _ what _ m (λ channel. refl) refl (λ channel. refl) refl
 adds w event answer what m s q here = absurd m
 
 -- no stranger is there
@@ -125,6 +126,7 @@ brings-none w (happen.Turn side) (answers.Sent (Some k)) what m = ap is_guest m.
 brings-none w (happen.Tick side ms) answers.Done what m = ap is_guest m
 brings-none w (happen.Take side) (answers.Taken event) what m = ap is_guest m
 brings-none w (happen.Disconnect side peer how info) answers.Done what m = ap is_guest m
+brings-none w (happen.Admit side what') answers.Done what m = ap is_guest m
 brings-none w event answer what m = absurd m
 
 -- what begins, of an event that makes a call: by a Connect one connection, with this end
@@ -160,6 +162,7 @@ begins w (happen.Turn side) (answers.Sent (Some k)) what m = begins-none w _ _ w
 begins w (happen.Tick side ms) answers.Done what m = begins-none w _ _ what _ m refl refl
 begins w (happen.Take side) (answers.Taken event) what m = begins-none w _ _ what _ m refl refl
 begins w (happen.Disconnect side peer how info) answers.Done what m = begins-none w _ _ what _ m refl refl
+begins w (happen.Admit side what') answers.Done what m = begins-none w _ _ what _ m refl refl
 begins w event answer what m = absurd m
 
 -- ---- what is told of a world

@@ -18,7 +18,7 @@ use Rattle.law_connection.specs.Linked.{sender_in}
 use Rattle.law_connection.proofs.Events.{took}
 use Rattle.law_connection.proofs.Moves.{senders-after, marked-at}
 use Rattle.law_connection.proofs.Packing.{idle-next}
-use Rattle.law_connection.proofs.PeerChanges.{Core, Changes, kept-emitted, kept-left, kept-moved, kept-obeyed, kept-set}
+use Rattle.law_connection.proofs.PeerChanges.{Core, Changes, kept-emitted, kept-given_way, kept-heeded, kept-left, kept-moved, kept-set, kept-told_again}
 use Rattle.enet_world.proofs.Lasting.{Lasts}
 
 abbrev pub AreIdle : List SendingEnd → Type 0
@@ -67,6 +67,7 @@ unsent-changes = record {
   welcomes = λ p v terms e big word h at. absurd (cc);
   acknowledges = λ p j number here h at. acknowledged-idle p.outbox j number (h at);
   marks = λ p tick h at i. marked-at tick p.outbox.senders i ∙ ap (with_marked tick) (h at i);
+  refuses = λ p at h. h;
   holds_back = λ p tick at h. h;
   gives_way = λ p on h. h;
   takes = λ p j r c on there h. h;
@@ -88,7 +89,9 @@ pub unsent-lasts : Lasts IsUnsent
 unsent-lasts = record {
   submits = λ p channel q free h at. absurd (never p channel (length q.body) free at);
   emits = λ p now h. kept-emitted IsUnsent unsent-changes p now h;
-  comes = λ p now sent m h. kept-obeyed IsUnsent unsent-changes p m.head now sent m.body h;
+  comes = λ full p now sent m h. kept-heeded IsUnsent unsent-changes full p m.head now sent m.body h;
+  yields = λ p answers h. kept-given_way IsUnsent unsent-changes p h;
+  tells = λ p away h. kept-told_again IsUnsent unsent-changes p away h;
   ticks = λ short p now h. kept-moved IsUnsent unsent-changes short p now h;
   takes = λ p q e next h. took (λ (r : Peering) (t : PeerEvent). IsUnsent r) p q e next (λ info g. h) (λ x rest g u. h) (λ g u over at. absurd (cc));
   leaves = λ p q way info e h. kept-left IsUnsent unsent-changes p q way info e h;

@@ -1,5 +1,5 @@
 -- What becomes of a peer whose user only takes: it is connected, acknowledges a DISCONNECT or has ended, and goes on in that order.
-use Rattle.std.proofs.Common.{◌≡◌, ◌≢◌, ◌⊎◌, inl, inr, ℕ, ◌%◌, ◌^◌, Bool, true, false, cond, List, [], ◌∷◌, refl, sym, ap, subst, ◌∙◌, Option, Some, None, Ok, Err}
+use Rattle.std.proofs.Common.{◌≡◌, ◌≢◌, ◌⊎◌, inl, inr, ℕ, ◌%◌, ◌^◌, ◌&&◌, Bool, true, false, cond, List, [], ◌∷◌, refl, sym, ap, subst, ◌∙◌, Option, Some, None, Ok, Err}
 use Rattle.std.specs.Prelude.{is_some}
 use Rattle.enet_codec.specs.declared.command.Head.{Head}
 use Rattle.enet_codec.specs.declared.packet.Packet.{Packet}
@@ -16,7 +16,9 @@ use Rattle.enet_peer.specs.declared.parts.PeerEvent.TheVariants as told
 use Rattle.enet_peer.specs.declared.parts.PeerState.{PeerState}
 use Rattle.enet_peer.specs.declared.parts.PeerState.TheVariants as state
 use Rattle.enet_peer.specs.Peering.{Peering}
-use Rattle.enet_peer.specs.CommandEffect.{on_match, on_last_disconnect, acknowledged, obeyed, wants_memory}
+use Rattle.enet_peer.specs.CommandEffect.{Outcome, on_match, on_last_disconnect, acknowledged, obeyed, wants_memory}
+use Rattle.enet_peer.specs.Refusing.{heeded}
+use Rattle.enet_peer.proofs.Refusals.{heeded-obeyed}
 use Rattle.enet_peer.specs.Calls.{after_timeouts, after_timeouts_by, expiry_of, is_answering, is_pinged, moved, pinged, ticked, next_event, event_after, packet_event, last_event}
 use Rattle.law_connection.proofs.Events.{took}
 use Rattle.law_connection.specs.Steps as setting
@@ -148,9 +150,11 @@ gone-rises f k s h = h
 -- a deed that is none of the user's
 abbrev pub IsQuiet : Deed → Type 0
 IsQuiet (deed.Emit now given) = Unit {0}
-IsQuiet (deed.Come now sent m answer) = Unit {0}
+IsQuiet (deed.Come b m answer) = Unit {0}
 IsQuiet (deed.Tick now short) = Unit {0}
 IsQuiet (deed.Set (setting.ThrottleLimit limit) answer) = Unit {0}
+IsQuiet deed.GiveWay = Unit {0}
+IsQuiet deed.TellAgain = Unit {0}
 IsQuiet d = ⊥
 
 abbrev IsIn : (PeerState → Bool) → Peering → Type 0
@@ -158,11 +162,15 @@ IsIn f p = f p.state ≡ true
 
 pub deed-rises : (f : PeerState → Bool) → Rises f → (d : Deed) (p q : Peering) → IsQuiet d → Alone d p q → f p.state ≡ true → f q.state ≡ true
 deed-rises f k (deed.Emit now given) p q quiet a h = subst (IsIn f) (sym a.1) (ap f (emitted-state p now (k.only p.state h)) ∙ gone-rises f k p.state h)
-deed-rises f k (deed.Come now sent m answer) p q quiet a h =
-    obeys (IsIn f) answer (wants_memory p now sent m) (obeyed p now sent m) p q a h (next-rises f k p.state (obeyed p now sent m).after.state (obeyed-next p now sent m (k.only p.state h)) h)
+deed-rises f k (deed.Come b m answer) p q quiet a h =
+    obeys (IsIn f) answer (wants_memory p b.now b.sent m) (heeded b.full p b.now b.sent m) p q a h
+    (subst (λ (o : Outcome). IsIn f o.after) (sym (heeded-obeyed b.full p b.now b.sent m (up-elsewhere p.state (k.only p.state h))))
+    (next-rises f k p.state (obeyed p b.now b.sent m).after.state (obeyed-next p b.now b.sent m (k.only p.state h)) h))
 deed-rises f k (deed.Tick now short) p q quiet a h = subst (IsIn f) (sym a) (next-rises f k p.state (moved short p now).state (moved-next short p now (k.only p.state h)) h)
 deed-rises f k (deed.Set (setting.ThrottleLimit limit) (Ok done)) p q quiet a h = (let set = was-set (setting.ThrottleLimit limit) done p q a in subst (IsIn f) (sym set.1) h)
 deed-rises f k (deed.Set (setting.ThrottleLimit limit) (Err why)) p q quiet a h = subst (IsIn f) (sym (matches.refused (deed.Set (setting.ThrottleLimit limit) (Err why)) p q a refl)) h
+deed-rises f k deed.GiveWay p q quiet a h = absurd (let z : true ≡ false = sym a.0 ∙ up-elsewhere p.state (k.only p.state h) in cc)
+deed-rises f k deed.TellAgain p q quiet a h = absurd (let z : true ≡ false = sym a.0 ∙ ap (λ (b : Bool). b && p.refused) (up-elsewhere p.state (k.only p.state h)) in cc)
 deed-rises f k d p q quiet a h = absurd quiet
 
 -- ---- the user takes

@@ -121,7 +121,7 @@ fell-quiet : (h : Common) (x : Occupied) (c : Call) (ds : List Deed) → IsQuiet
 fell-quiet h x (call.Tick ms) ds k f = subst (Each IsQuiet) (sym f) (tt, each-if IsQuiet _ _ tt)
 fell-quiet h x (call.Service None buf) ds k f = subst (Each IsQuiet) (sym f) (tt, tt)
 fell-quiet h x (call.Service (Some gave) buf) ds k f = subst (Each IsQuiet) (sym f) (each-up-to IsQuiet h.turn gave.0.slot x.number _ _ tt tt)
-fell-quiet h x (call.Receive from bytes answer) ds k f = each-reaches IsQuiet x.number x.slot _ ds (λ sent m told. tt) f
+fell-quiet h x (call.Receive from bytes answer) ds k f = each-reaches IsQuiet x.number x.slot _ ds (λ sent full m told. tt) tt tt f
 fell-quiet h x c ds k f = absurd k
 
 -- ---- a peer that is up

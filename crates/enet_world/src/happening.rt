@@ -7,7 +7,7 @@ ghost use Rattle.law_network.specs.World.{Steps, address_of, other, side_of};
 ghost use Rattle.enet_world.specs.Private.Worlds.{world_of};
 
 use bytes::Bytes;
-use enet_codec::{DisconnectMode, PeerRef, Refusal};
+use enet_codec::{Admission, DisconnectMode, PeerRef, Refusal};
 use enet_site::{Site, Turned};
 use law_network::{Answer, Side, WorldEvent};
 use std::alloc::Global;
@@ -117,6 +117,20 @@ fn disconnect(
     Ok(Answer::Done)
 }
 
+/// The user of a side sets whom its host lets in.
+fn admit(
+    here: &mut Site,
+    far: &Site,
+    count: u64,
+    side: Side,
+    what: Admission,
+) -> Result<Answer, Refusal>
+    ensures { Steps (world_of side here.old far.now count) (happen.Admit side what) result (world_of side here.new far.now count) }
+{
+    here.admit(what)?;
+    Ok(Answer::Done)
+}
+
 /// The side at which an event happens.
 pub fn side_of(event: &WorldEvent) -> Side
     ensures { result ≡ side_of event.now }
@@ -128,7 +142,8 @@ pub fn side_of(event: &WorldEvent) -> Side
         | WorldEvent::Turn { side }
         | WorldEvent::Tick { side, .. }
         | WorldEvent::Take { side }
-        | WorldEvent::Disconnect { side, .. } => side,
+        | WorldEvent::Disconnect { side, .. }
+        | WorldEvent::Admit { side, .. } => side,
     }
 }
 
@@ -169,5 +184,6 @@ pub(crate) fn happen(
             how,
             info,
         } => disconnect(here, far, *count, *side, *peer, *how, *info),
+        WorldEvent::Admit { side, what } => admit(here, far, *count, *side, *what),
     }
 }

@@ -1,6 +1,6 @@
 //! A world of two hosts.
 
-ghost use Rattle.std.specs.Prelude.{◌≡◌, ◌&&◌, true, false, slice_get, zip, Some, None, Err, if◌then◌else◌, IfOk, IfErr, IfSome, OnErr};
+ghost use Rattle.std.specs.Prelude.{◌≡◌, ◌&&◌, true, false, length, slice_get, zip, Some, None, Err, if◌then◌else◌, IfOk, IfErr, IfSome, OnErr};
 ghost use Rattle.std.specs.Option.{option_copied, option_map};
 ghost use Rattle.enet_codec.specs.Config.{is_in_range};
 ghost use Rattle.law_network.specs.Headline.{HasHeadline, end_at, submitted_at, taken_at, events_at};
@@ -283,6 +283,13 @@ impl World {
         ensures { option_copied result ≡ option_map (λ d. d.text) (slice_get (site_of self.now.world side).log k) }
     {
         self.hosts.site(side).datagram(k)
+    }
+
+    /// How many slots the host of a side has.
+    pub fn slots(&self, side: Side) -> u16
+        ensures { result ≡ length (site_of self.now.world side).host.slots }
+    {
+        self.hosts.site(side).slots()
     }
 
     /// Lets the world go. A crate that drops one in any other way proves anew how all that two hosts hold is dropped.

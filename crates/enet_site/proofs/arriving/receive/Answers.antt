@@ -1,10 +1,9 @@
-use Rattle.law_network.specs.Calls as call
 use Rattle.enet_site.proofs.Beginning.{begins-if}
 use Rattle.enet_site.proofs.arriving.receive.Goals as goal
 
 pub returns-clause-begins : goal.returns-clause-begins
 returns-clause-begins c =
-    λ x. begins-if x (call.Receive c.args.from c.args.text.now c.receive-answer.result) c.args.host.now c.receive-answer.new.self c.args.name c.is_some-begins.result c.state.result c.receive-answer.ensures c.requires c.is_some-begins.ensures c.state.ensures
+    λ x. begins-if x c.args.host.now c.receive-answer.new.self c.args.name c.is_some-begins.result c.state.result c.requires c.is_some-begins.ensures c.state.ensures
 
 pub returns-clause-receives : goal.returns-clause-receives
 returns-clause-receives c = c.receive-answer.ensures

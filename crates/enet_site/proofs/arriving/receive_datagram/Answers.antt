@@ -1,12 +1,16 @@
 use Rattle.std.proofs.Common.{◌≡◌, Bool, List, [], ◌∷◌, ◌++◌, length, sym, ap, subst, ◌∙◌}
+use Rattle.enet_codec.specs.declared.address.Addr.{Addr}
+use Rattle.enet_host.specs.Host.{Host}
 use Rattle.law_network.specs.Log.{Logged}
 use Rattle.law_network.specs.Network.{HostEnd, fresh_end}
+use Rattle.law_network.specs.Steps.{Brought}
+use Rattle.enet_site.specs.Sites.{site}
 use Rattle.enet_records.specs.Records.{Records}
 use Rattle.enet_records.specs.Private.Records.{AreKept}
 use Rattle.enet_records.proofs.Fresh.{fresh-kept}
 use Rattle.enet_records.proofs.Keeps.{kept-more}
 use Rattle.enet_site.specs.Private.Sites.{AreShown, begun_if}
-use Rattle.enet_site.proofs.Beginning.{next-other}
+use Rattle.enet_site.proofs.Beginning.{guest-other}
 use Rattle.enet_site.proofs.Hears.{brought-by}
 use Rattle.enet_site.proofs.arriving.receive_datagram.Goals as goal
 
@@ -17,14 +21,18 @@ invariant_of-own-2 c =
     let items : c.push_reserved.new.self.items ≡ c.own.inside.ends.items ++ fresh_end x name ∷ [] = c.push_reserved.ensures.items ∙ (λ k. c.reserve.ensures.items k ++ c.in_ok-end.ensures.fresh k ∷ []) in
     subst (AreKept c.own.inside.log.items) (sym items)
     (kept-more c.own.inside.log.items c.own.inside.ends.items (fresh_end x name) c.own.invariant (fresh-kept (length c.own.inside.log.items) x name)
-    (next-other c.args.host.now c.own.inside.ends.items name (subst (λ (r : Records). AreShown c.args.host.now r.ends) (sym c.own.view_is) c.requires.shown) c.in-Some.ensures.next))
+    (guest-other c.args.host.now c.own.inside.ends.items name c.requires.keeps (subst (λ (r : Records). AreShown c.args.host.now r.ends) (sym c.own.view_is) c.requires.shown) c.in-Some.ensures.next))
 
+-- asking who answers next left the host as it was
 pub returns-clause-brings : goal.returns-clause-brings
 returns-clause-brings c =
     let x = c.datagram.inside.connection in
     let name = c.in-Some.name in
     let more : List HostEnd = fresh_end x name ∷ [] in
-    brought-by c.args.from c.args.datagram.now x c.deref-2.result.now c.receive-begins.result.0 c.args.host.now c.receive-begins.new.host c.args.own.now c.own.inside.log.items c.own.inside.ends.items c.push_reserved.new.self.items more
+    let log = c.own.inside.log.items in
+    let after = c.push_reserved.new.self.items in
+    subst (λ (h : Host). (address : Addr) → Brought c.args.from c.args.datagram.now c.receive-begins.result.0 (site address h c.args.own.now) (site address c.receive-begins.new.host (record { log = log; ends = after }))) c.answering_peer.ensures.same
+    (brought-by c.args.from c.args.datagram.now x c.deref-2.result.now c.receive-begins.result.0 c.answering_peer.new.host c.receive-begins.new.host c.args.own.now log c.own.inside.ends.items after more
     (ap (λ (d : Logged). d.connection) c.datagram.view_is) (c.deref-2.ensures.value ∙ ap (λ (d : Logged). d.text) c.datagram.view_is) c.own.view_is c.receive-begins.ensures.receives
     (c.receive-begins.ensures.begins x ∙ ap (λ (b : Bool). begun_if b x name) c.if-not-begins.false)
-    (c.push_reserved.ensures.items ∙ (λ k. c.reserve.ensures.items k ++ c.in_ok-end.ensures.fresh k ∷ []))
+    (c.push_reserved.ensures.items ∙ (λ k. c.reserve.ensures.items k ++ c.in_ok-end.ensures.fresh k ∷ [])))
