@@ -3,6 +3,8 @@
 use Rattle.std.specs.Prelude.{ℕ, ◌^◌, nat_eq, nat_le, if◌then◌else◌, List, [], ◌∷◌, codes, bytes_eq, Option, Some, None, option_map}
 use Rattle.std.specs.List.{starts_with}
 use Rattle.std.specs.Option.{option_or}
+use Rattle.enet_codec.specs.declared.config.Admission.{Admission}
+use Rattle.enet_codec.specs.declared.config.Admission.TheVariants.{GiveWay, Most}
 use Rattle.enet_codec.specs.declared.event.DisconnectMode.{DisconnectMode}
 use Rattle.enet_codec.specs.declared.event.DisconnectMode.TheVariants.{Now, Ask, Later}
 use Rattle.enet_codec.specs.declared.event.PeerRef.{PeerRef}
@@ -141,6 +143,20 @@ take_at (OfFleet node) = InFleet (fleet.Take node)
 abbrev pub take_of : List (List ℕ) → Option Line
 take_of others = of_one (λ host. option_map take_at (host_named host)) others
 
+-- `give-way <host>` and `most <host> <n>`
+abbrev pub admit_at : Host → Admission → Line
+admit_at (OfWorld side) what = InWorld (world.Admit side what)
+admit_at (OfFleet node) what = InFleet (fleet.Admit node what)
+
+abbrev pub give_way_of : List (List ℕ) → Option Line
+give_way_of others = of_one (λ host. option_map (λ (h : Host). admit_at h GiveWay) (host_named host)) others
+
+abbrev pub most_of : List (List ℕ) → Option Line
+most_of others = of_two (λ host peers. do
+  host ← host_named host
+  peers ← number_below (2 ^ 16) peers
+  Some (admit_at host (Most peers))) others
+
 -- `now`, `ask` or `later <host> <peer> <data>`
 abbrev pub disconnect_at : Host → PeerRef → DisconnectMode → ℕ → Line
 disconnect_at (OfWorld side) peer how info = InWorld (world.Disconnect side peer how info)
@@ -164,7 +180,9 @@ event_of form others =
     else (if bytes_eq form (codes "turn") then turn_of others
     else (if bytes_eq form (codes "tick") then tick_of others
     else (if bytes_eq form (codes "take") then take_of others
-    else disconnect_of form others))))))
+    else (if bytes_eq form (codes "give-way") then give_way_of others
+    else (if bytes_eq form (codes "most") then most_of others
+    else disconnect_of form others))))))))
 
 -- What a line of these words spells.
 unfoldable pub line_of : List (List ℕ) → Option Line

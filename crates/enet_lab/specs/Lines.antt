@@ -1,15 +1,18 @@
 -- What a line of a script does to what the lines so far have made.
-use Rattle.std.specs.Prelude.{◌≡◌, ℕ, ◌&&◌, Bool, true, false, List, [], codes, Option, Some, None, Result, Ok, Err, IfSome, length, replicate, slice_get}
+use Rattle.std.specs.Prelude.{◌≡◌, ℕ, ◌&&◌, Bool, true, false, List, [], codes, Option, Some, None, option_map, Result, Ok, Err, IfSome, length, replicate, slice_get}
 use Rattle.enet_codec.specs.declared.address.Addr.{Addr}
 use Rattle.enet_codec.specs.declared.config.Config.{Config}
 use Rattle.enet_codec.specs.declared.refusal.Refusal.{Refusal}
 use Rattle.enet_codec.specs.declared.refusal.Refusal.TheVariants.{Memory, BadConfig}
-use Rattle.enet_codec.specs.Config.{is_in_range, standard_config}
+use Rattle.enet_codec.specs.declared.config.Admission.{Admission}
+use Rattle.enet_codec.specs.declared.config.Admission.TheVariants.{GiveWay, Most}
+use Rattle.enet_codec.specs.Config.{is_between, is_in_range, standard_config}
 use Rattle.enet_codec.specs.Refusal.{label_of}
 use Rattle.law_network.specs.declared.event.Answer.{Answer}
 use Rattle.law_network.specs.declared.event.Answer.TheVariants.{Sent}
 use Rattle.law_network.specs.declared.event.Side.{Side}
 use Rattle.law_network.specs.declared.event.WorldEvent.{WorldEvent}
+use Rattle.law_network.specs.declared.event.WorldEvent.TheVariants as world_event
 use Rattle.law_network.specs.Log.{Logged}
 use Rattle.law_network.specs.World.{World, site_of, side_of}
 use Rattle.law_network.specs.World as world
@@ -20,6 +23,7 @@ use Rattle.enet_world.specs.Progress.{AreEnough}
 use Rattle.enet_world.specs.declared.calm.Calm.{Calm}
 use Rattle.enet_fleet.specs.declared.answer.Answer.{Answer as FleetAnswer}
 use Rattle.enet_fleet.specs.declared.event.FleetEvent.{FleetEvent}
+use Rattle.enet_fleet.specs.declared.event.FleetEvent.TheVariants as fleet_event
 use Rattle.law_headline.specs.declared.node.Node.{Node}
 use Rattle.enet_fleet.specs.Fleets.{Fleet, place_of, node_of, sent_by, open_fleet}
 use Rattle.enet_fleet.specs.Fleets as fleet
@@ -139,16 +143,34 @@ abbrev pub is_empty : Stage → Bool
 is_empty Empty = true
 is_empty _ = false
 
+-- Whether so many peers may be connected or leaving at a host of so many slots.
+abbrev pub may_be : Admission → ℕ → Bool
+may_be GiveWay slots = true
+may_be (Most peers) slots = is_between 1 slots peers
+
+-- Whether what an event sets is in its range; a host that isn't there is refused by the fleet.
+abbrev pub is_in_world : Begun → WorldEvent → Bool
+is_in_world w (world_event.Admit side what) = may_be what (length (site_of w.world side).host.slots)
+is_in_world w event = true
+
+abbrev pub may_be_at : Admission → Option ℕ → Bool
+may_be_at what None = true
+may_be_at what (Some slots) = may_be what slots
+
+abbrev pub is_in_fleet : Fleet → FleetEvent → Bool
+is_in_fleet f (fleet_event.Admit node what) = may_be_at what (option_map (λ p. length p.site.host.slots) (place_of f node))
+is_in_fleet f event = true
+
 -- Whether a line can be read after those so far.
 abbrev pub can_do : Stage → Line → Bool
 can_do stage spelled.PassedOver = true
-can_do (InWorld w) (spelled.InWorld event) = true
+can_do (InWorld w) (spelled.InWorld event) = is_in_world w event
 can_do stage (spelled.InWorld event) = false
 can_do (InWorld w) (spelled.Calm rounds ms) = true
 can_do stage (spelled.Calm rounds ms) = false
 can_do (InWorld w) (spelled.RoundsNeeded connection ms) = true
 can_do stage (spelled.RoundsNeeded connection ms) = false
-can_do (InFleet f) (spelled.InFleet event) = true
+can_do (InFleet f) (spelled.InFleet event) = is_in_fleet f event
 can_do stage (spelled.InFleet event) = false
 can_do stage line = is_empty stage
 

@@ -1,12 +1,12 @@
 //! What a line makes happen at a host, of whichever kind of network it is.
 
 ghost use Rattle.std.specs.Prelude.{◌≡◌};
-ghost use Rattle.enet_lab.specs.EnetLines.{connect_at, submit_at, turn_at, tick_at, take_at, disconnect_at};
+ghost use Rattle.enet_lab.specs.EnetLines.{admit_at, connect_at, submit_at, turn_at, tick_at, take_at, disconnect_at};
 
 use crate::host::Host;
 use crate::line::Line;
 use bytes::Bytes;
-use enet_codec::{DisconnectMode, PeerRef};
+use enet_codec::{Admission, DisconnectMode, PeerRef};
 use enet_fleet::{FleetEvent, Node};
 use law_network::WorldEvent;
 
@@ -81,6 +81,16 @@ impl Host {
         match self {
             Host::OfWorld(side) => Line::InWorld(WorldEvent::Take { side }),
             Host::OfFleet(node) => Line::InFleet(FleetEvent::Take { node }),
+        }
+    }
+
+    /// Its user sets whom it lets in.
+    pub(crate) fn admit(self, what: Admission) -> Line
+        ensures { result ≡ admit_at self what }
+    {
+        match self {
+            Host::OfWorld(side) => Line::InWorld(WorldEvent::Admit { side, what }),
+            Host::OfFleet(node) => Line::InFleet(FleetEvent::Admit { node, what }),
         }
     }
 

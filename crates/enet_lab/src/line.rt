@@ -2,10 +2,10 @@
 
 ghost use Rattle.std.specs.Prelude.{◌≡◌, ◌∷◌, IfOk};
 ghost use Rattle.enet_text.specs.Words.{words};
-ghost use Rattle.enet_lab.specs.EnetLines.{mode_named, pair_of, open_of, fleet_of, calm_of, rounds_of, connect_of, submit_of, deliver_of, deliver_side_of, deliver_from_of, stranger_of, turn_of, tick_of, take_of, disconnect_of, event_of, line_of, spells};
+ghost use Rattle.enet_lab.specs.EnetLines.{mode_named, pair_of, open_of, fleet_of, calm_of, rounds_of, connect_of, submit_of, deliver_of, deliver_side_of, deliver_from_of, stranger_of, turn_of, tick_of, take_of, give_way_of, most_of, disconnect_of, event_of, line_of, spells};
 
 use crate::host::{host_named, is, node_named, side_named};
-use enet_codec::{Addr, DisconnectMode};
+use enet_codec::{Addr, Admission, DisconnectMode};
 use enet_fleet::FleetEvent;
 use enet_text::{
     bytes_of, five, four, id_of, ip_of, one, peer_of, three, two, u8_of, u16_of, u32_of, u64_of,
@@ -187,6 +187,12 @@ fn read_event(alloc: Global, form: &[u8], rest: &[u8]) -> Result<Option<Line>, A
     if is(form, b"take") {
         return Ok(take(rest));
     }
+    if is(form, b"give-way") {
+        return Ok(give_way(rest));
+    }
+    if is(form, b"most") {
+        return Ok(most(rest));
+    }
     Ok(disconnect(form, rest))
 }
 
@@ -300,6 +306,23 @@ fn take(text: &[u8]) -> Option<Line>
     let host = one(text)?;
     let host = host_named(host)?;
     Some(host.take())
+}
+
+fn give_way(text: &[u8]) -> Option<Line>
+    ensures { result ≡ give_way_of (words text.now) }
+{
+    let host = one(text)?;
+    let host = host_named(host)?;
+    Some(host.admit(Admission::GiveWay))
+}
+
+fn most(text: &[u8]) -> Option<Line>
+    ensures { result ≡ most_of (words text.now) }
+{
+    let (host, peers) = two(text)?;
+    let host = host_named(host)?;
+    let peers = u16_of(peers)?;
+    Some(host.admit(Admission::Most { peers }))
 }
 
 fn disconnect(form: &[u8], text: &[u8]) -> Option<Line>

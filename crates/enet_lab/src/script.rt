@@ -11,7 +11,7 @@ ghost use Rattle.enet_lab.specs.Private.Lines.{IsRefused};
 
 use crate::fault::LabFault;
 use crate::stage::Stage;
-use crate::step::{fleet_step, world_calm, world_rounds, world_step};
+use crate::step::{fleet_step, is_in_fleet, is_in_world, world_calm, world_rounds, world_step};
 use crate::{Line, read_line};
 use enet_codec::{Config, Refusal};
 use enet_fleet::FleetEvent;
@@ -166,6 +166,9 @@ impl Script {
         let Stage::InWorld(world) = &mut self.stage else {
             return Err(LabFault::BadScript(self.lines));
         };
+        if !is_in_world(world, &event) {
+            return Err(LabFault::BadScript(self.lines));
+        }
         Ok(Some(world_step(self.alloc, world, event)?))
     }
 
@@ -202,6 +205,9 @@ impl Script {
         let Stage::InFleet(fleet) = &mut self.stage else {
             return Err(LabFault::BadScript(self.lines));
         };
+        if !is_in_fleet(fleet, &event) {
+            return Err(LabFault::BadScript(self.lines));
+        }
         Ok(Some(fleet_step(self.alloc, fleet, event)?))
     }
 

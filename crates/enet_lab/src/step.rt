@@ -3,15 +3,48 @@
 ghost use Rattle.std.specs.Prelude.{◌≡◌, IfOk};
 ghost use Rattle.std.specs.Option.{option_map};
 ghost use Rattle.std.specs.String.{string_bytes};
-ghost use Rattle.enet_lab.specs.Lines.{FleetSteps, StaysCalm, StepsTo, TellsRounds, WorldSteps, bytes_shown, fleet_text, sent_shown, world_text};
+ghost use Rattle.enet_lab.specs.Lines.{FleetSteps, StaysCalm, StepsTo, TellsRounds, WorldSteps, bytes_shown, fleet_text, is_in_fleet, is_in_world, may_be, sent_shown, world_text};
 
 use crate::answer::outcome_shown;
 use crate::{Host, Recipient, calm_text, outcome_text, rounds_text};
-use enet_codec::{Addr, Refusal};
+use enet_codec::{Addr, Admission, Refusal};
 use enet_fleet::{Fleet, FleetEvent, Node, node_of};
 use enet_world::{World, side_of};
 use law_network::{Answer, Side, WorldEvent};
 use std::alloc::{AllocError, Global};
+
+/// Whether so many peers may be connected or leaving at a host of so many slots.
+fn may_be(what: Admission, slots: u16) -> bool
+    ensures { result ≡ may_be what slots }
+{
+    match what {
+        Admission::GiveWay => true,
+        Admission::Most { peers } => (1..=slots).contains(&peers),
+    }
+}
+
+/// Whether what an event sets is in the range of the world's host.
+pub(crate) fn is_in_world(world: &World, event: &WorldEvent) -> bool
+    ensures { result ≡ is_in_world world.now event.now }
+{
+    match *event {
+        WorldEvent::Admit { side, what } => may_be(what, world.slots(side)),
+        _ => true,
+    }
+}
+
+/// Whether what an event sets is in the range of the fleet's host; one that isn't there is refused by the fleet.
+pub(crate) fn is_in_fleet(fleet: &Fleet, event: &FleetEvent) -> bool
+    ensures { result ≡ is_in_fleet fleet.now event.now }
+{
+    match *event {
+        FleetEvent::Admit { node, what } => match fleet.slots(node) {
+            Some(slots) => may_be(what, slots),
+            None => true,
+        },
+        _ => true,
+    }
+}
 
 /// Makes one event happen in a world, and gives the text of its answer.
 pub(crate) fn world_step(

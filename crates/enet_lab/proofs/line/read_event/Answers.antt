@@ -35,6 +35,14 @@ pub returns-then-is-7 : goal.returns-then-is-7
 unfolding event_of
 returns-then-is-7 c = search rules
 
+pub returns-then-is-8 : goal.returns-then-is-8
+unfolding event_of
+returns-then-is-8 c = search rules
+
+pub returns-then-is-9 : goal.returns-then-is-9
+unfolding event_of
+returns-then-is-9 c = search rules
+
 pub returns : goal.returns
 unfolding event_of
 returns c = search rules
