@@ -1,5 +1,5 @@
 -- What a call across the border makes of what a handle holds.
-use Rattle.std.specs.Prelude.{◌≡◌, ◌⊎◌, ◌<◌, ◌≤◌, ◌++◌, ℕ, true, Option, Some, None, Result, Ok, Err, List, [], ◌∷◌, length, drop, is_ok}
+use Rattle.std.specs.Prelude.{◌≡◌, ◌⊎◌, ◌<◌, ◌≤◌, ◌++◌, ℕ, Bool, true, false, Option, Some, None, Result, Ok, Err, List, [], ◌∷◌, length, drop, is_ok}
 use Rattle.std.specs.Option.{option_and_then}
 use Rattle.std.specs.List.{list_any}
 use Rattle.enet_codec.specs.declared.address.Addr.{Addr}
@@ -11,13 +11,15 @@ use Rattle.enet_codec.specs.declared.event.PeerRef.{PeerRef}
 use Rattle.enet_codec.specs.declared.event.Received.{Received}
 use Rattle.enet_codec.specs.declared.refusal.Refusal.{Refusal}
 use Rattle.enet_codec.specs.Outward.{errands}
+use Rattle.enet_codec.specs.Config.{is_admissible}
+use Rattle.enet_codec.specs.declared.config.Admission.{Admission}
 use Rattle.enet_slot.specs.declared.giving.Question.{Question}
 use Rattle.enet_slot.specs.Slot.{SlotState}
 use Rattle.enet_slot.specs.Calls.{submission}
 use Rattle.enet_slot.specs.Sharing.{wants_room}
 use Rattle.enet_host.specs.Host.{Host}
 use Rattle.enet_host.specs.Broadcast.{SubmitsEach}
-use Rattle.enet_host.specs.Calls.{on_named, with_bandwidth, with_secret, Takes}
+use Rattle.enet_host.specs.Calls.{on_named, with_admission, with_bandwidth, with_secret, Takes}
 use Rattle.enet_host.specs.Foretelling.{body_of}
 use Rattle.enet_host.specs.Opening.{host_basis, Opens, Connects, opened}
 use Rattle.enet_host.specs.Receiving.{Receives}
@@ -121,6 +123,14 @@ SetsBandwidth incoming outgoing c =
 -- what peers that begin from now on draw by
 abbrev pub SetsSecret : Secret → Crossing → Type 0
 SetsSecret secret c = (c.number ≡ 0) × (c.after ≡ record c.before { host = with_secret c.before.host secret })
+
+-- whom the host lets in from now on, or 8, with nothing changed, where that is out of its range
+abbrev pub AdmitsIf : Bool → Admission → Crossing → Type 0
+AdmitsIf true what c = (c.number ≡ 0) × (c.after ≡ record c.before { host = with_admission c.before.host what })
+AdmitsIf false what c = (c.number ≡ 8) × (c.after ≡ c.before)
+
+abbrev pub SetsAdmission : Admission → Crossing → Type 0
+SetsAdmission what c = AdmitsIf (is_admissible c.before.host.config what) what c
 
 -- a host begins with these settings, unless the handle holds one or the host is refused
 abbrev pub new_held : Host → Held

@@ -1,5 +1,5 @@
 -- What the shapes of the border mean.
-use Rattle.std.specs.Prelude.{ℕ, Option, Some, None, List, length}
+use Rattle.std.specs.Prelude.{ℕ, false, Option, Some, None, List, length}
 use Rattle.std.specs.Option.{option_map, option_and_then}
 use Rattle.enet_codec.specs.declared.address.Addr.{Addr}
 use Rattle.enet_codec.specs.declared.config.Config.{Config}
@@ -40,7 +40,7 @@ config_shown c = record {
   clock = c.clock;
 }
 
--- a host begins without a secret
+-- a host begins without a secret, lets no peer give way, and has as many as there are slots
 abbrev pub config_meant : CoreConfig → Config
 config_meant c = record {
   peers = c.peers;
@@ -53,6 +53,8 @@ config_meant c = record {
   generations = c.generations;
   clock = c.clock;
   secret = None;
+  gives_way = false;
+  most = None;
 }
 
 abbrev pub secret_meant : CoreSecret → Secret

@@ -41,8 +41,9 @@ pub use packing::{gofnjerta_core_compress, gofnjerta_core_decompress};
 pub use readings::{gofnjerta_core_due_in, gofnjerta_core_peer, gofnjerta_core_totals_of};
 pub use settings::{
     gofnjerta_core_disconnect, gofnjerta_core_disconnect_later, gofnjerta_core_disconnect_now,
-    gofnjerta_core_set_bandwidth, gofnjerta_core_set_ping_interval, gofnjerta_core_set_secret,
-    gofnjerta_core_set_timeout, gofnjerta_core_throttle_configure,
+    gofnjerta_core_give_way, gofnjerta_core_set_bandwidth, gofnjerta_core_set_most,
+    gofnjerta_core_set_ping_interval, gofnjerta_core_set_secret, gofnjerta_core_set_timeout,
+    gofnjerta_core_throttle_configure,
 };
 pub use shapes::{
     CoreAddress, CoreConfig, CoreDatagram, CoreEvent, CorePeer, CoreReading, CoreReceived,

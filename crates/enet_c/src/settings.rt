@@ -1,17 +1,19 @@
 //! Connections end, and what can be set.
 
 ghost use Rattle.std.specs.Prelude.{◌≡◌, IfSome, true};
+ghost use Rattle.enet_codec.specs.declared.config.Admission.TheVariants.{GiveWay, Most};
 ghost use Rattle.enet_codec.specs.declared.event.DisconnectMode.TheVariants.{Ask, Later, Now};
 ghost use Rattle.enet_slot.specs.Calls.{leaving, pinging, throttling, waiting};
 ghost use Rattle.enet_slot.specs.Sharing.{wants_room_in};
 ghost use Rattle.enet_host.specs.Calls.{on_named};
 ghost use Rattle.enet_host.specs.Host.{named};
-ghost use Rattle.enet_c.specs.Border.{Crosses, Settles, SettlesWithMemory, SetsBandwidth, SetsSecret};
+ghost use Rattle.enet_c.specs.Border.{Crosses, Settles, SettlesWithMemory, SetsAdmission, SetsBandwidth, SetsSecret};
 ghost use Rattle.enet_c.specs.Shapes.{name_meant, secret_meant};
 
 use crate::numbers::{CLOSED, OK, answer};
 use crate::own::Handle;
 use crate::shapes::{CorePeer, CoreSecret};
+use enet_codec::Admission;
 use std::alloc::Global;
 
 /// Disconnects: what is queued is dropped, and the event comes once the other end has acknowledged.
@@ -101,6 +103,32 @@ pub extern "C" fn gofnjerta_core_set_secret(
     held.host.set_secret(secret.into_secret());
     handle.put(held);
     OK
+}
+
+/// From now on the peer which has been waiting longest for its client gives way to a CONNECT that finds no free slot.
+#[unsafe(no_mangle)]
+pub extern "C" fn gofnjerta_core_give_way(alloc: Global, handle: &mut Handle) -> u32
+    ensures { Crosses (SetsAdmission GiveWay) handle.old.own.value result handle.new.own.value }
+{
+    let Some(mut held) = handle.take(alloc) else {
+        return CLOSED;
+    };
+    let done = held.host.admit(Admission::GiveWay);
+    handle.put(held);
+    answer(done)
+}
+
+/// Sets how many peers that began by a CONNECT may be connected or leaving at once: 1 to the number of slots.
+#[unsafe(no_mangle)]
+pub extern "C" fn gofnjerta_core_set_most(alloc: Global, handle: &mut Handle, peers: u16) -> u32
+    ensures { Crosses (SetsAdmission (Most peers)) handle.old.own.value result handle.new.own.value }
+{
+    let Some(mut held) = handle.take(alloc) else {
+        return CLOSED;
+    };
+    let done = held.host.admit(Admission::Most { peers });
+    handle.put(held);
+    answer(done)
 }
 
 /// Sets the throttle's interval in milliseconds, and its acceleration and deceleration in parts of 32.

@@ -167,6 +167,8 @@ impl CoreConfig {
             generations: self.generations,
             clock: self.clock,
             secret: None,
+            gives_way: false,
+            most: None,
         }
     }
 }
