@@ -39,12 +39,12 @@ pub struct Desk {
 }
 
 impl Desk {
-    /// Of a server with room for so many peers.
-    pub fn new(alloc: Global, peers: u16, is_controlled: bool) -> Result<Desk, AllocError> {
+    /// Of a server whose host has so many slots.
+    pub fn new(alloc: Global, slots: u16, is_controlled: bool) -> Result<Desk, AllocError> {
         let mut since = Vec::new(alloc);
         let mut control = None;
         if is_controlled {
-            since.resize(usize::from(peers), None)?;
+            since.resize(usize::from(slots), None)?;
             control = Some(Control::new());
         }
         Ok(Desk {

@@ -41,7 +41,7 @@ where
     }
     let mut server = ChatServer::open(rt, settings)?;
     tell_start(rt, &server, settings);
-    let served = begin(rt, &mut server, &options);
+    let served = begin(rt, &mut server, &options, settings.slots());
     server.take_leave(rt);
     server.close();
     served
@@ -72,25 +72,36 @@ fn tell_start<R: Eprint>(rt: &R, server: &ChatServer, settings: Settings) {
     let ip = Ipv4Addr::from_bits(settings.address.ip);
     let port = settings.address.port;
     let peers = settings.peers;
+    let slots = settings.slots();
     let channels = settings.channels;
     let buffer = server.receive_buffer().unwrap_or(0);
     let _ = eprintln!(rt;
-        "listening at {ip}:{port}, {peers} slots, {channels} channels, receive buffer {buffer} bytes"
+        "listening at {ip}:{port}, {peers} peers, {slots} slots, {channels} channels, receive buffer {buffer} bytes"
     );
 }
 
 // Bans whom it was told to, and serves.
-fn begin<R>(rt: &R, server: &mut ChatServer, options: &ServeOptions) -> Result<(), Failure>
+fn begin<R>(
+    rt: &R,
+    server: &mut ChatServer,
+    options: &ServeOptions,
+    slots: u16,
+) -> Result<(), Failure>
 where
     R: Threads + Wait + Net + Clock + Sync + Print + Eprint + AllocGlobal,
 {
     for address in &options.admission.banned {
         server.ban(*address)?;
     }
-    serve_as_asked(rt, server, options)
+    serve_as_asked(rt, server, options, slots)
 }
 
-fn serve_as_asked<R>(rt: &R, server: &mut ChatServer, options: &ServeOptions) -> Result<(), Failure>
+fn serve_as_asked<R>(
+    rt: &R,
+    server: &mut ChatServer,
+    options: &ServeOptions,
+    slots: u16,
+) -> Result<(), Failure>
 where
     R: Threads + Wait + Net + Clock + Sync + Print + Eprint + AllocGlobal,
 {
@@ -99,7 +110,7 @@ where
         rt,
         rt.alloc(),
         &gauge,
-        options.peers,
+        slots,
         options.logs,
         options.is_controlled,
     )?;

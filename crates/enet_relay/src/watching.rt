@@ -46,12 +46,12 @@ pub struct Operator<'a, R> {
 }
 
 impl<'a, R> Operator<'a, R> {
-    /// For a server with room for so many peers. Where it is controlled, standard input is read.
+    /// For a server whose host has so many slots. Where it is controlled, standard input is read.
     pub fn new(
         rt: &'a R,
         alloc: Global,
         gauge: &'a Gauge,
-        peers: u16,
+        slots: u16,
         logs: bool,
         is_controlled: bool,
     ) -> Result<Operator<'a, R>, AllocError> {
@@ -61,7 +61,7 @@ impl<'a, R> Operator<'a, R> {
             gauge,
             logs,
             errors: Outlet::new(Stream::Error),
-            desk: Desk::new(alloc, peers, is_controlled)?,
+            desk: Desk::new(alloc, slots, is_controlled)?,
             monitor: None,
             told_at: None,
             lost: 0,

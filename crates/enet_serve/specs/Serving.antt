@@ -1,5 +1,5 @@
 -- What a server does in a run.
-use Rattle.std.specs.Prelude.{◌≡◌, ◌⊎◌, ℕ, Bool, List, [], ◌++◌, Option, Some, None}
+use Rattle.std.specs.Prelude.{◌≡◌, ◌⊎◌, ℕ, ◌+◌, min, Bool, true, List, [], ◌++◌, Option, Some, None}
 use Rattle.std.specs.List.{All}
 use Rattle.enet_codec.specs.declared.event.PeerRef.{PeerRef}
 use Rattle.enet_codec.specs.declared.event.Event.{Event}
@@ -72,18 +72,28 @@ orders_of server = server.kept.orders.items
 abbrev pub unsettled_of : ChatServer → Option Refusal
 unsettled_of server = server.kept.unsettled
 
+-- how many slots its host has: 1,024 more than there may be clients connected, where there are as many
+abbrev pub slots_of : Settings → ℕ
+slots_of settings = min (settings.peers + 1024) 4095
+
 -- the settings of its host
 abbrev pub config_of : Settings → Config
-config_of settings = record (standard_config settings.peers settings.channels) { mtu = settings.mtu; generations = 4294967295; secret = settings.secret }
+config_of settings = record (standard_config (slots_of settings) settings.channels) {
+  mtu = settings.mtu;
+  generations = 4294967295;
+  secret = settings.secret;
+  gives_way = true;
+  most = Some settings.peers;
+}
 
--- whether there are hosts with these numbers of peers and channels and this mtu
+-- whether a server may have so many peers, and there are hosts with so many channels and this mtu
 abbrev pub is_in_range : Settings → Bool
 is_in_range settings = configs.is_in_range (config_of settings)
 
 -- a fresh host of these settings, a guard with their rules to which nothing came, a socket that hasn't failed, and nothing that waits
 pub record IsOpened (settings : Settings) (server : ChatServer) : Type 0 where
   pub host : host_of server ≡ opened (config_of settings)
-  pub guard : guard_of server ≡ new_guard settings.rules settings.peers
+  pub guard : guard_of server ≡ new_guard settings.rules (slots_of settings)
   pub waiting : waiting_of server ≡ None
   pub faults : faults_of server ≡ 0
   pub told : told_of server ≡ []

@@ -9,7 +9,7 @@ use crate::leaving::take_leave;
 use crate::registrar::Registrar;
 use crate::threads::{Carryover, begin_alone, begin_relay, end_alone, left_or_nothing, relay_on};
 use enet_chat::{Gauge, RelayParts};
-use enet_codec::{Addr, Config, Refusal, Secret};
+use enet_codec::{Addr, Config, MAX_PEERS, Refusal, Secret};
 use enet_events::Poster;
 use enet_guard::{Guarded, Register, Rules};
 use enet_host::HostCore;
@@ -26,12 +26,16 @@ use std::sync::{Arc, Wait};
 use std::thread::Threads;
 use std::{io, mem};
 
+/// So many slots a server has at most beside those of its peers, for clients that asked for a connection and haven't confirmed yet.
+const WAITING_SLOTS: u16 = 1_024;
+
 /// What a server is opened with.
 #[derive(Clone, Copy)]
 pub struct Settings {
     /// Where it listens.
     pub address: Addr,
-    /// How many peers it has room for: 1 to 4,095.
+    /// How many clients may be connected or leaving at once: 1 to 4,095. Its host has 1,024 slots more for those that asked for a connection
+    /// and haven't confirmed yet, 4,095 in all at most.
     pub peers: u16,
     /// How many channels a connection is granted at most: 1 to 255.
     pub channels: u8,
@@ -49,16 +53,26 @@ pub struct Settings {
 
 impl Settings {
     ghost use Rattle.std.specs.Prelude.{◌≡◌};
-    ghost use Rattle.enet_serve.specs.Serving.{config_of};
+    ghost use Rattle.enet_serve.specs.Serving.{config_of, slots_of};
 
-    // A server runs for years, so its slots have as many generations as there can be.
+    /// How many slots its host has.
+    pub fn slots(&self) -> u16
+        ensures { result ≡ slots_of self.now }
+    {
+        self.peers.saturating_add(WAITING_SLOTS).min(MAX_PEERS)
+    }
+
+    // A server runs for years, so its slots have as many generations as there can be. Whoever hasn't confirmed gives way to who asks, so that
+    // forged CONNECTs keep nobody out.
     fn config(&self) -> Config
         ensures { result ≡ config_of self.now }
     {
-        let mut config = Config::standard(self.peers, self.channels);
+        let mut config = Config::standard(self.slots(), self.channels);
         config.mtu = self.mtu;
         config.generations = u32::MAX;
         config.secret = self.secret;
+        config.gives_way = true;
+        config.most = Some(self.peers);
         config
     }
 }
@@ -98,7 +112,7 @@ impl ChatServer {
         }
         let wire = MioWire::open(rt, settings.address)?;
         ask_for_buffer(&wire, settings.receive_buffer);
-        let wire = Guarded::new(alloc, wire, settings.rules, settings.peers)?;
+        let wire = Guarded::new(alloc, wire, settings.rules, settings.slots())?;
         Ok(ChatServer {
             alloc,
             queue_capacity: settings.queue_capacity,
