@@ -25,6 +25,8 @@ uint32_t gofnjerta_core_disconnect(gofnjerta_host *host, const gofnjerta_peer *p
 uint32_t gofnjerta_core_disconnect_now(gofnjerta_host *host, const gofnjerta_peer *peer, uint32_t info);
 uint32_t gofnjerta_core_disconnect_later(gofnjerta_host *host, const gofnjerta_peer *peer, uint32_t info);
 uint32_t gofnjerta_core_set_bandwidth(gofnjerta_host *host, uint32_t incoming, uint32_t outgoing);
+uint32_t gofnjerta_core_give_way(gofnjerta_host *host);
+uint32_t gofnjerta_core_set_most(gofnjerta_host *host, uint16_t peers);
 uint32_t gofnjerta_core_set_secret(gofnjerta_host *host, const uint8_t *key);
 uint32_t gofnjerta_core_throttle_configure(gofnjerta_host *host, const gofnjerta_peer *peer, uint32_t interval, uint32_t acceleration,
                                            uint32_t deceleration);

@@ -136,6 +136,16 @@ uint32_t gofnjerta_set_bandwidth(gofnjerta_host *host, uint32_t incoming, uint32
     return gofnjerta_core_set_bandwidth(host, incoming, outgoing);
 }
 
+uint32_t gofnjerta_give_way(gofnjerta_host *host) {
+    if (!host) return GOFNJERTA_NULL;
+    return gofnjerta_core_give_way(host);
+}
+
+uint32_t gofnjerta_set_most(gofnjerta_host *host, uint16_t peers) {
+    if (!host) return GOFNJERTA_NULL;
+    return gofnjerta_core_set_most(host, peers);
+}
+
 uint32_t gofnjerta_set_secret(gofnjerta_host *host, const uint8_t key[32]) {
     if (!host || !key) return GOFNJERTA_NULL;
     return gofnjerta_core_set_secret(host, key);

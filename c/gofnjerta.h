@@ -228,6 +228,16 @@ uint32_t gofnjerta_set_bandwidth(gofnjerta_host *host, uint32_t incoming, uint32
  * are copied. */
 uint32_t gofnjerta_set_secret(gofnjerta_host *host, const uint8_t key[32]);
 
+/* From now on a CONNECT that finds no free slot takes that of the peer which has waited longest for its client to confirm the answer: that
+ * peer is let go, with no event. So connections that nobody confirms keep nobody out. A connected peer keeps its slot. Open the host with
+ * UINT32_MAX generations, since each CONNECT that takes a slot uses one up. */
+uint32_t gofnjerta_give_way(gofnjerta_host *host);
+
+/* Sets how many peers that began by a CONNECT may be connected or leaving at once: 1 to the number of slots. A client that confirms where as
+ * many are there is told that the host is full (a DISCONNECT with 0xFFFFFFFF), and let go, with no event. Open the host with more slots than
+ * that, for those that ask. BAD_CONFIG. */
+uint32_t gofnjerta_set_most(gofnjerta_host *host, uint16_t peers);
+
 /* Sets a connected peer's throttle: its interval in milliseconds, and by how much it rises and falls, in parts of 32. The other end is
  * sent these. NO_SUCH_PEER, NOT_CONNECTED, MEMORY. */
 uint32_t gofnjerta_throttle_configure(gofnjerta_host *host, gofnjerta_peer peer, uint32_t interval, uint32_t acceleration, uint32_t deceleration);
@@ -235,9 +245,9 @@ uint32_t gofnjerta_throttle_configure(gofnjerta_host *host, gofnjerta_peer peer,
 /* Sets after how many milliseconds of silence a peer is pinged; 0 means 500. NO_SUCH_PEER. */
 uint32_t gofnjerta_set_ping_interval(gofnjerta_host *host, gofnjerta_peer peer, uint32_t ms);
 
-/* Sets how long a peer may leave a command unacknowledged. It is dropped `maximum` milliseconds after the command was first sent, or
- * once two tries have failed that were made `minimum` milliseconds after that and after the last acknowledgement of any command, if
- * 2^(sends - 1) is at least `limit`. 0 means the standard number: 32, 5,000 and 30,000. NO_SUCH_PEER. */
+/* Sets how long a peer may leave a command unacknowledged. It is dropped when a try fails `maximum` milliseconds or more after the command
+ * was first sent, or once two tries have failed that were made `minimum` milliseconds after that and after the last acknowledgement of any
+ * command, if 2^(sends - 1) is at least `limit`. 0 means the standard number: 32, 5,000 and 30,000. NO_SUCH_PEER. */
 uint32_t gofnjerta_set_timeout(gofnjerta_host *host, gofnjerta_peer peer, uint32_t limit, uint32_t minimum, uint32_t maximum);
 
 /* Reads a peer. NO_SUCH_PEER. */

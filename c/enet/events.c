@@ -8,6 +8,7 @@ __attribute__((noinline)) static bool is_news(Layer *layer, const gofnjerta_even
     bool is_last = slot->name.generation == told->peer.generation;
     if (told->peer.generation == slot->parked) {
         slot->is_parked = false;
+        forget_way(layer);
         return false;
     }
     ENetPeer *peer = &layer->host.peers[told->peer.slot];
@@ -19,11 +20,12 @@ __attribute__((noinline)) static bool is_news(Layer *layer, const gofnjerta_even
     if (is_last && slot->lingers) {
         slot->lingers = false;
         layer->lingering--;
-        layer->full_at = UINT64_MAX;
+        forget_way(layer);
     }
     if (!is_last || !slot->known) return false;
     slot->ended = true;
     layer->ended++;
+    forget_way(layer);
     layer_show_peer(layer, peer);
     peer->eventData = told->info;
     if (slot->told || !slot->came) return true;

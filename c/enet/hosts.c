@@ -43,10 +43,12 @@ static bool open_socket(ENetHost *host, const ENetAddress *address) {
     return true;
 }
 
-/* Opens the core with a secret, by which no stranger can guess its sent times and numbers. Where the system has none to give, without. */
+/* Opens the core, in which whoever waits longest for its client gives way to newcomers; with a secret, by which no stranger can guess its
+ * sent times and numbers. Where the system has none to give, without. */
 static bool open_core(gofnjerta_host *core, const gofnjerta_config *config) {
     uint8_t key[32];
     if (gofnjerta_open(core, config)) return false;
+    gofnjerta_give_way(core);
     if (getentropy(key, sizeof key) == 0) gofnjerta_set_secret(core, key);
     return true;
 }

@@ -103,7 +103,9 @@ typedef struct {
     Slot *slots;
     uint64_t clock, refreshed; /* milliseconds */
     bool is_stale;             /* the peers' fields are to be renewed, once what is due was sent */
-    uint64_t full_at;          /* when no slot was free for a peer that came; UINT64_MAX where one may be */
+    uint64_t full_at;          /* when there was no way for a peer that came; UINT64_MAX where there may be one */
+    size_t in_use;             /* how many slots were in use when a way was last asked for */
+    bool has_way;              /* a peer that comes gets none of the slots that the program hasn't done with or doesn't use */
     Marks *marks;              /* by slots; each one's links stand */
     Given *sent;               /* packets that the program gave away since the last service */
     size_t sent_count, sent_room;
@@ -137,7 +139,7 @@ uint64_t layer_now(void); /* the machine's clock, in milliseconds */
  * that it has of its own, mtu and maximumWaitingData. */
 bool layer_is_ready(Layer *layer);
 
-/* Sees to it that the core's next peer gets a slot that the program has done with and may use (peerCount); false where there is none. */
+/* Sees to it that the core's next peer gets a slot that the program has done with and uses (peerCount), or none; false where it can't. */
 bool layer_make_way(Layer *layer);
 void layer_unpark(Layer *layer, uint16_t number); /* the peer of nobody leaves the slot */
 
@@ -178,6 +180,12 @@ static inline size_t command_length(const uint8_t *at, size_t left) {
 
 /* How many slots the program has in use: it may have lowered peerCount. */
 static inline size_t slots_in_use(const Layer *layer) { return ENET_MIN(layer->host.peerCount, layer->config.peers); }
+
+/* A slot's peer ended, or the program was told of that: whether there is a way for newcomers is found anew. */
+static inline void forget_way(Layer *layer) {
+    layer->full_at = UINT64_MAX;
+    layer->has_way = false;
+}
 
 /* A list gets the mark alone, or nothing. The mark's own links never change, so that neither touches it. */
 static inline void link_mark(ENetList *list, Mark *mark) { mark->node = (ENetListNode){&list->sentinel, &list->sentinel}; }

@@ -43,7 +43,7 @@ void layer_forget(Layer *layer, ENetPeer *peer) {
     if (slot->ended) layer->ended--;
     slot->known = slot->told = slot->ended = slot->is_mute = slot->pings = false;
     layer_unpark(layer, peer->incomingPeerID);
-    layer->full_at = UINT64_MAX;
+    forget_way(layer);
     clear(peer);
     layer_count(layer, peer);
 }

@@ -304,6 +304,52 @@ static void secret(void) {
     ANSWERS(GOFNJERTA_OK, gofnjerta_close(&host));
 }
 
+/* A CONNECT of a client at a port of its own comes; the stop with which it is answered. */
+static uint32_t knocks(gofnjerta_host *server, gofnjerta_host *client, uint16_t port) {
+    gofnjerta_config config = gofnjerta_standard(1, 1);
+    gofnjerta_address from = {at_b.ip, port};
+    uint8_t buffer[GOFNJERTA_ROOM];
+    gofnjerta_peer peer;
+    gofnjerta_datagram gave;
+    gofnjerta_received got;
+    ANSWERS(GOFNJERTA_OK, gofnjerta_open(client, &config));
+    ANSWERS(GOFNJERTA_OK, gofnjerta_connect(client, at_a, 1, 0, port, &peer));
+    ANSWERS(GOFNJERTA_OK, gofnjerta_service(client, buffer, sizeof buffer, &gave));
+    ANSWERS(GOFNJERTA_OK, gofnjerta_receive(server, from, buffer, gave.length, &got));
+    return got.stop;
+}
+
+/* Of two slots the one gives way whose client waits longest, once the host is told so. Of two clients that confirm one is let in, and the
+ * other is told that the host is full, and lets go without an event. */
+static void admission(void) {
+    gofnjerta_host server = {0}, clients[4] = {0};
+    gofnjerta_config config = gofnjerta_standard(2, 1);
+    gofnjerta_event event;
+    ANSWERS(GOFNJERTA_OK, gofnjerta_open(&server, &config));
+    ANSWERS(GOFNJERTA_BAD_CONFIG, gofnjerta_set_most(&server, 0));
+    ANSWERS(GOFNJERTA_BAD_CONFIG, gofnjerta_set_most(&server, 3));
+    ANSWERS(GOFNJERTA_OK, gofnjerta_set_most(&server, 1));
+    CHECK(knocks(&server, &clients[0], 1) == 0);
+    ANSWERS(GOFNJERTA_OK, gofnjerta_tick(&server, 10));
+    CHECK(knocks(&server, &clients[1], 2) == 0 && knocks(&server, &clients[2], 3) == 13);
+    ANSWERS(GOFNJERTA_OK, gofnjerta_give_way(&server));
+    CHECK(knocks(&server, &clients[3], 4) == 0);
+    uint8_t buffer[GOFNJERTA_ROOM];
+    gofnjerta_datagram gave;
+    while (gofnjerta_service(&server, buffer, sizeof buffer, &gave) == GOFNJERTA_OK && gave.length) {
+        CHECK(gave.to.port == 2 || gave.to.port == 4); /* the client at port 1 gave way, with no event */
+        gofnjerta_host *client = &clients[gave.to.port - 1];
+        ANSWERS(GOFNJERTA_OK, gofnjerta_receive(client, at_a, buffer, gave.length, NULL));
+        carry(client, gave.to, &server);
+    }
+    ANSWERS(GOFNJERTA_OK, gofnjerta_next_event(&server, &event));
+    CHECK(event.kind == GOFNJERTA_CONNECT);
+    ANSWERS(GOFNJERTA_OK, gofnjerta_next_event(&server, &event));
+    CHECK(event.kind == GOFNJERTA_NONE);
+    for (size_t i = 0; i < 4; i++) gofnjerta_close(&clients[i]);
+    ANSWERS(GOFNJERTA_OK, gofnjerta_close(&server));
+}
+
 /* A handle that holds no host, and pointers to nothing. */
 static void nothing(void) {
     gofnjerta_host host = {0};
@@ -332,6 +378,8 @@ static void nothing(void) {
     BOTH(disconnect_later, peer, 0);
     BOTH(set_bandwidth, 0, 0);
     BOTH(set_secret, key);
+    BOTH(give_way);
+    BOTH(set_most, 1);
     BOTH(throttle_configure, peer, 1, 2, 3);
     BOTH(set_ping_interval, peer, 1);
     BOTH(set_timeout, peer, 1, 2, 3);
@@ -380,6 +428,7 @@ int main(void) {
     names();
     settings();
     secret();
+    admission();
     nothing();
     config.mtu = 1000, config.max_packet = 200000;
     ANSWERS(GOFNJERTA_OK, gofnjerta_open(&a, &config));

@@ -1,5 +1,5 @@
 /* Each allocation failing in turn, linked with -Wl,--wrap=malloc,--wrap=realloc,--wrap=free: a refused call succeeds when it is
- * repeated, what a datagram of no memory carried comes again, nothing is lost, and nothing leaks. */
+ * repeated, what a datagram of no memory carried comes again, nothing is lost, nobody gives way for nothing, and nothing leaks. */
 #include "../gofnjerta.h"
 #include "check.h"
 #include <stdlib.h>
@@ -99,11 +99,70 @@ static void run(long number, const uint8_t *body) {
     CHECK(live == 0);
 }
 
+static uint32_t state_of(gofnjerta_host *host, uint16_t slot, uint32_t generation) {
+    gofnjerta_reading read = {.state = GOFNJERTA_FREE};
+    gofnjerta_read_peer(host, (gofnjerta_peer){slot, generation}, &read);
+    return read.state;
+}
+
+/* A datagram comes from a port, and once more if there was no memory for it, which must leave the peer of this name waiting. */
+static void bring(gofnjerta_host *host, uint16_t port, const uint8_t *bytes, size_t length, uint16_t slot, uint32_t generation) {
+    gofnjerta_received got = {0};
+    for (int n = 0; n < 2; n++) {
+        ANSWERS(GOFNJERTA_OK, gofnjerta_receive(host, (gofnjerta_address){0x0A000003, port}, bytes, length, &got));
+        if (got.stop != 11) break;
+        CHECK(got.handled == 0 && state_of(host, slot, generation) == GOFNJERTA_ANSWERING);
+        refused++;
+    }
+    CHECK(got.handled == 1 && got.stop == 0);
+}
+
+/* Two slots are waited in, a third client gets the first one's, confirms and is let in, and the second one is told that the host is full;
+ * where the allocation of this number behind the first two fails. */
+static void crowd(long number) {
+    static const uint8_t offer[52] = {0x8F, 0xFF, 0, 0, 0x82, 0xFF, 0, 1, 0, 0, 0xFF, 0xFF, 0, 0, 5, 0x70, 0, 1, 0, 0, 0, 0, 0, 1,
+                                      0, 0, 0, 0, 0, 0, 0, 0, 0, 0, 0x13, 0x88, 0, 0, 0, 2, 0, 0, 0, 2, 1, 2, 3, 4, 0, 0, 0, 7};
+    static const uint8_t third[] = {0x10, 0, 1, 0xFF, 0, 1, 0, 1, 0, 10}, second[] = {0, 1, 1, 0xFF, 0, 1, 0, 1, 0, 10};
+    uint8_t buffer[GOFNJERTA_ROOM];
+    gofnjerta_datagram gave = {0}, last = {0};
+    gofnjerta_host host = {0};
+    gofnjerta_config config = gofnjerta_standard(2, 1);
+    gofnjerta_event event;
+    left = -1;
+    ANSWERS(GOFNJERTA_OK, gofnjerta_open(&host, &config));
+    ANSWERS(GOFNJERTA_OK, gofnjerta_give_way(&host));
+    ANSWERS(GOFNJERTA_OK, gofnjerta_set_most(&host, 1));
+    bring(&host, 1, offer, sizeof offer, 0, 0);
+    gofnjerta_tick(&host, 10);
+    bring(&host, 2, offer, sizeof offer, 1, 0);
+    left = number;
+    bring(&host, 3, offer, sizeof offer, 0, 0);
+    CHECK(state_of(&host, 0, 0) == GOFNJERTA_FREE && state_of(&host, 0, 1) == GOFNJERTA_ANSWERING);
+    CHECK(state_of(&host, 1, 0) == GOFNJERTA_ANSWERING);
+    while (gofnjerta_service(&host, buffer, sizeof buffer, &gave) == GOFNJERTA_OK && gave.length)
+        CHECK(gave.to.port == 2 || gave.to.port == 3);
+    bring(&host, 3, third, sizeof third, 0, 1);
+    bring(&host, 2, second, sizeof second, 1, 0);
+    CHECK(state_of(&host, 0, 1) == GOFNJERTA_CONNECTED && state_of(&host, 1, 0) == GOFNJERTA_ANSWERING);
+    while (gofnjerta_service(&host, buffer, sizeof buffer, &gave) == GOFNJERTA_OK && gave.length) last = gave;
+    CHECK(last.to.port == 2 && last.length == 10 && buffer[2] == 0x44);
+    left = -1;
+    ANSWERS(GOFNJERTA_OK, gofnjerta_next_event(&host, &event));
+    CHECK(event.kind == GOFNJERTA_CONNECT && event.peer.slot == 0 && event.peer.generation == 1);
+    ANSWERS(GOFNJERTA_OK, gofnjerta_next_event(&host, &event));
+    CHECK(event.kind == GOFNJERTA_NONE);
+    gofnjerta_close(&host);
+    CHECK(live == 0);
+}
+
 int main(void) {
     static uint8_t body[5000];
     for (int i = 0; i < 5000; i++) body[i] = (uint8_t)(i * 7);
     for (long number = 0; number < 120; number++) run(number, body);
     CHECK(refused > 20);
-    printf("%ld refusals\n", refused);
+    long before = refused;
+    for (long number = 0; number < 40; number++) crowd(number);
+    CHECK(refused > before + 2);
+    printf("%ld refusals, %ld of them among those who wait\n", refused, refused - before);
     return ended("memory");
 }
