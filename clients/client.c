@@ -16,6 +16,9 @@ enum { MOST = 8, CHANNELS = 3, ASKED = 5, MTU = 1392, WINDOW = 65536, PIECE = MT
 // A scenario that hasn't ended after so many seconds fails.
 static const double LIMIT = 100;
 
+// What our relay ends a connection with for which it has no place.
+static const enet_uint32 FULL = 0xFFFFFFFF;
+
 typedef enum Kind { HELLO, RELIABLE, LIFTED, PLAIN, UNSEQUENCED, PIECES, LARGE, NOWHERE, KINDS } Kind;
 
 // What holds of the packets of one sender at one receiver: all come, in order; or some, in order; or some, each once; or none.
@@ -55,6 +58,7 @@ typedef struct Client {
     ENetPeer *peer;
     enet_uint32 sent[KINDS];
     int kept; // packets that the library has not let go: queued, or sent and not acknowledged
+    int may_find_it_full, turned_away; // whether the relay may have no place for it, and how often it said so
     From from[MOST];
     enet_uint32 empties; // packets of 0 bytes that came, and whose sender isn't known yet
     uint8_t order[NUMBERS]; // the senders of the reliable packets that came and weren't empty
@@ -224,6 +228,11 @@ static void service(int id)
     while ((status = enet_host_service(client->host, &event, 0)) > 0) {
         if (event.type == ENET_EVENT_TYPE_CONNECT)
             came_in(id);
+        if (event.type == ENET_EVENT_TYPE_DISCONNECT && client->may_find_it_full && client->state == IN && event.data == FULL) {
+            client->turned_away++;
+            client->state = OUT;
+            continue;
+        }
         if (event.type == ENET_EVENT_TYPE_DISCONNECT && (client->state != LEAVING || event.data != 0)) {
             fprintf(stderr, "client %d: lost its connection, data %u\n", id, event.data);
             give_up_after("a connection ended");
@@ -496,7 +505,25 @@ static void outage(void)
     all_leave();
 }
 
-// Of two slots, client 1's is given out again once the relay has waited for it in vain, which takes at least 5 seconds.
+// Asks until the relay lets a client in. While it is full, that of server.c doesn't answer, and ours says so at once: then it is asked again.
+static void enter(int id, const char *late)
+{
+    clients[id].may_find_it_full = 1;
+    ask(id);
+    while (clients[id].state != IN || !clients[id].from[0].heard) {
+        if (now() > begun + LIMIT)
+            give_up_after(late);
+        if (clients[id].state == OUT) {
+            pass_for(0.5);
+            ask(id);
+        }
+        each_submits(HELLO);
+        pass_for(0.05);
+    }
+    clients[id].may_find_it_full = 0;
+}
+
+// Of two places, client 1's is given out again once the relay has waited for it in vain, which takes at least 5 seconds.
 static void vanish(void)
 {
     all_join(0, 1);
@@ -506,26 +533,29 @@ static void vanish(void)
     clients[1].host = NULL;
     clients[1].state = OUT;
     chat(10);
-    ask(2);
-    until(nobody_asks, "too late: the slot of a client that vanished");
+    enter(2, "too late: the place of a client that vanished");
     if (now() < vanished + 4)
-        give_up("a slot was given out before its client could time out");
+        give_up("a place was given out before its client could time out");
+    if (!reference && clients[2].turned_away == 0)
+        give_up("client 2 wasn't told that the relay is full");
     join();
     chat(5);
     all_leave();
 }
 
-// Four slots, five clients: the last comes in when another has left.
+// Four places, five clients: the last comes in when another has left.
 static void full(void)
 {
     all_join(0, 3);
     chat(5);
+    clients[4].may_find_it_full = 1;
     ask(4);
     pass_for(3);
-    if (clients[4].state != ASKING)
-        give_up("more clients than slots are connected");
+    if (reference ? clients[4].state != ASKING : clients[4].state != OUT || clients[4].turned_away != 1)
+        give_up("client 4 where there are four places: state %d, turned away %d times", clients[4].state, clients[4].turned_away);
     enet_peer_reset(clients[4].peer);
     clients[4].state = OUT;
+    clients[4].may_find_it_full = 0;
     leave(3, DISCONNECT);
     all_join(4, 4);
     chat(5);
@@ -542,8 +572,8 @@ static const struct {
     { "again", again, 2, 2 },  // eight reconnections from one port
     { "idle", idle, 2, 2 },    // 12 seconds without a packet
     { "outage", outage, 2, MOST }, // on a way that is down for some seconds in its midst
-    { "vanish", vanish, 3, 3 }, // the relay must have two slots
-    { "full", full, 5, 5 },    // the relay must have four slots
+    { "vanish", vanish, 3, 3 }, // the relay must have two places
+    { "full", full, 5, 5 },    // the relay must have four places
 };
 
 int main(int words, char **word)
