@@ -34,6 +34,7 @@ cd "$(dirname "$0")/../.."
 room=$(mktemp -d)
 trap 'rm -rf "$room"' EXIT
 . scripts/lib/packaging.sh
+. scripts/lib/tally.sh
 
 stop() {
     echo "release.sh: $1" >&2
@@ -57,8 +58,8 @@ prove() {
     rm -rf crates/*/out/rlib crates/enet_c/out/libenet_c.a
     rt ci > "$room/gate" 2>&1 || status=$?
     tail -n 2 "$room/gate"
-    [ "$status" = 0 ] || stop "rt ci ended with status $status"
-    bash scripts/lib/archive-c.sh > "$room/archive" 2>&1 || { tail -n 5 "$room/archive" >&2; stop "archive-c.sh failed"; }
+    [ "$status" = 0 ] || { first_error "$room/gate" >&2; stop "rt ci ended with status $status"; }
+    bash scripts/lib/archive-c.sh > "$room/archive" 2>&1 || { first_error "$room/archive" >&2; stop "archive-c.sh failed"; }
 }
 
 # The functions of each crate, with what the gate and archive-c.sh said of them.
@@ -66,6 +67,18 @@ count_proved() {
     { cat "$room/gate"; echo '== enet_c'; cat "$room/archive"; } > "$room/told"
     python3 scripts/lib/count-proved.py "$room/told" > "$room/checked" || stop "nobody says how many functions of each crate were proved"
     ! grep -rqE '^ *axiom ' --include='*.antt' --include='*.rt' crates || stop 'an axiom is declared'
+}
+
+# How the prover refused the edits that check-edits.sh tried at this commit.
+tell_edits() {
+    local told=()
+    mapfile -t told < <(grep -lxF "commit $(git rev-parse HEAD), kit $(rt version)" out/edits/*.txt 2> /dev/null)
+    if [ ${#told[@]} -eq 0 ]; then
+        echo "Of the edits in edits/ no verdict at this commit is on record."
+    else
+        echo "Of the edits in edits/ scripts/check/check-edits.sh tried at this commit:"
+        awk 'FNR > 1 { sub(/^[^ ]+ /, ""); sub(/:.*/, ""); became[$0]++ } END { for (what in became) printf "    %-12s %5d\n", what, became[what] }' "${told[@]}" | sort
+    fi
 }
 
 write_proved() {
@@ -91,7 +104,8 @@ write_proved() {
         echo "Whether scripts/test.sh passed at this commit was not asked."
     fi
     echo
-    echo "Must-fail edits that the gate tried are told above. Of the edits in edits/ no verdict at this commit is on record."
+    echo "Must-fail edits that the gate tried are told above."
+    tell_edits
     echo
     echo "Trusted: the toolchain (Rattle's prover and compiler, LLVM), the C library, what the kit states of the libraries in THIRD-PARTY.txt, and"
     echo "two functions of enet_wire (src/journaled.rt), by which a socket notes what datagrams the system gave and took. The C code (gofnjerta.c,"

@@ -1,9 +1,9 @@
 #!/usr/bin/env bash
 # The library for C and libenet's API over it: `check-c.sh [ARCHIVE]`. ARCHIVE is the proved part, by default crates/enet_c/out/libenet_c.a,
 # which `rt lib` makes there, or after `rt ci` scripts/lib/archive-c.sh. Builds both (scripts/by-hand/build-c.sh) and runs
-# - the tests of c/tests: the header against the library and bad use (border), two hosts in memory over a lossy net (lossy), each
-#   allocation failing in turn (memory), and the blocks that the layer keeps (pool, also as it is built for debugging); plain, with
-#   AddressSanitizer and UndefinedBehaviorSanitizer, and under valgrind;
+# - the tests of c/tests: the header against the library and bad use (border), two hosts in memory over a lossy net (lossy), whom a host lets
+#   in, by a model of the rules (admitted), each allocation failing in turn (memory), and the blocks that the layer keeps (pool, also as it
+#   is built for debugging); plain, with AddressSanitizer and UndefinedBehaviorSanitizer, and under valgrind;
 # - the layer: its structures lie as the reference library's header says (layout), what isn't offered is refused, and packets that are sent
 #   while others are let go come as they are (refusals); the reference library and ours do the same with packets of any length and their
 #   bytes (packets), with ten thousand calls drawn from a seed, of which all ways to end (calls), where packets are taken peer by peer
@@ -23,8 +23,8 @@
 #   (progress);
 # - over a network and a clock in memory (c/tests/memory_net.h): the fuzzer's inputs, those of c/tests/fuzz.corpus and drawn ones, with
 #   sanitizers (fuzz); how long a dead peer takes to be noticed, by settings, beside the reference library (patience); bad lines with
-#   both ends ours, on which no connection is lost (lines); and datagrams from port 0, sends that fail to one destination, compressed
-#   datagrams of strangers and connect ids (strangers);
+#   both ends ours, on which no connection is lost (lines); datagrams from port 0, sends that fail to one destination, compressed datagrams
+#   of strangers and connect ids (strangers); and who gets a slot beside strangers' CONNECTs (newcomers);
 # - installed below a prefix, it is found by pkg-config under libenet's name, and each header stands alone; and it is taken away.
 # Prints what failed, and as last line 'N passed, M failed'; the status is 1 where one failed or nothing was tried. It ends within 4
 # minutes. As root it installs what is missing of gcc, libenet-dev, valgrind, python3-enet and pkg-config.
@@ -51,6 +51,13 @@ try() {
     if limited "$@" > "$room/$name.out" 2>&1; then passed=$((passed + 1)); else fail "$name" "$room/$name.out"; fi
 }
 
+# Whether two files are the same: shows in at most twenty lines how they differ.
+same_files() {
+    diff -u "$1" "$2" > "$room/difference" && return
+    head -n 20 "$room/difference"
+    return 1
+}
+
 # Whether the fields that differ between the two outputs of c/tests/fields.c are those that c/tests/fields.differ names: what is in one list
 # alone is printed. The sessions of a known peer aren't looked at: ours are drawn, so that they differ on some runs alone.
 fields_differ() {
@@ -67,6 +74,7 @@ compile() {
 build_tests() {
     local made=$room/made wrap=-Wl,--wrap=malloc,--wrap=realloc,--wrap=free checked=(-fsanitize=address,undefined -fno-sanitize-recover=all)
     compile border border "$made/lib/libgofnjerta.a" && compile lossy lossy "$made/lib/libgofnjerta.a" &&
+        compile admitted admitted "$made/lib/libgofnjerta.a" && compile admitted admitted-checked "${checked[@]}" c/gofnjerta.c "$room/checked.a" &&
         compile memory memory "$wrap" "$made/lib/libgofnjerta.a" && compile pool pool -pthread "$wrap" c/pool.c &&
         compile pool pool-checked -pthread "$wrap" "${checked[@]}" c/pool.c &&
         compile pool pool-debug -pthread "$wrap" -DGOFNJERTA_DEBUG c/pool.c && compile lossy lossy-shared -L"$made/lib" -lgofnjerta &&
@@ -101,6 +109,7 @@ build_memory_tests() {
     build_in_memory "$room/fuzz" fuzz cc "$made" "${checked[@]}" && build_in_memory "$room/patience-checked" patience cc "$made" "${checked[@]}" &&
         build_in_memory "$room/patience" patience cc "$made" && build_in_memory "$room/lines" lines cc "$made" &&
         build_in_memory "$room/strangers" strangers cc "$made" && build_in_memory "$room/strangers-checked" strangers cc "$made" "${checked[@]}" &&
+        build_in_memory "$room/newcomers" newcomers cc "$made" && build_in_memory "$room/newcomers-checked" newcomers cc "$made" "${checked[@]}" &&
         cc -std=gnu11 -O1 -Wall -Wextra -DREFERENCE c/tests/patience.c c/tests/memory_net.c -rdynamic -o "$room/patience-theirs" -lenet
 }
 
@@ -315,7 +324,7 @@ elif ! build_all > "$room/said" 2>&1; then
     fail build "$room/said"
 else
     grind=(valgrind -q --error-exitcode=9 --leak-check=full --errors-for-leak-kinds=definite)
-    for name in border lossy memory pool border-checked lossy-checked pool-checked pool-debug threads threads-checked; do
+    for name in border lossy admitted memory pool border-checked lossy-checked admitted-checked pool-checked pool-debug threads threads-checked; do
         try "$name" "$room/$name"
     done
     for name in "${layer_tests[@]}"; do
@@ -329,24 +338,24 @@ else
     "$room/fuzz" draw 1 300 > "$room/drawn"
     try fuzz "$room/fuzz" play c/tests/fuzz.corpus
     try fuzz-drawn "$room/fuzz" play "$room/drawn"
-    for name in patience patience-checked patience-theirs lines strangers strangers-checked; do
+    for name in patience patience-checked patience-theirs lines strangers strangers-checked newcomers newcomers-checked; do
         try "$name" "$room/$name"
     done
     try fields "$room/fields"
     for name in "${compared[@]}"; do
         try "$name-theirs" "$room/$name-theirs"
-        [ "$name" = fields ] || try "$name-alike" cmp "$room/$name.out" "$room/$name-theirs.out"
+        [ "$name" = fields ] || try "$name-alike" same_files "$room/$name.out" "$room/$name-theirs.out"
     done
     try fields-differ fields_differ
     try alike-shared env LD_LIBRARY_PATH="$room/made/lib/gofnjerta" "$room/alike-theirs"
-    try alike-shared-alike cmp "$room/alike-shared.out" "$room/alike-theirs.out"
+    try alike-shared-alike same_files "$room/alike-shared.out" "$room/alike-theirs.out"
     # Where addresses are drawn from a wide range, ThreadSanitizer doesn't start.
     try threads-raced setarch -R "$room/threads-raced"
     try lossy-shared env LD_LIBRARY_PATH="$room/made/lib" "$room/lossy-shared"
     try border-valgrind "${grind[@]}" "$room/border"
     try memory-valgrind "${grind[@]}" "$room/memory"
     try pool-valgrind "${grind[@]}" "$room/pool"
-    try layout diff <("$room/layout-ours") <("$room/layout-theirs")
+    try layout same_files <("$room/layout-ours") <("$room/layout-theirs")
     try installed installed
     documented
     meetings

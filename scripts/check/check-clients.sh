@@ -189,7 +189,7 @@ receive_guests() {
 # connections by the guests and the last line $3.
 guests_fared() {
     wait "$client"
-    local status=$? pattern='^listening at 127\.0\.0\.1:[0-9]+, 32 slots, 2 channels, receive buffer [1-9][0-9]* bytes$'
+    local status=$? pattern='^listening at 127\.0\.0\.1:[0-9]+, 32 peers, 1056 slots, 2 channels, receive buffer [1-9][0-9]* bytes$'
     client=
     sleep 1
     [ "$status" -eq 0 ] || { echo "the guests ended with status $status: $(head -c 400 "$room/$1.client")"; return 1; }

@@ -150,8 +150,9 @@ def commits(counts):
 
 
 def commands(counts):
-    """README's lines of commands: each names files that are there, and the tests' is the one of .ci/run."""
-    lines = [line.strip() for line in read("README.md").split("\n") if re.match(r"    (\(cd |bash |scripts/)", line)]
+    """README's lines of commands, without remarks: each names files that are there, and the tests' is the one of .ci/run."""
+    shown = [line for line in read("README.md").split("\n") if re.match(r"    (\(cd |bash |scripts/)", line)]
+    lines = [re.sub(r"  +#.*", "", line).strip() for line in shown]
     counts.check(lines, "README.md has no commands")
     for line in lines:
         folder = (re.search(r"cd (\S+)", line) or [None, "."])[1]

@@ -16,8 +16,9 @@
 # proof. So is, for one, that of a call which answers 'no memory' where it likes: no clause says when memory is wanting. Passed are those that
 # are false; limit, open and proof neither pass nor fail, and are named. An edit fails of which only a name is gone, that is still proved, that
 # can't be made or read, or came to no result. With --read nothing is proved: in half a minute it shows which edits no longer fit the text, and
-# each that fits passes. Prints how many libraries it took, what failed, and for each crate how many edits became what, in how many seconds. The
-# last line is 'N passed, M failed'; the status is 1 where one failed, or nothing was tried.
+# each that fits passes. Prints how many libraries it took, what failed, and for each crate how many edits became what, in how many seconds.
+# What each edit of a crate became is kept in out/edits/CRATE.txt, below a line with the commit and the kit. The last line is
+# 'N passed, M failed'; the status is 1 where one failed, or nothing was tried.
 cd "$(dirname "$0")/../.." || exit 1
 . scripts/lib/tally.sh
 
@@ -120,6 +121,7 @@ try_edit() {
         *) fail "$name" "$what" ;;
     esac
     became[$what]=$((${became[$what]:-0} + 1))
+    echo "${1##*/} $what" >> "$top/out/edits/$2.txt"
 }
 
 # Tries all edits of the crate $1, and leaves it as it stands for the crates above it.
@@ -133,6 +135,7 @@ try_all() {
         rm -rf "$room/whole"
         mkdir "$room/whole"
         cp -a src specs proofs out "$room/whole/" 2> "$room/said"
+        echo "commit $commit, kit $(rt version)" > "$top/out/edits/$1.txt"
         for edit in must-fail/*; do
             try_edit "$edit" "$1"
         done
@@ -158,6 +161,8 @@ read_all() {
 
 room=$(mktemp -d) || exit 1
 trap 'rm -rf "$room"' EXIT
+top=$PWD
+commit="$(git rev-parse HEAD)$([ -z "$(git status --porcelain)" ] || echo ', with changes that no commit has')"
 copy=$room/copy
 way=try
 [ "$1" != --read ] || { way='read'; shift; }
@@ -171,7 +176,7 @@ for crate; do
 done
 if [ ${#known[@]} -gt 0 ]; then
     if copy "${known[@]}"; then
-        [ "$way" = read ] || python3 scripts/by-hand/take-libraries.py . "$copy"
+        [ "$way" = read ] || { mkdir -p out/edits && python3 scripts/by-hand/take-libraries.py . "$copy"; }
         for crate in "${known[@]}"; do
             "${way}_all" "$crate"
         done

@@ -195,7 +195,7 @@ pictures_of_lessons() {
         kept=${lab%.lab}
         timeout 60 "$program" lab < "$lab" | python3 scripts/lib/timeline.py lab "$lab" "$room/made" || { fail "picture of $lab" "$lab"; continue; }
         timeline "$(basename "$kept")" "$room/made" '' 0
-        cmp -s "$room/picture" "$kept.svg" && passed=$((passed + 1)) || fail "picture of $lab" "$kept.svg isn't what is drawn of it"
+        cmp -s "$room/picture" "$kept.svg" && passed=$((passed + 1)) || differ "picture of $lab" 'what is drawn of it' "$kept.svg" "$room/picture"
     done
 }
 

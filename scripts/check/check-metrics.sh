@@ -92,22 +92,22 @@ socket.socket(socket.AF_INET, socket.SOCK_RAW, socket.IPPROTO_UDP).sendto(datagr
 END
 }
 
-# CONNECTs that nobody confirms each take a slot, for seven and a half seconds, but none from port 0. One second after the last look that
-# counted slots they are counted again. The answer to each goes again after half a second.
+# A server for 64 clients has 1,088 slots. CONNECTs that nobody confirms each take one, for seven and a half seconds, but none from port 0.
+# One second after the last look that counted slots they are counted again. The answer to each goes again after half a second.
 half_open() {
     local sent told
     from_port_zero
     sent=$("$room/forge" "$port" 20 1)
     sent=${sent% sent}
     [ "${sent:-0}" -ge 10 ] || fail forge "only '$sent' went"
-    slots_become half-open "$((64 - sent)) 0 0 $sent 0 0" 3
+    slots_become half-open "$((1088 - sent)) 0 0 $sent 0 0" 3
     for _ in {1..15}; do
         told=$(sent_again)
         [ "$told" != "$sent" ] || break
         sleep 0.2
     done
     same half-open-sent-again "$told" "$sent"
-    slots_become half-open-no-more '64 0 0 0 0 0' 12
+    slots_become half-open-no-more '1088 0 0 0 0 0' 12
     same half-open-sent-again-no-more "$(sent_again)" 0
 }
 
@@ -128,7 +128,7 @@ lossy() {
     [ "${told:-0}" -gt 0 ] && passed=$((passed + 1)) || fail sent-again 'none was'
     wait "$talking" || fail lossy "$(<"$room/lossy.out")"
     kill "$line"
-    slots_become lossy-no-more '64 0 0 0 0 0' 20
+    slots_become lossy-no-more '1088 0 0 0 0 0' 20
     same sent-again-no-more "$(sent_again)" 0
 }
 
@@ -140,7 +140,7 @@ in_transit() {
     stopped=$!
     "$room/tally" "$port" 2 7 > "$room/talking.out" 2>&1 &
     talking=$!
-    slots_become connected '60 0 0 0 4 0' 10
+    slots_become connected '1084 0 0 0 4 0' 10
     kill -STOP "$stopped"
     sleep 3
     told=$(figure enet_in_transit_bytes "$(ask 'GET /metrics')")
@@ -148,7 +148,7 @@ in_transit() {
     kill -CONT "$stopped"
     wait "$talking" || fail talking "$(<"$room/talking.out")"
     wait "$stopped" || fail stopped "$(<"$room/stopped.out")"
-    slots_become gone '64 0 0 0 0 0' 10
+    slots_become gone '1088 0 0 0 0 0' 10
     same in-transit-no-more "$(figure enet_in_transit_bytes "$(ask 'GET /metrics')")" 0
 }
 
@@ -174,8 +174,8 @@ figures() {
     done
     same status "$(status "$told")" 200
     same peers "$(figure enet_peers "$told")" 32
-    same slots "$(figure enet_slots "$told")" 64
-    slots_become slots-by-state '32 0 0 0 32 0' 3
+    same slots "$(figure enet_slots "$told")" 1088
+    slots_become slots-by-state '1056 0 0 0 32 0' 3
     wait "$tally" || fail tally "$(<"$room/tally.out")"
     sleep 1
     local sent bytes_sent came bytes_came

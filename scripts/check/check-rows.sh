@@ -4,7 +4,7 @@
 # (no such file: 0). A long script and its output are made by NAME.awk. A script that is listed and missing fails. Each line of
 # unreadable-lines.txt and of unreadable-lines-of-a-fleet.txt, whose escapes are printf's, is the second of a script for a pair or a
 # fleet, and the first that can't be read. Each short script that makes two hosts, without `calm`, and the first of a fleet, is also run by
-# out/probe (build-probe.sh) as one list of events, in one call. The lines that README shows are a script, too, with their answers, and so
+# out/probe (build-probe.sh) as one list of events, in one call. The lines that docs/LAB.md shows are a script, too, with their answers, and so
 # are the lessons of docs/lessons, of whose pages each shown line must stand there. Command lines are tried too; those of `demo` take port
 # 47100, which no other socket may have. The last line is 'N passed, M failed'; the status is 1 where one fails. The program is the one that
 # `rt ci`, or `rt run` in crates/enet_relay, leaves; another can be named as argument.
@@ -48,10 +48,10 @@ first_comment() {
     [ ! -s "$file" ] || head -n 1 "$file" | grep -aq '^# ' && passed=$((passed + 1)) || fail "$1" 'its first line is no comment'
 }
 
-# The lines of the lab that README shows, each with its answer and a remark.
-readme_lines() {
-    awk -F '  +' -v lab="$room/readme.lab" -v out="$room/readme.out" '/^    / && NF == 4 { print $2 > lab; print $3 > out }' README.md
-    script README.md "$room/readme.lab" "$room/readme.out" /dev/null 0
+# The lines that docs/LAB.md shows, each with its answer and a remark.
+shown_lines() {
+    awk -F '  +' -v lab="$room/shown.lab" -v out="$room/shown.out" '/^    / && NF == 4 { print $2 > lab; print $3 > out }' docs/LAB.md
+    script docs/LAB.md "$room/shown.lab" "$room/shown.out" /dev/null 0
 }
 
 # Each lesson's script with its answers. The lines that its page shows stand there in this order, each with its answer; `..` ends one that goes
@@ -98,14 +98,14 @@ command_line() {
     shift 5
     timeout 120 "$program" "$@" < "$input" > "$output" 2> "$room/err"
     local status=$?
-    [ "$(<"$room/err")" = "$err" ] || { fail "$name" "standard error is: $(head -c 200 "$room/err")"; return; }
+    [ "$(<"$room/err")" = "$err" ] || { differ_text "$name" 'standard error' "$err" "$(<"$room/err")"; return; }
     [ "$status" -eq "$wanted" ] || { fail "$name" "status $status where $wanted is wanted"; return; }
     passed=$((passed + 1))
 }
 
 # The first line of `serve` on the port `port`, at 127.0.0.1 or $1. How large a receive buffer is hangs on the system, so N stands for it.
 listening() {
-    echo "listening at ${1:-127.0.0.1}:$port, 32 slots, 2 channels, receive buffer N bytes"
+    echo "listening at ${1:-127.0.0.1}:$port, 32 peers, 1056 slots, 2 channels, receive buffer N bytes"
 }
 
 # A file of standard error, with N for the size of the receive buffer.
@@ -119,8 +119,8 @@ service_line() {
     shift 4
     timeout 120 "$program" "$@" > "$room/out" 2> "$room/err"
     local status=$?
-    [ "$(sized "$room/err")" = "$err" ] || { fail "$name" "standard error is: $(head -c 200 "$room/err")"; return; }
-    [ "$(<"$room/out")" = "$out" ] || { fail "$name" "standard output is: $(head -c 200 "$room/out")"; return; }
+    [ "$(sized "$room/err")" = "$err" ] || { differ_text "$name" 'standard error' "$err" "$(sized "$room/err")"; return; }
+    [ "$(<"$room/out")" = "$out" ] || { differ_text "$name" 'standard output' "$out" "$(<"$room/out")"; return; }
     [ "$status" -eq "$wanted" ] || { fail "$name" "status $status where $wanted is wanted"; return; }
     passed=$((passed + 1))
 }
@@ -259,7 +259,7 @@ services() {
 # The receive buffer is as small as it is asked for; Linux tells twice that.
 small_buffer() {
     timeout 120 "$program" serve --port "$port" --turns 2 --receive-buffer 65536 > "$room/out" 2> "$room/err"
-    [ "$(<"$room/err")" = "listening at 127.0.0.1:$port, 32 slots, 2 channels, receive buffer 131072 bytes" ] || { fail "$1" "$(head -c 200 "$room/err")"; return; }
+    [ "$(<"$room/err")" = "listening at 127.0.0.1:$port, 32 peers, 1056 slots, 2 channels, receive buffer 131072 bytes" ] || { fail "$1" "$(head -c 200 "$room/err")"; return; }
     passed=$((passed + 1))
 }
 
@@ -290,9 +290,10 @@ obeys() {
     status=${PIPESTATUS[1]}
     printf '%s\n' 'peers 0' 'not understood' 'no peer 0.0' 'not understood' 'banned 127.0.0.9 kicked 0' 'not understood' \
         'unbanned 127.0.0.9' 'not understood' 'said to 0' 'log on' 'not understood' 'log off' \
-        'not understood' 'not understood' 'not understood' 'stopping' | cmp -s - "$room/out" || { fail "$name" "it answered: $(head -c 400 "$room/out")"; return; }
+        'not understood' 'not understood' 'not understood' 'stopping' > "$room/wanted"
+    cmp -s "$room/wanted" "$room/out" || { differ "$name" 'what it answered' "$room/wanted" "$room/out"; return; }
     [ "$status" -eq 0 ] || { fail "$name" "status $status where 0 is wanted"; return; }
-    [ "$(sized "$room/err")" = "$(listening)" ] || { fail "$name" "standard error is: $(head -c 200 "$room/err")"; return; }
+    [ "$(sized "$room/err")" = "$(listening)" ] || { differ_text "$name" 'standard error' "$(listening)" "$(sized "$room/err")"; return; }
     passed=$((passed + 1))
 }
 
@@ -389,7 +390,7 @@ else
     while IFS= read -r name || [ -n "$name" ]; do
         case $name in '' | '#'*) ;; *) row "$name"; at_once "$name" ;; esac
     done < "$rows/list.txt"
-    readme_lines
+    shown_lines
     lessons
     unreadable_lines 'pair 1' 'turn A' unreadable-lines.txt
     unreadable_lines 'fleet 2 2 2' 'turn S' unreadable-lines-of-a-fleet.txt

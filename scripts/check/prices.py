@@ -151,7 +151,7 @@ def strangers(script):
 
 def crowded(script):
     script.open(PEERS, 1)
-    script.do(f"ask {PEERS} 1 1", "at 0", *["raw " + connect(9000 + number) for number in range(5)])
+    script.do(f"ask {PEERS} 1 1", "at 0", *["raw " + connect(5000 + number) for number in range(5)])
     script.row("connect-of-one-place", kind="stranger")
     script.open(PEERS, 1)
     script.do(f"ask {PEERS - 1} 1 0", "at 4500", "raw " + connect(4500))
@@ -190,6 +190,48 @@ def half_open(script):
     script.row("half-open-data", kind="unproved")
     script.do("confirm")
     script.row("confirm-255-channels", kind="unproved")
+
+
+def short_of_room(script):
+    """Half-open clients of a host with a limit of how many may be connected, which isn't reached first, and is reached then."""
+    for name, limit, joined in (("below", PEERS, 0), ("full", 1, 1)):
+        script.open(PEERS, 1, secret=0)
+        script.do(f"most {limit}", f"join {joined} 1", f"ask {PEERS - joined} 1 0")
+        for number in range(100, 200):
+            script.do(f"from {number}", f"raw {short(number)}")
+        script.row(f"half-open-empty-{name}", kind="unproved")
+        script.do("from 200")
+        script.pack([ack(0xFF, number, number) for number in range(173)])
+        script.row(f"half-open-acks-{name}", kind="unproved")
+        script.do("confirm")
+        script.row(f"confirm-{name}", kind="unproved")
+    script.send(*[ping(number) for number in range(2, 22)])
+    script.row("refused-again", kind="unproved")
+
+
+def give_way(script):
+    """CONNECTs that find no free slot, where a half-open client gives way, or where none of 4,095 that have connected does."""
+    for name, channels in (("", 1), ("-255-channels", 255)):
+        script.open(PEERS, channels)
+        script.do("give-way", f"ask 100 {channels} 0", f"ask {PEERS - 100} 1 0", "tick 1")
+        for number in range(50):
+            script.do(f"at {5000 + number}", "raw " + connect(5000 + number, channels))
+        script.row(f"connect-gives-way{name}", kind="stranger")
+    script.open(PEERS, 1)
+    script.do("give-way", f"ask {PEERS} 1 0", "tick 1")
+    for number in range(9000, 9050):
+        script.do(f"at {number}", "raw " + connect(number))
+    script.row("connect-gives-way-of-one-mark", kind="stranger")
+    script.open(PEERS, 1)
+    script.do("give-way", f"ask {PEERS} 1 0", "tick 1")
+    for number in range(400):
+        script.do(f"at {5000 + number}", "raw " + connect(5000 + number))
+    script.row("connects-give-way-at-once", "never", kind="stranger")
+    script.open(PEERS, 1)
+    script.do("give-way", f"join {PEERS} 1", "tick 1", "at 5000", "raw " + connect(5000))
+    script.row("connect-none-gives-way", kind="stranger")
+    script.do("at 5001", "raw " + connect(5001))
+    script.row("connect-none-gives-way-again", kind="stranger")
 
 
 def in_order(script):
@@ -375,7 +417,7 @@ def look(script):
     script.call("look", "look-255-channels")
 
 
-ALL = [strangers, crowded, newcomers, half_open, in_order, held, kept, pieces, full, acknowledged]
+ALL = [strangers, crowded, newcomers, half_open, short_of_room, give_way, in_order, held, kept, pieces, full, acknowledged]
 ALL += [many_channels, crowds, ended, bandwidths, look]
 
 

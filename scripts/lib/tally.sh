@@ -14,6 +14,11 @@ differ() {
     diff -u "$3" "$4" | head -n 40
 }
 
+# The same of two texts: the wanted one $3 and the one that is there, $4.
+differ_text() {
+    differ "$1" "$2" <(printf '%s\n' "$3") <(printf '%s\n' "$4")
+}
+
 # What went wrong by the file $1: a compiler's first error and what follows it, or the last twenty lines if there is none.
 first_error() {
     grep -m 1 -A 19 -E '(^|[ :])(fatal )?error(\[[^]]*\])?:' "$1" || tail -n 20 "$1"
