@@ -1,3 +1,4 @@
 pub mod Running
 pub mod Ends
 pub mod Passages
+pub mod Making
