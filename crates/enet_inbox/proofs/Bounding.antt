@@ -43,7 +43,7 @@ removed_by : (b : Bool) (n : ℕ) → (cond b (n - 1) n ≤ n) × (n ≤ cond b 
 removed_by true n = (omega arith, omega arith)
 removed_by false n = (omega arith, omega arith)
 
-early_or_next : (r : Receiver) → (early_packets r ≤ held_packets r) × (held_packets r ≤ early_packets r + 1)
+pub early_or_next : (r : Receiver) → (early_packets r ≤ held_packets r) × (held_packets r ≤ early_packets r + 1)
 early_or_next r =
     let k : ℕ = after r.front 1 in
     let parts = removed_by (contains_key r.held (after r.front 1)) (len r.held) in

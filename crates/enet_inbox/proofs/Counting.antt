@@ -65,8 +65,8 @@ counts_set rs n channel was now old new k inside at before after low = record {
 }
 
 -- a receiver that holds nothing
-nothing-held : (r : ReceivingEnd) → held_packets (cleared_receiver r).receiver ≡ 0
-nothing-held r =
+pub none_of_packets : (r : ReceivingEnd) → held_packets (cleared_receiver r).receiver ≡ 0
+none_of_packets r =
     let one = len-empty nat_cmp IncomingPacket in
     let two = sum_of_empty {X = FinMap nat_cmp IncomingPacket} len in
     omega arith
@@ -83,12 +83,12 @@ counts_new channels most =
     let len : length (map ends (range_with_len 0 channels)) ≡ channels = length-map-range_with_len ends 0 channels in
     none-held (map ends (range_with_len 0 channels)) (λ i d h.
     let at : get_or (map ends (range_with_len 0 channels)) i d ≡ ends i = get_or-map-range_with_len ends 0 channels i i d (subst (λ n. i < n) len h) (omega arith) in
-    subst (λ (r : ReceivingEnd). held_packets r.receiver ≤ 0) (sym at) (let z = nothing-held (ends i) in omega arith))
+    subst (λ (r : ReceivingEnd). held_packets r.receiver ≤ 0) (sym at) (let z = none_of_packets (ends i) in omega arith))
 
 pub counts_cleared : (rs : List ReceivingEnd) → KeepsPackets (map cleared_receiver rs) 0
 counts_cleared rs = none-held (map cleared_receiver rs) (λ i d h.
     let low : i < length rs = subst (λ n. i < n) (length-map rs cleared_receiver) h in
-    subst (λ (r : ReceivingEnd). held_packets r.receiver ≤ 0) (sym (get_or-map cleared_receiver rs i d d low)) (let z = nothing-held (get_or rs i d) in omega arith))
+    subst (λ (r : ReceivingEnd). held_packets r.receiver ≤ 0) (sym (get_or-map cleared_receiver rs i d d low)) (let z = none_of_packets (get_or rs i d) in omega arith))
 
 -- the channels from one on go
 pub counts_narrowed : (rs : List ReceivingEnd) (n channels : ℕ) → KeepsPackets rs n → KeepsPackets (take channels rs) (n - packets_in (drop channels rs))

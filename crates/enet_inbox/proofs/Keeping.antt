@@ -1,9 +1,9 @@
 -- The fields of an inbox keep what they keep.
-use Rattle.std.proofs.Common.{◌≡◌, ℕ, ◌+◌, ◌-◌, ◌*◌, ◌^◌, ◌<◌, ◌≤◌, Bool, true, List, [], ◌∷◌, ◌++◌, All, length, map, take, drop, get_or, set, sum_by, refl, sym, ap, subst, ◌∙◌, inl, inr, ◌⊎◌, arith, length-set, length-take, Option, Some, None, Result, Ok}
+use Rattle.std.proofs.Common.{◌≡◌, ℕ, ◌+◌, ◌-◌, ◌*◌, ◌^◌, ◌<◌, ◌≤◌, Bool, true, List, [], ◌∷◌, ◌++◌, All, length, map, take, drop, get_or, set, sum_by, refl, sym, ap, subst, ◌∙◌, inl, inr, ◌⊎◌, arith, length-set, length-take, Option, Some, None, Ok}
 use Rattle.std.specs.Prelude.{slice_get}
 use Rattle.std.specs.List.{range_with_len}
 use Rattle.std.proofs.lemmas.List.{get_or-set_same, get_or-set_other, get_or-map, get_or-take, length-map, length-drop, take_all}
-use Rattle.std.proofs.lemmas.List.FromFn.{length-map-range_with_len, get_or-map-range_with_len, map-range_with_len_more}
+use Rattle.std.proofs.lemmas.List.FromFn.{length-map-range_with_len, get_or-map-range_with_len}
 use Rattle.std.proofs.lemmas.List.Elements.{All-push, All-tail}
 use Rattle.std.proofs.lemmas.List.Sums.{sum_by-le, sum_by-set, sum_by_push, sum_by-cons, sum_by-take-drop, get_or-le-sum_by}
 use Rattle.std.proofs.lemmas.Option.{slice_get_within, slice_get_read, get_or_from_slice_get}
@@ -11,7 +11,6 @@ use Rattle.std.specs.Ordering.{nat_cmp}
 use Rattle.std.specs.FinMap.{FinMap, empty, entries, values, len-entries, len-empty}
 use Rattle.enet_codec.specs.declared.command.Head.{Head}
 use Rattle.enet_codec.specs.declared.packet.Packet.{Packet}
-use Rattle.enet_codec.specs.declared.refusal.Refusal.{Refusal}
 use Rattle.enet_unsequenced.specs.Groups.{Seen}
 use Rattle.enet_fragment.specs.declared.data.DataCommand.{DataCommand}
 use Rattle.enet_seq.specs.Numbering.{wire}
@@ -28,7 +27,7 @@ use Rattle.enet_inbox.specs.Inbox.{Inbox, empty_inbox, is_full_for, cleared, cle
 use Rattle.enet_inbox.specs.DataEffect.{emptied, packet_of, sequenced}
 use Rattle.enet_inbox.specs.InboxParts.{foresight_on, foresight_of, foreseen_sequenced}
 use Rattle.enet_inbox.specs.Invariant.{IsShort, IsInPlace, KeepsInbox}
-use Rattle.enet_inbox.specs.Private.Invariant.{HasFront, held_in, bytes_in}
+use Rattle.enet_inbox.specs.Private.Invariant.{held_in, bytes_in}
 use Rattle.enet_inbox.proofs.Fronts.{front_received}
 use Rattle.enet_inbox.proofs.Outcomes.{Taken, taken, foresight_in, foresight_is}
 
@@ -37,9 +36,6 @@ pub in_place : (b : Inbox) (waiting channel : ℕ) (r : ReceivingEnd) → KeepsI
 in_place b waiting channel r k at =
     subst (λ (x : ReceivingEnd). IsInPlace b.max_packet channel x) (get_or_from_slice_get b.receivers channel r r at)
     (k.receivers channel r (slice_get_within b.receivers channel r at))
-
-pub has_front : (b : Inbox) (waiting channel : ℕ) → KeepsInbox b waiting → HasFront b channel
-has_front b waiting channel k = λ r at. (in_place b waiting channel r k at).front
 
 pub held_bounded : (b : Inbox) (waiting : ℕ) → KeepsInbox b waiting → held_in b.receivers ≤ 255 * 2 ^ 64
 held_bounded b waiting k =
@@ -172,7 +168,7 @@ nothing_held r =
     let two = sum_of_empty {X = FinMap nat_cmp IncomingPacket} bytes_of in
     omega arith
 
-new_in_place : (most channel : ℕ) → most < 2 ^ 32 → IsInPlace most channel (new_end channel most)
+pub new_in_place : (most channel : ℕ) → most < 2 ^ 32 → IsInPlace most channel (new_end channel most)
 new_in_place most channel small = record {
   channel = refl;
   max_packet = refl;
@@ -264,24 +260,11 @@ keeps_narrowed b waiting channels k = record {
 pub dropped_counted : (b : Inbox) (waiting channels : ℕ) → KeepsInbox b waiting → held_in (drop channels b.receivers) ≤ waiting
 dropped_counted b waiting channels k = let counted = k.counted in let parts = sum_by-take-drop (λ (r : ReceivingEnd). held_bytes r.receiver) b.receivers channels in omega arith
 
--- one receiver more
-pub one_opened : (rs : List ReceivingEnd) (n most : ℕ) (r : ReceivingEnd) → rs ≡ map (λ channel. new_end channel most) (range_with_len 0 n) → r ≡ new_end n most
-    → rs ++ r ∷ [] ≡ map (λ channel. new_end channel most) (range_with_len 0 (n + 1))
-one_opened rs n most r e is =
-    (λ i. e i ++ is i ∷ []) ∙ sym (map-range_with_len_more (λ channel. new_end channel most) 0 n n (omega arith))
-
 -- a slice from an index on
 pub rest_of : (channels : ℕ) (rs all : List ReceivingEnd) → all ≡ rs → held_in (take (length all - channels) (drop channels all)) ≡ held_in (drop channels rs)
 rest_of channels rs all e =
     ap (λ (x : List ReceivingEnd). held_in x) (take_all (length all - channels) (drop channels all) (let n = length-drop channels all in omega arith))
     ∙ ap (λ (x : List ReceivingEnd). held_in (drop channels x)) e
-
-pub same_ok : (r d : ReceivingEnd) → ◌≡◌ {A = Result ReceivingEnd Refusal} (Ok r) (Ok d) → r ≡ d
-same_ok r d e = cc
-
--- what is foreseen, taken to another inbox that is the same
-pub at_inside : (b inside : Inbox) (channel : ℕ) (o : Option DataCommand) (f : Foresight) → inside ≡ b → foresight_of b channel o ≡ Ok f → foresight_of inside channel o ≡ Ok f
-at_inside b inside channel o f e h = ap (λ (x : Inbox). foresight_of x channel o) e ∙ h
 
 has_on : (b : Inbox) (channel : ℕ) (c : DataCommand) (f : Foresight) (o : Option ReceivingEnd) → slice_get b.receivers channel ≡ o → foresight_on b c o ≡ Ok f → channel < length b.receivers
 has_on b channel c f None at e = absurd (cc)
@@ -296,22 +279,16 @@ has_receiver b channel (Some c) f e = has_on b channel c f (slice_get b.receiver
 abbrev pub Reached : Inbox → Head → Head → Option DataCommand → Foreseen → ReceivingEnd → Bool → Type 0
 Reached b own h o what d full = (own.channel < length b.receivers) × Taken b h.channel o (foresight_in what) d full × IsInPlace b.max_packet own.channel d
 
--- what is kept is of a channel
-pub kept_channel : (b inside : Inbox) (channel : ℕ) (c : DataCommand) (what : Foreseen) → inside ≡ b → foreseen_sequenced b channel (Some c) ≡ Ok what → what.kept ≡ true → channel < length inside.receivers
-kept_channel b inside channel c what view foreseen kept =
-    has_receiver inside channel (Some c) (foresight_in what) (at_inside b inside channel (Some c) (foresight_in what) view (foresight_is b channel (Some c) what foreseen kept))
-
--- seen from its place
-pub taken_at : (b inside : Inbox) (waiting : ℕ) (own h : Head) (c : DataCommand) (what : Foreseen) (d : ReceivingEnd) (full : Bool) → inside ≡ b → KeepsInbox inside waiting → own ≡ h
-    → d ≡ get_or inside.receivers own.channel d → full ≡ is_full_for b d c → foreseen_sequenced b h.channel (Some c) ≡ Ok what → what.kept ≡ true → Reached inside own h (Some c) what d full
-taken_at b inside waiting own h c what d full view k is at same foreseen kept =
+-- what is kept is of a channel, and its receiver takes it in
+pub taken_at : (b : Inbox) (waiting : ℕ) (own h : Head) (c : DataCommand) (what : Foreseen) (d : ReceivingEnd) (full : Bool) → KeepsInbox b waiting → own ≡ h
+    → d ≡ get_or b.receivers own.channel d → full ≡ is_full_for b d c → foreseen_sequenced b h.channel (Some c) ≡ Ok what → what.kept ≡ true → Reached b own h (Some c) what d full
+taken_at b waiting own h c what d full k is at same foreseen kept =
     let f = foresight_in what in
-    let inner : foresight_of inside h.channel (Some c) ≡ Ok f = at_inside b inside h.channel (Some c) f view (foresight_is b h.channel (Some c) what foreseen kept) in
+    let inner : foresight_of b h.channel (Some c) ≡ Ok f = foresight_is b h.channel (Some c) what foreseen kept in
     let channel : own.channel ≡ h.channel = ap (λ (x : Head). x.channel) is in
-    let low : own.channel < length inside.receivers = subst (λ n. n < length inside.receivers) (sym channel) (has_receiver inside h.channel (Some c) f inner) in
-    let there : slice_get inside.receivers own.channel ≡ Some d = slice_get_read inside.receivers (length inside.receivers) own.channel d refl low at in
-    let whole : full ≡ is_full_for inside d c = same ∙ ap (λ (x : Inbox). is_full_for x d c) (sym view) in
-    (low, taken inside h.channel c f d full inner refl (ap (slice_get inside.receivers) (sym channel) ∙ there) whole, in_place inside waiting own.channel d k there)
+    let low : own.channel < length b.receivers = subst (λ n. n < length b.receivers) (sym channel) (has_receiver b h.channel (Some c) f inner) in
+    let there : slice_get b.receivers own.channel ≡ Some d = slice_get_read b.receivers (length b.receivers) own.channel d refl low at in
+    (low, taken b h.channel c f d full inner refl (ap (slice_get b.receivers) (sym channel) ∙ there) same, in_place b waiting own.channel d k there)
 
 same_some : (d e : ReceivingEnd) → ◌≡◌ {A = Option ReceivingEnd} (Some d) (Some e) → d ≡ e
 same_some d e h = cc

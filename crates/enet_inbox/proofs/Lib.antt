@@ -9,5 +9,6 @@ pub mod Counting
 pub mod Bounding
 pub mod Weighing
 pub mod Limits
+pub mod Made
 pub mod Foresights
 pub mod AtOnce

@@ -1,8 +1,8 @@
 -- What a command meets that finds no room until the unreliable packets that wait give way.
-use Rattle.std.proofs.Common.{◌≡◌, ℕ, Bool, true, false, cond, leb, ltb, ◌⊎◌, inl, inr, Option, Some, None, Result, Ok, Err, is_ok, List, length, get_or, ◌<◌, refl, sym, ap, subst, ◌∙◌}
+use Rattle.std.proofs.Common.{◌≡◌, ℕ, Bool, true, false, cond, leb, ltb, ◌⊎◌, inl, inr, Option, Some, None, Result, Ok, Err, is_ok, List, length, refl, sym, ap, subst, ◌∙◌}
 use Rattle.std.specs.Prelude.{◌&&◌, not, slice_get}
 use Rattle.std.proofs.lemmas.List.{length-map}
-use Rattle.std.proofs.lemmas.Option.{slice_get-map, slice_get_read, slice_get_within}
+use Rattle.std.proofs.lemmas.Option.{slice_get-map}
 use Rattle.std.specs.Option.{option_map}
 use Rattle.enet_codec.specs.declared.stop.Stop.{Stop}
 use Rattle.enet_codec.specs.declared.stop.Stop.TheVariants as stop
@@ -20,7 +20,7 @@ use Rattle.enet_receiver.proofs.Alone.{full_where_waiting, outcome_alone}
 use Rattle.enet_inbox.specs.Inbox.{Inbox, is_full, is_full_for, is_full_of_untaken, given_way, given_way_receiver}
 use Rattle.enet_inbox.specs.DataEffect.{DataEffect, plain_arrival, arrival_of, sequenced, sequenced_on, by_took, unsequenced, unsequenced_taken, handled, stopped, is_waiting, makes_room, is_kept_of, is_kept_on, is_kept_as, is_kept_sequenced}
 use Rattle.enet_inbox.specs.InboxParts.{foreseen_of, foreseen_sequenced}
-use Rattle.enet_inbox.specs.Private.InboxParts.{FindsRoom}
+use Rattle.enet_inbox.specs.Private.InboxParts.{answer_where, FindsRoom}
 
 -- a command is an unsequenced packet, or what its channel's receiver makes of it
 pub record IsSequenced (m : Message) (body : Body) : Type 0 where
@@ -84,15 +84,12 @@ given_way_to b channel c r at =
     ∙ ap (λ t. by_took t (given_way b) channel (given_way_receiver r) c)
     (outcome_alone r.max_packet r.receiver c (is_full_for b r c) (is_full_for (given_way b) (given_way_receiver r) c) at.took)
 
-abbrev pub answer_by : Bool → ReceivingEnd → DataCommand → Result Bool Stop
-answer_by full r c = cond full (Err stop.Waiting) (Ok (acknowledges r.receiver.front c.number))
-
-took-by : (full : Bool) (b : Inbox) (channel : ℕ) (r : ReceivingEnd) (c : DataCommand) → (by_took (cond full Waiting Held) b channel r c).answer ≡ answer_by full r c
+took-by : (full : Bool) (b : Inbox) (channel : ℕ) (r : ReceivingEnd) (c : DataCommand) → (by_took (cond full Waiting Held) b channel r c).answer ≡ answer_where full r c
 took-by true b channel r c = refl
 took-by false b channel r c = refl
 
 pub answer_then : (b : Inbox) (channel : ℕ) (c : DataCommand) (r : ReceivingEnd) → IsAt b channel c r
-    → (sequenced (given_way b) channel (Some c)).answer ≡ answer_by (is_full_for (given_way b) (given_way_receiver r) c) (given_way_receiver r) c
+    → (sequenced (given_way b) channel (Some c)).answer ≡ answer_where (is_full_for (given_way b) (given_way_receiver r) c) (given_way_receiver r) c
 answer_then b channel c r at =
     ap (λ (x : DataEffect). x.answer) (given_way_to b channel c r at)
     ∙ took-by (is_full_for (given_way b) (given_way_receiver r) c) (given_way b) channel (given_way_receiver r) c
@@ -273,7 +270,7 @@ full-of b m body (inr s) e full =
     ap (λ (x : DataEffect). x.answer) (s.arrives (given_way b))
     ∙ ap (λ o. (sequenced (given_way b) m.head.channel o).answer) d.1
     ∙ answer_then b m.head.channel d.0 found.0 found.1
-    ∙ ap (λ t. answer_by t (given_way_receiver found.0) d.0) (full_for_all b m.head.channel d.0 found.0 found.1 full)
+    ∙ ap (λ t. answer_where t (given_way_receiver found.0) d.0) (full_for_all b m.head.channel d.0 found.0 found.1 full)
 
 pub full_answer : (b : Inbox) (m : Message) → (plain_arrival b m).answer ≡ Err stop.Waiting → is_full (given_way b) ≡ true → (plain_arrival (given_way b) m).answer ≡ Err stop.Waiting
 full_answer b m e full = full-of b m m.body (kind m m.body) e full
@@ -301,27 +298,26 @@ found_at b m c e told =
     at_receiver b m.head.channel c (ap (λ o. (sequenced b m.head.channel o).answer) (sym told) ∙ ap (λ (x : DataEffect). x.answer) (sym (s.arrives b)) ∙ e)
 
 pub answer_at : (b : Inbox) (m : Message) (c : DataCommand) (r : ReceivingEnd) → data_of m ≡ Some c → IsAt b m.head.channel c r
-    → (plain_arrival (given_way b) m).answer ≡ answer_by (is_full_for (given_way b) (given_way_receiver r) c) (given_way_receiver r) c
+    → (plain_arrival (given_way b) m).answer ≡ answer_where (is_full_for (given_way b) (given_way_receiver r) c) (given_way_receiver r) c
 answer_at b m c r told at =
     let s = data-sequenced m c told (kind m m.body) in
     ap (λ (x : DataEffect). x.answer) (s.arrives (given_way b)) ∙ ap (λ o. (sequenced (given_way b) m.head.channel o).answer) told ∙ answer_then b m.head.channel c r at
 
--- seen from its place
-pub channel_in : (b inside : Inbox) (m : Message) (own : Head) (c : DataCommand) → inside ≡ b → own ≡ m.head → (plain_arrival b m).answer ≡ Err stop.Waiting → Some c ≡ data_of m → own.channel < length inside.receivers
-channel_in b inside m own c view is e told =
-    let found = found_at b m c e (sym told) in
-    let low : m.head.channel < length b.receivers = slice_get_within b.receivers m.head.channel found.0 found.1.there in
-    subst (λ n. n < length inside.receivers) (ap (λ (x : Head). x.channel) (sym is)) (subst (λ (x : Inbox). m.head.channel < length x.receivers) (sym view) low)
-
 same-some : (d e : ReceivingEnd) → ◌≡◌ {A = Option ReceivingEnd} (Some d) (Some e) → d ≡ e
 same-some d e h = cc
 
-pub found_in : (b inside : Inbox) (m : Message) (own : Head) (c : DataCommand) (d : ReceivingEnd) → inside ≡ b → own ≡ m.head → (plain_arrival b m).answer ≡ Err stop.Waiting → Some c ≡ data_of m
-    → d ≡ get_or inside.receivers own.channel d → IsAt b m.head.channel c d
-found_in b inside m own c d view is e told at =
+-- what is answered once the others have given way and left room
+told-by : (next : Bool) (b : Inbox) (m : Message) (c : DataCommand) (r : ReceivingEnd) → is_next r.receiver c ≡ next → data_of m ≡ Some c → IsAt b m.head.channel c r → is_full (given_way b) ≡ false
+    → (plain_arrival (given_way b) m).answer ≡ answer_where next r c
+told-by true b m c r next told at room =
+    answer_at b m c r told at ∙ ap (λ f. answer_where f (given_way_receiver r) c) (full_for_next b m.head.channel c r at next)
+told-by false b m c r next told at room =
+    answer_at b m c r told at ∙ ap (λ f. answer_where f (given_way_receiver r) c) (room_for b c r next room)
+
+pub told_in_room : (b : Inbox) (m : Message) (own : Head) (c : DataCommand) (r : ReceivingEnd) → own ≡ m.head → (plain_arrival b m).answer ≡ Err stop.Waiting → Some c ≡ data_of m
+    → slice_get b.receivers own.channel ≡ Some r → is_full (given_way b) ≡ false → answer_where (is_next r.receiver c) r c ≡ (plain_arrival (given_way b) m).answer
+told_in_room b m own c r is e told there room =
     let found = found_at b m c e (sym told) in
-    let low = channel_in b inside m own c view is e told in
-    let inner : slice_get inside.receivers own.channel ≡ Some d = slice_get_read inside.receivers (length inside.receivers) own.channel d refl low at in
-    let there : slice_get b.receivers m.head.channel ≡ Some d =
-    ap (λ (x : Inbox). slice_get x.receivers m.head.channel) (sym view) ∙ ap (λ (x : Head). slice_get inside.receivers x.channel) (sym is) ∙ inner in
-    subst (λ (r : ReceivingEnd). IsAt b m.head.channel c r) (same-some found.0 d (sym found.1.there ∙ there)) found.1
+    let here : slice_get b.receivers m.head.channel ≡ Some r = ap (λ (h : Head). slice_get b.receivers h.channel) (sym is) ∙ there in
+    let at : IsAt b m.head.channel c r = subst (λ (x : ReceivingEnd). IsAt b m.head.channel c x) (same-some found.0 r (sym found.1.there ∙ here)) found.1 in
+    sym (told-by (is_next r.receiver c) b m c r refl (sym told) at room)

@@ -37,8 +37,9 @@ pub record KeepsPackets (rs : List ReceivingEnd) (packets : ℕ) : Type 0 where
   pub few : All (λ (r : ReceivingEnd). held_packets r.receiver < 2 ^ 32) rs
   pub counted : packets ≡ packets_in rs
 
--- what an inbox and its two counters keep
-pub record Keeps (b : Inbox) (waiting packets : ℕ) : Type 0 where
+-- what the inbox of the receivers that are made keeps, with its two counters; no more are made than there are channels
+pub record Keeps (b : Inbox) (count waiting packets : ℕ) : Type 0 where
   pub inbox : KeepsInbox b waiting
   pub places : KeepsPackets b.receivers packets
   pub bounded : IsBounded b
+  pub within : length b.receivers ≤ count

@@ -3,10 +3,13 @@
 ghost use Rattle.std.specs.Prelude.{◌≡◌, ◌<◌};
 ghost use Rattle.enet_seq.specs.Windows as windows;
 ghost use Rattle.enet_inbox.specs.DataEffect.{is_waiting};
+ghost use Rattle.enet_receiver.specs.ArrivingData.{data_command};
+ghost use Rattle.enet_receiver.specs.DataOutcome.{is_next};
 ghost use Rattle.enet_inbox.specs.InboxParts.{seen, told};
+ghost use Rattle.enet_inbox.specs.Private.InboxParts.{answer_where};
 
 use enet_codec::{Command, Head, Stop};
-use enet_receiver::{Foresight, Incoming, Took};
+use enet_receiver::{ArrivingData, Foresight, Incoming, Took};
 
 /// What becomes of a data command that nothing stops, as it is handed on to the call that takes it in.
 #[derive(Clone, Copy, PartialEq, Eq)]
@@ -59,4 +62,16 @@ pub(crate) fn acknowledges(receiver: &Incoming, head: Head) -> bool
         payload: &[],
     };
     receiver.foresee(&stand_in, false).acknowledged
+}
+
+/// Whether a command that found no room may be acknowledged once the unreliable packets that wait have given way, and there is room, or why
+/// it is still stopped: one of the packet that its channel dispatches next finds no room by that.
+pub(crate) fn answer_in_room(receiver: &Incoming, arriving: ArrivingData<'_>) -> Result<bool, Stop>
+    requires { receiver.now.receiver.front < 65536 }
+    ensures { result ≡ answer_where (is_next receiver.now.receiver (data_command arriving.entry)) receiver.now (data_command arriving.entry) }
+{
+    if receiver.is_next(arriving) {
+        return Err(Stop::Waiting);
+    }
+    Ok(acknowledges(receiver, arriving.head))
 }

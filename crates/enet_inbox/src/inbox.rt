@@ -1,8 +1,9 @@
 //! All that comes to a peer.
 
-ghost use Rattle.std.specs.Prelude.{◌≡◌, ◌+◌, ◌*◌, ◌<◌, ◌≤◌, ◌^◌, drop, IsTrue, IfOk, IfErr, OnOk, OnErr, Ok, Err, Some, true, false, length, slice_get};
-ghost use Rattle.std.specs.Option.{option_copied};
+ghost use Rattle.std.specs.Prelude.{◌≡◌, ◌+◌, ◌*◌, ◌<◌, ◌≤◌, ◌^◌, drop, IsTrue, nat_lt, IfOk, IfErr, OnOk, OnErr, Ok, Err, Some, true, false, length, slice_get};
+ghost use Rattle.std.specs.Option.{option_copied, option_map};
 ghost use Rattle.enet_codec.specs.Message.{view};
+ghost use Rattle.enet_seq.specs.Windows as windows;
 ghost use Rattle.enet_fragment.specs.DataCommand.{data_of};
 ghost use Rattle.enet_unsequenced.specs.Groups.{dispatches};
 ghost use Rattle.enet_receiver.specs.ArrivingData.{data_command};
@@ -11,16 +12,16 @@ ghost use Rattle.enet_inbox.specs.Bounds.{most_places, most_bytes};
 ghost use Rattle.enet_inbox.specs.Invariant.{packets_in};
 ghost use Rattle.enet_inbox.specs.Inbox.{empty_inbox, place_limit, places_of, untaken_of, waiting_of, is_at_limit, is_full, is_full_for, cleared, forgotten, narrowed, given_way};
 ghost use Rattle.enet_inbox.specs.DataEffect.{handled, plain_arrival, arrival, sequenced, unsequenced_taken, passed_over, passed_length, passed_sequenced, is_kept};
-ghost use Rattle.enet_inbox.specs.InboxParts.{foresight_of, unsequenced_verdict, plain_foreseen, foreseen, foreseen_sequenced, with_room, told};
-ghost use Rattle.enet_inbox.specs.Private.InboxParts.{met_by, FindsRoom};
+ghost use Rattle.enet_inbox.specs.InboxParts.{foresight_on, foresight_of, unsequenced_verdict, plain_foreseen, foreseen, foreseen_sequenced, with_room, told};
+ghost use Rattle.enet_inbox.specs.Private.InboxParts.{met_by, new_at, FindsRoom};
 
-use crate::arriving::{Foreseen, acknowledges, finds_no_room, seen};
+use crate::arriving::{Foreseen, acknowledges, answer_in_room, finds_no_room, seen};
 use crate::receivers::{
-    clear_all, give_way, give_way_but, held_in, keep_first, open_all, packets_in, waiting_in,
+    clear_all, give_way, give_way_but, held_in, keep_first, make_up_to, packets_in, waiting_in,
     waiting_packets_in,
 };
 use crate::taking::{append, take_at_once, take_in, take_in_at_once, take_in_instead};
-use enet_codec::{Command, Packet, Refusal, Stop};
+use enet_codec::{Command, Head, Packet, Refusal, Stop};
 use enet_packets::{Bodies, look_at};
 use enet_receiver::{ArrivingData, Foresight, Incoming};
 use enet_unsequenced::Groups;
@@ -35,6 +36,10 @@ pub struct Inbox {
     alloc: Global,
     max_packet: u32,
     max_waiting: u32,
+    /// How many channels there are.
+    channels: u8,
+    /// The receivers of the first channels. Those of the others aren't made before something of theirs is kept, so a peer that isn't known
+    /// yet costs none; to them nothing came.
     receivers: Vec<Incoming>,
     groups: Groups,
     untaken: VecDeque<Packet>,
@@ -55,10 +60,11 @@ impl Model for Inbox {
 
     ghost use Rattle.enet_inbox.specs.Invariant.{Keeps};
     ghost use Rattle.enet_inbox.specs.InboxParts.{inbox_of};
+    ghost use Rattle.enet_inbox.specs.Made.{with_all};
 
-    ghost view = { λ b. inbox_of b.max_packet b.max_waiting b.receivers.items b.groups b.untaken.items };
+    ghost view = { λ b. with_all b.channels (inbox_of b.max_packet b.max_waiting b.receivers.items b.groups b.untaken.items) };
 
-    ghost invariant = { λ b. Keeps (inbox_of b.max_packet b.max_waiting b.receivers.items b.groups b.untaken.items) b.waiting b.packets };
+    ghost invariant = { λ b. Keeps (inbox_of b.max_packet b.max_waiting b.receivers.items b.groups b.untaken.items) b.channels b.waiting b.packets };
 }
 
 /// At how many packets that wait no further one begins: one for each 128 bytes that may wait, and at least 1,024.
@@ -86,7 +92,7 @@ fn places_taken(packets: usize, untaken: usize) -> usize
 impl Inbox {
     /// An inbox of so many channels to which nothing came. It takes packets of at most `max_packet` bytes, and begins none once
     /// `max_waiting` bytes or more wait, or as many packets as a 128th of that, but at least 1,024: as `foresee` says, the next packet
-    /// of each channel may come all the same, and unreliable ones may give way. E1 where memory is refused.
+    /// of each channel may come all the same, and unreliable ones may give way. It takes no memory, so it never answers E1.
     pub fn open(
         alloc: Global,
         channels: u8,
@@ -100,7 +106,8 @@ impl Inbox {
             alloc,
             max_packet,
             max_waiting,
-            receivers: open_all(alloc, channels, max_packet)?,
+            channels,
+            receivers: Vec::new(alloc),
             groups: Groups::new(),
             untaken: VecDeque::new(alloc),
             waiting: 0,
@@ -151,8 +158,8 @@ impl Inbox {
         }
     }
 
-    /// Whether the number of a sequenced data command is in its place on its channel, as `is_in_place` of its receiver says: where it isn't,
-    /// `take_at_once` wouldn't take it.
+    /// Whether the number of a sequenced data command is in its place on its channel, as `is_in_place` of its receiver says: where it
+    /// isn't, or nothing of its channel was kept yet, `take_at_once` wouldn't take it.
     #[inline(always)]
     pub fn is_in_place(&self, arriving: ArrivingData<'_>) -> bool
         ensures { IsTrue result → arriving.entry.head.channel < length self.now.receivers }
@@ -165,17 +172,18 @@ impl Inbox {
 
     /// Takes a sequenced data command in that may be acknowledged, and of which nothing was foreseen, where its packet waits to be taken
     /// at once: that is all that `foresee` and `take_in` would do with it. False, with nothing changed, where there is no such channel,
-    /// so much waits that it may begin no packet, its packet doesn't come alone, as `take_at_once` of its receiver says, or memory is
-    /// refused; then it is to go to them. The contract says what holds where it is true, not when it must be.
+    /// nothing of it was kept yet, so much waits that it may begin no packet, its packet doesn't come alone, as `take_at_once` of its
+    /// receiver says, or memory is refused; then it is to go to them. The contract says what holds where it is true, not when it must be.
     #[inline(always)]
     pub fn take_at_once(&mut self, arriving: ArrivingData<'_>) -> bool
         ensures taken { IsTrue result → sequenced self.old arriving.entry.head.channel (Some (data_command arriving.entry)) ≡ handled self.new true }
         ensures unchanged { result ≡ false → self.new ≡ self.old }
     {
-        if !self.has_room_for(arriving) {
+        let channel = arriving.head.channel as usize;
+        if channel >= self.receivers.len() || self.is_full() {
             return false;
         }
-        let receiver = &mut self.receivers[arriving.head.channel as usize];
+        let receiver = &mut self.receivers[channel];
         let Some(bytes) = take_at_once(receiver, &mut self.untaken, arriving, &mut self.bodies)
         else {
             return false;
@@ -190,7 +198,7 @@ impl Inbox {
         ensures { result ≡ passed_over self.now (view command.now) }
     {
         if let Command::SendUnsequenced { head, payload, .. } = command {
-            if head.channel as usize >= self.receivers.len() {
+            if !self.has_channel(head.channel) {
                 return Err(Stop::BadChannel);
             }
             return self.pass_payload(payload, true);
@@ -220,7 +228,7 @@ impl Inbox {
         ensures count { result ≡ length self.now.receivers }
         ensures few { result ≤ 255 }
     {
-        self.receivers.len()
+        usize::from(self.channels)
     }
 
     /// How many packets take a place: those that are held, wait or are in the making on any channel, and those that weren't taken.
@@ -288,11 +296,12 @@ impl Inbox {
     pub fn narrow(&mut self, channels: u8)
         ensures { self.new ≡ narrowed self.old channels }
     {
-        let channels = channels as usize;
-        if channels < self.receivers.len() {
-            self.waiting -= held_in(&self.receivers[channels..]);
-            self.packets -= packets_in(&self.receivers[channels..]);
-            keep_first(&mut self.receivers, channels);
+        if channels < self.channels {
+            let kept = self.receivers.len().min(usize::from(channels));
+            self.waiting -= held_in(&self.receivers[kept..]);
+            self.packets -= packets_in(&self.receivers[kept..]);
+            keep_first(&mut self.receivers, kept);
+            self.channels = channels;
         }
     }
 
@@ -318,14 +327,45 @@ impl Inbox {
         is_at_limit(self.max_waiting, bytes, self.untaken.len())
     }
 
-    /// Whether the channel of a command is there, and the command may begin a packet at its receiver.
-    #[inline(always)]
-    fn has_room_for(&self, arriving: ArrivingData<'_>) -> bool
-        ensures there { IsTrue result → arriving.entry.head.channel < length self.now.receivers }
-        ensures room { IsTrue result → ((r : ReceivingEnd) → slice_get self.now.receivers arriving.entry.head.channel ≡ Some r → is_full_for self.now r (data_command arriving.entry) ≡ false) }
+    /// Whether there is such a channel.
+    fn has_channel(&self, channel: u8) -> bool
+        ensures { result ≡ nat_lt channel (length self.now.receivers) }
     {
-        let channel = arriving.head.channel as usize;
-        channel < self.receivers.len() && !self.is_full()
+        channel < self.channels
+    }
+
+    /// A receiver like that of a channel of which nothing was kept yet; None where there is no such channel. It takes no memory.
+    fn new_receiver(&self, channel: u8) -> Option<Incoming>
+        ensures { result ≡ new_at self.now channel }
+    {
+        if !self.has_channel(channel) {
+            return None;
+        }
+        let Ok(receiver) = Incoming::open(self.alloc, channel, self.max_packet) else {
+            unreachable!()
+        };
+        Some(receiver)
+    }
+
+    /// Makes the receivers up to that of a channel, where they aren't made yet. False where there is no such channel or memory is refused.
+    /// Nothing that contracts see changes.
+    #[inline(always)]
+    fn make_receivers(&mut self, channel: u8) -> bool
+        ensures { self.new ≡ self.old }
+    {
+        if usize::from(channel) < self.receivers.len() {
+            return true;
+        }
+        if !self.has_channel(channel) {
+            return false;
+        }
+        make_up_to(
+            &mut self.receivers,
+            self.alloc,
+            channel,
+            self.channels,
+            self.max_packet,
+        )
     }
 
     /// Whether so much would wait once the unreliable packets that wait had given way.
@@ -387,11 +427,13 @@ impl Inbox {
         let Some(arriving) = ArrivingData::of(command) else {
             return Ok(true);
         };
-        let receiver = &self.receivers[arriving.head.channel as usize];
-        if receiver.is_next(arriving) {
-            return Err(Stop::Waiting);
+        match self.receivers.get(arriving.head.channel as usize) {
+            Some(receiver) => answer_in_room(receiver, arriving),
+            None => match self.new_receiver(arriving.head.channel) {
+                Some(receiver) => answer_in_room(&receiver, arriving),
+                None => Err(Stop::BadChannel),
+            },
         }
-        Ok(acknowledges(receiver, arriving.head))
     }
 
     /// What the receiver of its channel would do with a sequenced data command.
@@ -401,12 +443,23 @@ impl Inbox {
         let Some(arriving) = ArrivingData::of(command) else {
             return Err(Stop::BadCommand);
         };
-        let channel = arriving.head.channel as usize;
-        if channel >= self.receivers.len() {
-            return Err(Stop::BadChannel);
+        match self.receivers.get(arriving.head.channel as usize) {
+            Some(receiver) => {
+                Ok(receiver.foresee_data(arriving, self.is_full_for(receiver, arriving)))
+            }
+            None => self.foresight_anew(arriving),
         }
-        let receiver = &self.receivers[channel];
-        Ok(receiver.foresee_data(arriving, self.is_full_for(receiver, arriving)))
+    }
+
+    /// The same as if nothing of its channel was kept yet. It stays a function of its own, since few commands come to it.
+    #[inline(never)]
+    fn foresight_anew(&self, arriving: ArrivingData<'_>) -> Result<Foresight, Stop>
+        ensures { result ≡ foresight_on self.now (data_command arriving.entry) (new_at self.now arriving.entry.head.channel) }
+    {
+        let Some(receiver) = self.new_receiver(arriving.head.channel) else {
+            return Err(Stop::BadChannel);
+        };
+        Ok(receiver.foresee_data(arriving, self.is_full_for(&receiver, arriving)))
     }
 
     /// What becomes of a sequenced data command with ample memory.
@@ -457,6 +510,21 @@ impl Inbox {
         ensures taken { IsTrue result → self.new ≡ (sequenced (met_by what.makes_room self.old) arriving.entry.head.channel (Some (data_command arriving.entry))).after }
         ensures unchanged { result ≡ false → self.new ≡ self.old }
     {
+        if !self.make_receivers(arriving.head.channel) {
+            return false;
+        }
+        self.take_in_made(arriving, what)
+    }
+
+    /// Takes such a command in where its channel's receiver is made and memory is not refused.
+    fn take_in_made(&mut self, arriving: ArrivingData<'_>, what: Foreseen) -> bool
+        requires plain { what.makes_room ≡ false → foreseen_sequenced self.old arriving.head.channel (Some (data_command arriving)) ≡ Ok what }
+        requires room { what.makes_room ≡ true → FindsRoom self.old arriving.head.channel (Some (data_command arriving)) }
+        requires not_told { what.makes_room ≡ true → what.dispatches ≡ 0 }
+        requires kept { what.kept ≡ true }
+        ensures taken { IsTrue result → self.new ≡ (sequenced (met_by what.makes_room self.old) arriving.entry.head.channel (Some (data_command arriving.entry))).after }
+        ensures unchanged { result ≡ false → self.new ≡ self.old }
+    {
         if what.dispatches == 1 && self.take_in_at_once(arriving, what) {
             return true;
         }
@@ -467,15 +535,19 @@ impl Inbox {
         }
     }
 
-    /// Takes such a command in where its packet comes alone, and has that wait to be taken. False, with nothing changed, where it
-    /// doesn't come alone or memory is refused.
+    /// Takes such a command in where its packet comes alone, and has that wait to be taken. False, with nothing changed, where its
+    /// channel's receiver isn't made, it doesn't come alone or memory is refused.
     fn take_in_at_once(&mut self, arriving: ArrivingData<'_>, what: Foreseen) -> bool
         requires foreseen { foreseen_sequenced self.old arriving.head.channel (Some (data_command arriving)) ≡ Ok what }
         requires kept { what.kept ≡ true }
         ensures taken { IsTrue result → self.new ≡ (sequenced self.old arriving.entry.head.channel (Some (data_command arriving.entry))).after }
         ensures unchanged { result ≡ false → self.new ≡ self.old }
     {
-        let receiver = &mut self.receivers[arriving.head.channel as usize];
+        let channel = arriving.head.channel as usize;
+        if channel >= self.receivers.len() {
+            return false;
+        }
+        let receiver = &mut self.receivers[channel];
         let Some(bytes) = take_in_at_once(receiver, &mut self.untaken, arriving, &mut self.bodies)
         else {
             return false;
@@ -484,7 +556,8 @@ impl Inbox {
         true
     }
 
-    /// Takes any such command in. It stays a function of its own, so that its callers stay short enough to become part of theirs.
+    /// Takes any such command in. False, with nothing changed, where its channel's receiver isn't made or memory is refused. It stays a
+    /// function of its own, so that its callers stay short enough to become part of theirs.
     #[inline(never)]
     fn take_in_any(&mut self, arriving: ArrivingData<'_>, what: Foreseen) -> bool
         requires foreseen { foreseen_sequenced self.old arriving.head.channel (Some (data_command arriving)) ≡ Ok what }
@@ -493,6 +566,9 @@ impl Inbox {
         ensures unchanged { result ≡ false → self.new ≡ self.old }
     {
         let channel = arriving.head.channel as usize;
+        if channel >= self.receivers.len() {
+            return false;
+        }
         let full = self.is_full_for(&self.receivers[channel], arriving);
         let receiver = &mut self.receivers[channel];
         let before = receiver.held();
@@ -506,16 +582,21 @@ impl Inbox {
         true
     }
 
-    /// Takes such a command in where the unreliable packets that wait make room for it: they are given up, on all channels.
+    /// Takes such a command in where the unreliable packets that wait make room for it: they are given up, on all channels. False, with
+    /// nothing changed, where its channel's receiver isn't made or memory is refused.
     #[inline(never)]
     fn take_in_instead(&mut self, arriving: ArrivingData<'_>) -> bool
         requires { FindsRoom self.old arriving.head.channel (Some (data_command arriving)) }
         ensures taken { IsTrue result → self.new ≡ (sequenced (given_way self.old) arriving.entry.head.channel (Some (data_command arriving.entry))).after }
         ensures unchanged { result ≡ false → self.new ≡ self.old }
     {
+        let channel = arriving.head.channel as usize;
+        if channel >= self.receivers.len() {
+            return false;
+        }
         let others = waiting_in(&self.receivers);
         let other_packets = waiting_packets_in(&self.receivers);
-        let receiver = &mut self.receivers[arriving.head.channel as usize];
+        let receiver = &mut self.receivers[channel];
         let before = receiver.held() - receiver.waiting();
         let packets_before = receiver.packets() - receiver.waiting_packets();
         let Some(bytes) = take_in_instead(receiver, &mut self.untaken, arriving) else {
@@ -533,7 +614,7 @@ impl Inbox {
     fn is_new(&self, channel: u8, group: u16, payload: &[u8]) -> Result<bool, Stop>
         ensures { result ≡ unsequenced_verdict self.now channel group payload.now }
     {
-        if channel as usize >= self.receivers.len() {
+        if !self.has_channel(channel) {
             return Err(Stop::BadChannel);
         }
         if payload.len() > self.max_packet as usize {
@@ -619,12 +700,23 @@ impl Inbox {
         let Some(arriving) = ArrivingData::of(command) else {
             return Err(Stop::BadCommand);
         };
-        let channel = arriving.head.channel as usize;
-        if channel >= self.receivers.len() {
+        let Some(may) = self.may_acknowledge(arriving.head) else {
             return Err(Stop::BadChannel);
-        }
-        let may = acknowledges(&self.receivers[channel], arriving.head);
+        };
         self.pass_payload(arriving.payload, may)
+    }
+
+    /// Whether the window of its channel lets a command be acknowledged; None where there is no such channel.
+    fn may_acknowledge(&self, head: Head) -> Option<bool>
+        ensures { result ≡ option_map (λ (r : ReceivingEnd). windows.acknowledges r.receiver.front head.number) (slice_get self.now.receivers head.channel) }
+    {
+        match self.receivers.get(head.channel as usize) {
+            Some(receiver) => Some(acknowledges(receiver, head)),
+            None if self.has_channel(head.channel) => {
+                Some(enet_seq::acknowledges(0, head.number))
+            }
+            None => None,
+        }
     }
 
     /// Tests the length of a payload that is passed over.

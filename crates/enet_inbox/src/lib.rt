@@ -6,8 +6,9 @@
 //! the unreliable packets that wait give way; want of memory changes nothing), `take_at_once` (the inbox after a sequenced command of
 //! which nothing was foreseen, where it takes that in), `pass_over`, `take`, `next`, `clear`, `forget`, `narrow`,
 //! `open`; the bytes and the packets that wait are kept by counters (`bytes`, `places`, `undispatched`), and have a bound, whatever comes and
-//! whether or not the user takes (specs/Bounds, an invariant of `Inbox`). Law: a data command that stops its datagram changes nothing, nor does
-//! one of which nothing is kept (`a_stop_changes_nothing`).
+//! whether or not the user takes (specs/Bounds, an invariant of `Inbox`). A channel's receiver is made once something of the channel is
+//! kept, with those of the channels before it; to one that isn't made nothing came (specs/Made). Law: a data command that stops its
+//! datagram changes nothing, nor does one of which nothing is kept (`a_stop_changes_nothing`).
 //! Only tested, in `check_numbers` and `check_peer`: that calls succeed with ample memory, and worked rows.
 //! Neither: when `take_at_once` takes a command in. A body that never does would pass.
 #![tactic(auto)]

@@ -1,34 +1,59 @@
 //! A peer's receivers, by channel.
 
-ghost use Rattle.std.specs.Prelude.{◌≡◌, ◌^◌, ◌<◌, map, take, IfOk, IfErr};
-ghost use Rattle.std.specs.List.{range_with_len};
-ghost use Rattle.enet_receiver.specs.Foresight.{new_end};
+ghost use Rattle.std.specs.Prelude.{◌≡◌, ◌+◌, ◌^◌, ◌<◌, ◌≤◌, IsTrue, length, map, take};
+ghost use Rattle.std.specs.Vec.{vec_capacity};
+ghost use Rattle.enet_inbox.specs.Made.{all_receivers};
 ghost use Rattle.enet_inbox.specs.Inbox.{cleared_receiver, given_way_receiver};
 ghost use Rattle.enet_inbox.specs.Invariant.{packets_in};
 ghost use Rattle.enet_inbox.specs.Private.Invariant.{held_in, waiting_in, waiting_packets_in};
 ghost use Rattle.enet_inbox.specs.Private.InboxParts.{given_way_but};
 
-use enet_codec::Refusal;
 use enet_receiver::Incoming;
 use std::alloc::Global;
 
-/// Receivers of so many channels, to which nothing came.
-pub(crate) fn open_all(
+/// Makes room for so many receivers, of so many channels: where there is none, for twice as many as there were. False where memory is
+/// refused.
+fn make_room(receivers: &mut Vec<Incoming>, count: usize, channels: u8) -> bool
+    requires more { length receivers.old.items < count }
+    requires within { count ≤ channels }
+    ensures items { receivers.new.items ≡ receivers.old.items }
+    ensures room { IsTrue result → count ≤ vec_capacity receivers.new }
+{
+    if count <= receivers.capacity() {
+        return true;
+    }
+    let made = receivers.len();
+    let room = count.max(2 * made).min(usize::from(channels));
+    receivers.reserve_exact(room - made).is_ok()
+}
+
+/// Makes the receivers up to that of a channel, of so many channels; nothing came to them. False where memory is refused. It stays a
+/// function of its own, since few commands come to it.
+#[inline(never)]
+pub(crate) fn make_up_to(
+    receivers: &mut Vec<Incoming>,
     alloc: Global,
+    channel: u8,
     channels: u8,
     max_packet: u32,
-) -> Result<Vec<Incoming>, Refusal>
-    ensures ok { IfOk result (λ receivers. receivers.items ≡ map (λ channel. new_end channel max_packet) (range_with_len 0 channels)) }
-    ensures memory { IfErr result (λ why. why ≡ Refusal.Memory) }
+) -> bool
+    requires behind { length receivers.old.items ≤ channel }
+    requires there { channel < channels }
+    ensures made { receivers.new.items ≡ all_receivers max_packet (length receivers.new.items) receivers.old.items }
+    ensures within { length receivers.new.items ≤ channels }
 {
-    let mut receivers = Vec::new(alloc);
-    for channel in 0..channels {
-        let receiver = Incoming::open(alloc, channel, max_packet)?;
-        if receivers.push(receiver).is_err() {
-            return Err(Refusal::Memory);
-        }
+    let made = receivers.len();
+    let count = usize::from(channel) + 1;
+    if !make_room(receivers, count, channels) {
+        return false;
     }
-    Ok(receivers)
+    for next in made..count {
+        let Ok(receiver) = Incoming::open(alloc, next as u8, max_packet) else {
+            unreachable!()
+        };
+        receivers.push_reserved(receiver);
+    }
+    true
 }
 
 /// The bytes that are held or wait at receivers.

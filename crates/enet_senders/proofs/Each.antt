@@ -1,9 +1,8 @@
 -- All channels change, one after another.
 use Rattle.std.proofs.Common.{◌≡◌, ℕ, zero, suc, ◌+◌, ◌<◌, ◌≤◌, Bool, true, ◌&&◌, ◌||◌, List, [], ◌∷◌, ◌++◌, length, map, get_or, set, take, drop, Option, Some, None, Result, Ok, Err, OnOk, OnErr, refl, sym, ap, ap₂, subst, ◌∙◌, arith}
-use Rattle.std.specs.List.{slice_get, range_with_len, list_all, list_any}
+use Rattle.std.specs.List.{slice_get, list_all, list_any}
 use Rattle.std.proofs.lemmas.List.{length-append, length-map, length-take, length-drop, length-set, take_all, drop_all, append-nil, get_or_default, map_push, take-map, take-set-le}
 use Rattle.std.proofs.lemmas.List.Edits.{map_over_more}
-use Rattle.std.proofs.lemmas.List.FromFn.{map-range_with_len_more}
 use Rattle.std.proofs.lemmas.List.Folds.{list_all_more}
 use Rattle.std.proofs.lemmas.List.Sums.{sum_by_push}
 use Rattle.std.proofs.lemmas.List.Elements.{All-push, All-take, All-nil}
@@ -16,7 +15,7 @@ use Rattle.enet_sender.specs.Due.{SendingEnd, new_end}
 use Rattle.enet_sender.specs.Pending.{vacant, times, held}
 use Rattle.enet_sender.specs.Rings.{HasRoom, Rings, Keeps, no_rings, rings_of, keys_of, sender_of, end_of}
 use Rattle.enet_senders.specs.Senders.{ends_of, times_in, KeepsAll}
-use Rattle.enet_senders.proofs.Frames.{Framed, keeps-none}
+use Rattle.enet_senders.proofs.Frames.{Framed, keeps-new}
 use Rattle.enet_senders.proofs.Dropping.{AreBare, sum-front, bare-times}
 
 -- so far the first i have changed
@@ -64,6 +63,7 @@ pub keeps-take : (s : Slab Sent) (n : ℕ) (channels : List Outgoing) → KeepsA
 keeps-take s n channels all bare = record {
   each = All-take (λ (o : Outgoing). Keeps (get s) (rings_of o)) n channels all.each;
   nothing = all.nothing;
+  short = all.short;
   names = λ key low. sum-front (times_in key) n channels (λ j o behind there. bare-times s n channels all bare key j o behind there) ∙ all.names key low;
   room = All-take HasRoom n channels all.room;
 }
@@ -73,16 +73,17 @@ pub keeps-nil : (s : Slab Sent) → s.slots ≡ [] → KeepsAll (get s) []
 keeps-nil s empty = record {
   each = All-nil (λ (o : Outgoing). Keeps (get s) (rings_of o));
   nothing = ap (λ (slots : List (Option Sent)). get_or slots vacant None) empty;
+  short = λ key p e. absurd (let none = ap (λ (slots : List (Option Sent)). get_or slots key None) empty in cc);
   names = λ key low. sym (ap (λ (o : Option Sent). held (λ (k : ℕ). o) key) (ap (λ (slots : List (Option Sent)). get_or slots key None) empty));
   room = All-nil HasRoom;
 }
 
-pub keeps-push : (s : Slab Sent) (os : List Outgoing) (o : Outgoing) → s.slots ≡ [] → rings_of o ≡ no_rings → HasRoom o → KeepsAll (get s) os → KeepsAll (get s) (os ++ o ∷ [])
-keeps-push s os o empty is room all =
-    let none : (k : ℕ) → get s k ≡ None = λ k. ap (λ (slots : List (Option Sent)). get_or slots k None) empty in
-    let kept : Keeps (get s) (rings_of o) = subst (λ (r : Rings). Keeps (get s) r) (sym is) (keeps-none (get s) none) in record {
+pub keeps-push : (s : Slab Sent) (os : List Outgoing) (o : Outgoing) → rings_of o ≡ no_rings → HasRoom o → KeepsAll (get s) os → KeepsAll (get s) (os ++ o ∷ [])
+keeps-push s os o is room all =
+    let kept : Keeps (get s) (rings_of o) = subst (λ (r : Rings). Keeps (get s) r) (sym is) (keeps-new (get s) all.nothing all.short) in record {
       each = All-push (λ (o : Outgoing). Keeps (get s) (rings_of o)) os o all.each kept;
-      nothing = none vacant;
+      nothing = all.nothing;
+      short = all.short;
       names = λ key low.
           let e = ap (λ (r : Rings). times key (keys_of r)) is in
           let h = sum_by_push (times_in key) os o in
@@ -91,11 +92,11 @@ keeps-push s os o empty is room all =
       room = All-push HasRoom os o all.room room;
     }
 
-pub ends-push : (s : Slab Sent) (os : List Outgoing) (o : Outgoing) (n : ℕ) → ends_of s os ≡ map new_end (range_with_len 0 n) → rings_of o ≡ no_rings → o.channel ≡ n
-    → ends_of s (os ++ o ∷ []) ≡ map new_end (range_with_len 0 (n + 1))
-ends-push s os o n so_far is channel =
-    let new : end_of s o ≡ new_end n = λ i. record { channel = channel i; sender = sender_of (get s) (is i) } in
-    map_push (end_of s) os o ∙ ap₂ (λ a b. a ++ b ∷ []) so_far new ∙ sym (map-range_with_len_more new_end 0 n n (omega arith))
+pub end-new : (s : Slab Sent) (o : Outgoing) (n : ℕ) → rings_of o ≡ no_rings → o.channel ≡ n → end_of s o ≡ new_end n
+end-new s o n is channel = λ i. record { channel = channel i; sender = sender_of (get s) (is i) }
+
+pub ends-push : (s : Slab Sent) (os : List Outgoing) (o : Outgoing) (n : ℕ) → rings_of o ≡ no_rings → o.channel ≡ n → ends_of s (os ++ o ∷ []) ≡ ends_of s os ++ new_end n ∷ []
+ends-push s os o n is channel = map_push (end_of s) os o ∙ ap (λ (e : SendingEnd). ends_of s os ++ e ∷ []) (end-new s o n is channel)
 
 -- a list written at one place with what stands there
 pub set-there : {X : Type 0} (xs : List X) (i : ℕ) (x : X) → slice_get xs i ≡ Some x → set xs i x ≡ xs

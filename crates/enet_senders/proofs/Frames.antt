@@ -9,13 +9,13 @@ use Rattle.std.proofs.lemmas.Option.{slice_get_read, slice_get-map}
 use Rattle.slab.specs.Slab.{Slab, get}
 use Rattle.enet_fragment.specs.declared.data.DataCommand.{DataCommand}
 use Rattle.enet_sender.specs.declared.sent.Sent.{Sent}
-use Rattle.enet_sender.specs.Due.{SendingEnd, new_end}
+use Rattle.enet_sender.specs.Due.{SendingEnd}
 use Rattle.enet_sender.specs.Invariant.{reliable_in}
 use Rattle.enet_sender.specs.declared.outgoing.Outgoing.{Outgoing}
 use Rattle.enet_sender.specs.Pending.{vacant, named, times, held, Passes}
-use Rattle.enet_sender.specs.Rings.{HasRoom, Rings, no_rings, sender_of, rings_of, Keeps, GoesOn, at_place, is_due, keys_of, commands_at, command_of, end_of}
+use Rattle.enet_sender.specs.Rings.{HasRoom, Rings, no_rings, rings_of, Keeps, GoesOn, at_place, is_due, keys_of, commands_at, command_of, end_of}
 use Rattle.enet_senders.specs.Senders.{ends_of, times_in, KeepsAll}
-use Rattle.std.proofs.lemmas.List.Elements.{All-set, All-get_or, All-nil, All-cons}
+use Rattle.std.proofs.lemmas.List.Elements.{All-set, All-get_or, All-nil}
 use Rattle.enet_sender.proofs.Named.{times-append, times-some, held-some, some-held, named-same}
 
 -- two terms of a sum
@@ -103,7 +103,7 @@ pub record Framed (s t : Slab Sent) (channels : List Outgoing) (i : ℕ) (new : 
 pub framed : (s t : Slab Sent) (channels : List Outgoing) (i : ℕ) (old new : Outgoing) → i < length channels → get_or channels i old ≡ old → KeepsAll (get s) channels
     → Keeps (get t) (rings_of new) → Passes (get s) (get t) (keys_of (rings_of old)) (keys_of (rings_of new)) → HasRoom new → Framed s t channels i new
 framed s t channels i old new inside is all kept passes room = record {
-  keeps = record { each = each; nothing = passes.nothing; names = names; room = All-set HasRoom channels i new room all.room };
+  keeps = record { each = each; nothing = passes.nothing; short = kept.short; names = names; room = All-set HasRoom channels i new room all.room };
   ends = map-set (end_of t) channels i new ∙ maps-agree (end_of t) (end_of s) channels i (end_of t new) old same;
 }
   where
@@ -197,16 +197,16 @@ pub room-there : (at : ℕ → Option Sent) (channels : List Outgoing) (i : ℕ)
 room-there at channels i old all inside is = subst HasRoom is (All-get_or HasRoom channels i old inside all.room)
 
 -- one channel to which nothing was submitted
-pub keeps-none : (at : ℕ → Option Sent) → ((k : ℕ) → at k ≡ None) → Keeps at no_rings
-keeps-none at none = record {
-  nothing = none vacant;
-  short = λ key p e. absurd (let f = none key in cc);
+pub keeps-new : (at : ℕ → Option Sent) → at vacant ≡ None → ((key : ℕ) (p : Sent) → at key ≡ Some p → length p.command.body ≤ 4068) → Keeps at no_rings
+keeps-new at nothing short = record {
+  nothing = nothing;
+  short = short;
   names = λ key low. omega arith;
   keys = All-nil (λ (key : ℕ). key < vacant);
   sent = record {
     few = omega arith;
-    numbered = λ place p e. absurd (let f = none vacant in cc);
-    not_due = λ place from low. ap is_due (none vacant);
+    numbered = λ place p e. absurd (cc);
+    not_due = λ place from low. ap is_due nothing;
     fits = All-nil (λ (key : ℕ). key ≤ vacant);
   };
   first = λ key e. absurd (cc);
@@ -215,16 +215,3 @@ keeps-none at none = record {
   counted = refl;
   waits = All-nil (λ (p : Sent). p.transmission.due ≡ true);
 }
-
-pub keeps-one : (s : Slab Sent) (o : Outgoing) → s.slots ≡ [] → rings_of o ≡ no_rings → HasRoom o → KeepsAll (get s) (o ∷ [])
-keeps-one s o empty is room =
-    let none : (k : ℕ) → get s k ≡ None = λ k. ap (λ (slots : List (Option Sent)). get_or slots k None) empty in
-    let kept : Keeps (get s) (rings_of o) = subst (λ (r : Rings). Keeps (get s) r) (sym is) (keeps-none (get s) none) in record {
-      each = All-cons (λ (o : Outgoing). Keeps (get s) (rings_of o)) o [] kept (All-nil (λ (o : Outgoing). Keeps (get s) (rings_of o)));
-      nothing = none vacant;
-      names = λ key low. let e = ap (λ (r : Rings). times key (keys_of r)) is in let h = sum_by-cons (times_in key) o [] in let n = ap (λ (p : Option Sent). held (λ (k : ℕ). p) key) (none key) in omega arith;
-      room = All-cons HasRoom o [] room (All-nil HasRoom);
-    }
-
-pub ends-one : (s : Slab Sent) (o : Outgoing) → rings_of o ≡ no_rings → o.channel ≡ 0 → ends_of s (o ∷ []) ≡ new_end 0 ∷ []
-ends-one s o is channel = λ i. (record { channel = channel i; sender = sender_of (get s) (is i) }) ∷ []

@@ -184,6 +184,7 @@ pub all-marked : (tick : Tick) (s t : Slab Sent) (channels : List Outgoing) → 
 all-marked tick s t channels changed all = record {
   each = All-map (λ (o : Outgoing). Keeps (get t) (rings_of o)) seeking channels (λ j d inside. keeps-marked tick (get s) (get t) (rings_of (get_or channels j d)) changed (all.each j d inside));
   nothing = changed vacant ∙ ap (option_map (marked tick)) all.nothing;
+  short = λ key q e. let p = had tick (get s) (get t) changed key q e in subst (λ (c : DataCommand). length c.body ≤ 4068) (sym p.2) (all.short key p.0 p.1);
   names = λ key low. times-seeking key channels ∙ all.names key low ∙ sym (held-same tick (get s) (get t) changed key);
   room = All-map HasRoom seeking channels all.room;
 }

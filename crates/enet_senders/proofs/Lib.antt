@@ -6,3 +6,4 @@ pub mod Nexts
 pub mod Lateness
 pub mod Sets
 pub mod Sums
+pub mod Made

@@ -2,5 +2,6 @@ pub mod Senders
 pub mod Controlling
 pub mod Counting
 pub mod Invariant
+pub mod Made
 pub mod Sets
 pub mod Private

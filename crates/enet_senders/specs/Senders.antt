@@ -1,5 +1,5 @@
 -- The channels of a peer: each key of theirs stands in one ring once, and there is no command that none of them names.
-use Rattle.std.specs.Prelude.{◌≡◌, ℕ, ◌<◌, false, List, [], map, All, sum_by, Option, None}
+use Rattle.std.specs.Prelude.{◌≡◌, ℕ, ◌<◌, ◌≤◌, false, List, [], length, map, All, sum_by, Option, Some, None}
 use Rattle.slab.specs.Slab.{Slab, get}
 use Rattle.enet_rtt.specs.declared.transmission.Tick.{Tick}
 use Rattle.enet_sender.specs.declared.lateness.Late.{Late}
@@ -42,10 +42,11 @@ pub record IsStill (s : Sender) : Type 0 where
 abbrev pub times_in : ℕ → Outgoing → ℕ
 times_in key o = times key (keys_of (rings_of o))
 
--- Each channel is kept, and a command stands under a key just where one of their rings has it, once.
+-- Each channel is kept, and a command stands under a key just where one of their rings has it, once. Bodies are short.
 pub record KeepsAll (at : ℕ → Option Sent) (channels : List Outgoing) : Type 0 where
   pub each : All (λ (o : Outgoing). Keeps at (rings_of o)) channels
   pub nothing : at vacant ≡ None
+  pub short : (key : ℕ) (p : Sent) → at key ≡ Some p → length p.command.body ≤ 4068
   pub names : (key : ℕ) → key < vacant → sum_by (times_in key) channels ≡ held at key
   pub room : All HasRoom channels
 

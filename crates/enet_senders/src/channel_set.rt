@@ -1,6 +1,6 @@
 //! A set of channels.
 
-ghost use Rattle.std.specs.Prelude.{◌≡◌, ◌≢◌, ℕ, ◌<◌, ◌≤◌};
+ghost use Rattle.std.specs.Prelude.{◌≡◌, ◌≢◌, ℕ, ◌<◌, ◌≤◌, IfSome, IfNone};
 ghost use Rattle.std.specs.Int.{bit_at};
 ghost use Rattle.enet_senders.specs.Sets.{Lacks};
 
@@ -54,8 +54,7 @@ impl ChannelSet {
         let mut next = from;
         'words: while next < WORDS * WORD {
             let begin = next - next % WORD;
-            let bit = first_bit(self.words[next / WORD], next % WORD);
-            if bit < WORD {
+            if let Some(bit) = first_bit(self.words[next / WORD], next % WORD) {
                 return begin + bit;
             }
             next = begin + WORD;
@@ -64,16 +63,17 @@ impl ChannelSet {
     }
 }
 
-/// The place of the first bit of a word that is set, from `from` on; 64 where there is none.
-fn first_bit(word: u64, from: usize) -> usize
+/// The place of the first bit of a word that is set, from `from` on.
+fn first_bit(word: u64, from: usize) -> Option<usize>
     requires { from < 64 }
-    ensures later { from ≤ result }
-    ensures within { result ≤ 64 }
-    ensures clear { (i : ℕ) → from ≤ i → i < result → bit_at word i ≡ 0 }
+    ensures later { IfSome result (λ bit. from ≤ bit) }
+    ensures within { IfSome result (λ bit. bit < 64) }
+    ensures clear { IfSome result (λ bit. (i : ℕ) → from ≤ i → i < bit → bit_at word i ≡ 0) }
+    ensures none { IfNone result ((i : ℕ) → from ≤ i → i < 64 → bit_at word i ≡ 0) }
 {
     let rest = word >> from;
     if rest == 0 {
-        return WORD;
+        return None;
     }
-    WORD.min(from + rest.trailing_zeros() as usize)
+    Some(from + rest.trailing_zeros() as usize)
 }

@@ -1,20 +1,22 @@
-//! The channels of a peer over its commands.
+//! The channels of a peer whose senders are made, over its commands.
 
-ghost use Rattle.std.specs.Prelude.{◌≡◌, ◌≢◌, ℕ, ◌^◌, true, false, ◌⊎◌, ◌↔◌, ◌<◌, ◌≤◌, IsTrue, OnOk, OnErr, IfOk, IfErr, IfSome, IsErrAnd, Some, [], not, length, map, take, slice_get, slice_set, All};
-ghost use Rattle.std.specs.List.{range_with_len, list_all, list_any};
+ghost use Rattle.std.specs.Prelude.{◌≡◌, ◌≢◌, ℕ, ◌+◌, ◌^◌, true, false, ◌⊎◌, ◌↔◌, ◌<◌, ◌≤◌, IsTrue, OnOk, OnErr, IfOk, IfErr, IfSome, IsErrAnd, Some, [], not, length, map, take, slice_get, slice_set, All};
+ghost use Rattle.std.specs.Vec.{vec_capacity};
+ghost use Rattle.std.specs.List.{list_all, list_any};
 ghost use Rattle.enet_rtt.specs.Clock.{HappensIn};
 ghost use Rattle.enet_seq.specs.Numbering.{wire};
 ghost use Rattle.enet_fragment.specs.Cutting.{piece_count};
 ghost use Rattle.enet_sender.specs.CommandChoice.{fragment_limit};
 ghost use Rattle.enet_sender.specs.Sender.{after_match, acknowledged, awaits_room, next, wants_room, with_skipped, ends, is_late, left};
-ghost use Rattle.enet_sender.specs.Due.{SendingEnd, Did, with_submitted, new_end};
+ghost use Rattle.enet_sender.specs.Due.{SendingEnd, Did, with_submitted};
 ghost use Rattle.enet_sender.specs.Waiting.{Waits};
 ghost use Rattle.enet_sender.specs.declared.outgoing.Outgoing.{Outgoing};
 ghost use Rattle.enet_sender.specs.declared.sent.Sent.{Sent};
-ghost use Rattle.enet_sender.specs.Rings.{end_in, IsEmpty};
+ghost use Rattle.enet_sender.specs.Rings.{end_in};
 ghost use Rattle.enet_sender.specs.Counting.{added};
 ghost use Rattle.enet_senders.specs.Counting.{count_over};
 ghost use Rattle.enet_senders.specs.Senders.{ends_in, IsLateOver, IsStill, KeepsAllIn, marked_end, cleared_end};
+ghost use Rattle.enet_senders.specs.Made.{all_ends};
 ghost use Rattle.enet_senders.specs.Sets.{Lacks};
 ghost use Rattle.enet_senders.specs.Private.Seeking.{Seek};
 
@@ -26,9 +28,9 @@ use enet_sender::{Acknowledged, Due, Late, Occasion, Outgoing, Pending};
 use std::alloc::Global;
 use std::marker::Model;
 
-/// The senders of a peer's channels, with all their commands. Contracts see the list of their ends, by channel.
+/// The senders of a peer's first channels, with all its commands. Contracts see the list of their ends, by channel.
 #[derive(Drop)]
-pub struct Senders {
+pub(crate) struct MadeSenders {
     channels: Vec<Outgoing>,
     pending: Pending,
     /// A channel that is not in it has nothing queued, and nothing that is due to go again.
@@ -37,7 +39,7 @@ pub struct Senders {
     flying: ChannelSet,
 }
 
-impl Model for Senders {
+impl Model for MadeSenders {
     ghost use Rattle.std.specs.Prelude.{List};
     ghost use Rattle.enet_sender.specs.Due.{SendingEnd};
 
@@ -289,50 +291,92 @@ fn note_still(channels: &[Outgoing], pending: &Pending, ready: &mut ChannelSet, 
     }
 }
 
-/// So many channels to which nothing was submitted, no command being kept.
-fn open_channels(alloc: Global, channels: u8, _pending: &Pending) -> Result<Vec<Outgoing>, Refusal>
-    requires { IsEmpty _pending.now }
-    ensures ends { IfOk result (λ opened. ends_in _pending.now opened.items ≡ map new_end (range_with_len 0 channels)) }
-    ensures kept { IfOk result (λ opened. KeepsAllIn _pending.now opened.items) }
-    ensures memory { IfErr result (λ why. why ≡ Refusal.Memory) }
+/// Makes room for so many channels, of so many in all: where there is none, for twice as many as there were. False where memory is refused.
+fn make_room(channels: &mut Vec<Outgoing>, count: usize, all: usize) -> bool
+    requires more { length channels.old.items < count }
+    requires within { count ≤ all }
+    ensures items { channels.new.items ≡ channels.old.items }
+    ensures room { IsTrue result → count ≤ vec_capacity channels.new }
 {
-    let Ok(mut opened) = Vec::with_capacity(alloc, usize::from(channels)) else {
-        return Err(Refusal::Memory);
-    };
-    for channel in 0..channels {
-        opened.push_reserved(Outgoing::open(alloc, channel)?);
+    if count <= channels.capacity() {
+        return true;
     }
-    Ok(opened)
+    let made = channels.len();
+    let room = count.max(2 * made).min(all);
+    channels.reserve_exact(room - made).is_ok()
 }
 
-impl Senders {
-    /// So many channels to which nothing was submitted. E1 where memory is refused.
-    pub fn open(alloc: Global, channels: u8) -> Result<Senders, Refusal>
-        ensures senders { IfOk result (λ s. s ≡ map new_end (range_with_len 0 channels)) }
+/// Makes the channels up to one, of so many in all; nothing was submitted to them. False where memory is refused. It stays a function of its
+/// own, since few packets come to it.
+#[inline(never)]
+fn make_up_to(
+    channels: &mut Vec<Outgoing>,
+    alloc: Global,
+    _pending: &Pending,
+    channel: u8,
+    all: usize,
+) -> bool
+    requires kept { KeepsAllIn _pending.now channels.old.items }
+    requires behind { length channels.old.items ≤ channel }
+    requires there { channel < all }
+    ensures ends { ends_in _pending.now channels.new.items ≡ all_ends (length channels.new.items) (ends_in _pending.now channels.old.items) }
+    ensures kept { KeepsAllIn _pending.now channels.new.items }
+    ensures within { length channels.new.items ≤ all }
+    ensures done { IsTrue result → channel < length channels.new.items }
+{
+    let made = channels.len();
+    let count = usize::from(channel) + 1;
+    if !make_room(channels, count, all) {
+        return false;
+    }
+    for next in made..count {
+        let Ok(sender) = Outgoing::open(alloc, next as u8) else {
+            unreachable!()
+        };
+        channels.push_reserved(sender);
+    }
+    true
+}
+
+impl MadeSenders {
+    /// No channel. It takes no memory, so it never answers E1.
+    pub(crate) fn open(alloc: Global) -> Result<MadeSenders, Refusal>
+        ensures senders { IfOk result (λ s. s ≡ []) }
         ensures memory { IfErr result (λ why. why ≡ Refusal.Memory) }
     {
-        let pending = Pending::open(alloc)?;
-        let channels = open_channels(alloc, channels, &pending)?;
-        Ok(Senders {
-            channels,
-            pending,
+        Ok(MadeSenders {
+            channels: Vec::new(alloc),
+            pending: Pending::open(alloc)?,
             ready: ChannelSet::none(),
             flying: ChannelSet::none(),
         })
     }
 
-    /// How many channels there are.
-    pub fn len(&self) -> usize
+    /// Makes the channels up to one, of so many in all, where they aren't made yet; nothing was submitted to them. False where memory is
+    /// refused; some may be made then.
+    #[inline(always)]
+    pub(crate) fn make_up_to(&mut self, alloc: Global, channel: u8, all: usize) -> bool
+        requires within { length self.old ≤ all }
+        requires there { channel < all }
+        ensures made { self.new ≡ all_ends (length self.new) self.old }
+        ensures within { length self.new ≤ all }
+        ensures done { IsTrue result → channel < length self.new }
+    {
+        if usize::from(channel) < self.channels.len() {
+            return true;
+        }
+        make_up_to(&mut self.channels, alloc, &self.pending, channel, all)
+    }
+
+    /// How many channels are made.
+    pub(crate) fn len(&self) -> usize
         ensures { result ≡ length self.now }
     {
         self.channels.len()
     }
 
-    /// Queues the commands of a packet on a channel, numbered, as `Outgoing::submit` does; `mtu` is the peer's, in bytes.
-    ///
-    /// E5 exactly where it would be cut into more than 16,384 pieces (our profile), then E1 where memory is refused. After
-    /// either nothing has changed, and the body is still there.
-    pub fn submit(
+    /// `Senders::submit`, of the channels that are made.
+    pub(crate) fn submit(
         &mut self,
         channel: u8,
         flags: u8,
@@ -353,9 +397,14 @@ impl Senders {
         Ok(())
     }
 
-    /// Writes the next command of a channel at `at`, where one may go, and keeps it as sent if it is reliable, as
-    /// `Outgoing::next_due` does. `NoRoom`, `Full` and `Nothing` change nothing, and the buffer stays. It takes no memory.
-    pub fn next_due(&mut self, channel: u8, occasion: Occasion, buf: &mut [u8], at: usize) -> Due
+    /// `Senders::next_due`, of the channels that are made.
+    pub(crate) fn next_due(
+        &mut self,
+        channel: u8,
+        occasion: Occasion,
+        buf: &mut [u8],
+        at: usize,
+    ) -> Due
         requires { channel < length self.old }
         ensures { (s : SendingEnd) → slice_get self.old channel ≡ Some s
             → (t : SendingEnd) × ((self.new ≡ slice_set self.old channel t) × Did (next wire occasion s.sender) (wants_room occasion s.sender) result s t
@@ -380,44 +429,45 @@ impl Senders {
         due
     }
 
-    /// Whether a channel surely has to wait: nothing that is sent there is due to go again, the head of its queue may not go yet, and no room
-    /// is to be kept for it. Where it answers true, `next_due` answers `Nothing`; it may also answer false where nothing may go.
-    pub fn has_to_wait(&self, channel: u8, occasion: Occasion) -> bool
+    /// `Senders::has_to_wait`, of the channels that are made.
+    pub(crate) fn has_to_wait(&self, channel: u8, occasion: Occasion) -> bool
         requires { channel < length self.now }
         ensures { (s : SendingEnd) → slice_get self.now channel ≡ Some s → IsTrue result → Waits occasion s.sender }
     {
         has_to_wait_on(&self.channels, &self.pending, channel, occasion)
     }
 
-    /// Whether room may be kept for a channel: something that is sent there is due to go again; or nothing is sent, and its queue begins with
-    /// a reliable command.
-    pub fn awaits_room(&self, channel: u8) -> bool
+    /// `Senders::awaits_room`, of the channels that are made.
+    pub(crate) fn awaits_room(&self, channel: u8) -> bool
         requires { channel < length self.now }
         ensures { (s : SendingEnd) → slice_get self.now channel ≡ Some s → result ≡ awaits_room s.sender }
     {
         awaits_room_on(&self.channels, &self.pending, channel)
     }
 
-    /// The first channel from `from` on of which something may go. Those that are passed over have nothing queued, and nothing
-    /// that is due to go again; where there is no other, it is past the last one.
-    pub fn next_ready(&self, from: usize) -> usize
+    /// `Senders::next_ready`, of the channels that are made.
+    pub(crate) fn next_ready(&self, from: usize) -> usize
         ensures later { from ≤ result }
         ensures still { (i : ℕ) (e : SendingEnd) → from ≤ i → i < result → slice_get self.now i ≡ Some e → IsStill e.sender }
     {
         self.ready.next(from)
     }
 
-    /// Drops the rest of the unreliable packet of a channel whose first command was written last. The numbers stay used.
-    pub fn skip(&mut self, channel: u8)
+    /// `Senders::skip`, of the channels that are made.
+    pub(crate) fn skip(&mut self, channel: u8)
         requires { channel < length self.old }
         ensures { (s : SendingEnd) → slice_get self.old channel ≡ Some s → self.new ≡ slice_set self.old channel (record s { sender = with_skipped s.sender }) }
     {
         skip_on(&mut self.channels, &mut self.pending, channel);
     }
 
-    /// Takes out the one sent command of a channel with this number, where it was sent at this time, in milliseconds modulo 65,536, and
-    /// tells of it. None, with nothing changed, where no sent command has the number, or that one wasn't sent at the time (our profile).
-    pub fn acknowledge(&mut self, channel: u8, number: u16, time: u16) -> Option<Acknowledged>
+    /// `Senders::acknowledge`, of the channels that are made.
+    pub(crate) fn acknowledge(
+        &mut self,
+        channel: u8,
+        number: u16,
+        time: u16,
+    ) -> Option<Acknowledged>
         requires { channel < length self.old }
         ensures told { (s : SendingEnd) → slice_get self.old channel ≡ Some s → result ≡ acknowledged s.sender number time }
         ensures ends { (s : SendingEnd) → slice_get self.old channel ≡ Some s → self.new ≡ slice_set self.old channel (record s { sender = after_match s.sender number result }) }
@@ -427,31 +477,23 @@ impl Senders {
         told
     }
 
-    /// Whether at the moment `now`, in milliseconds, a sent command of a channel has waited out its timeout, and its peer,
-    /// heard last at `heard`, has timed out over it by `patience`.
-    pub fn any_ends(&self, now: u32, patience: &Patience, heard: u32) -> bool
+    /// `Senders::any_ends`, of the channels that are made.
+    pub(crate) fn any_ends(&self, now: u32, patience: &Patience, heard: u32) -> bool
         ensures { result ≡ list_any (λ (s : SendingEnd). list_any (ends now patience.now heard) s.sender.sent) self.now }
     {
         self.pending.any_ends(now, patience, heard)
     }
 
-    /// Whether at the moment `now`, in milliseconds, a sent command of a channel has waited out its timeout, and is not due
-    /// to go again already.
-    ///
-    /// It looks only at commands whose timeout has passed.
-    pub fn any_late(&mut self, now: u32) -> bool
+    /// `Senders::any_late`, of the channels that are made.
+    pub(crate) fn any_late(&mut self, now: u32) -> bool
         ensures found { result ≡ list_any (λ (s : SendingEnd). list_any (is_late now) s.sender.sent) self.old }
         ensures same { self.new ≡ self.old }
     {
         self.pending.any_late(now)
     }
 
-    /// In how many milliseconds after the moment `now` a sent command of a channel has waited out its timeout first, of those
-    /// that are not due to go again already: 0 where one has, and 4,294,967,295 where none waits.
-    ///
-    /// It looks at one command at most, unless one went 2^32 milliseconds ago. Then it looks at all that is sent, until it is asked again what
-    /// is late (`any_late`, and `mark` where something is), as each tick does.
-    pub fn next_late(&self, now: u32) -> u32
+    /// `Senders::next_late`, of the channels that are made.
+    pub(crate) fn next_late(&self, now: u32) -> u32
         ensures { HappensIn (λ (later : ℕ). list_any (λ (s : SendingEnd). list_any (is_late later) s.sender.sent) self.now) now result }
     {
         match self.pending.first_late(now) {
@@ -460,17 +502,15 @@ impl Senders {
         }
     }
 
-    /// So many, and those of all channels' commands that are sent, not acknowledged, and were sent more than once; it stops at 2^64 - 1. It
-    /// looks at all that is sent.
-    pub fn count_sent_again(&self, so_far: u64) -> u64
+    /// `Senders::count_sent_again`, of the channels that are made.
+    pub(crate) fn count_sent_again(&self, so_far: u64) -> u64
         ensures { result ≡ added so_far (count_over self.now) }
     {
         count_each(&self.channels, &self.pending, so_far)
     }
 
-    /// All that is late at the moment `tick` is due to go again, and has its next timeout (`Transmission::mark`); tells what it is
-    /// together. It looks only at commands whose timeout has passed.
-    pub fn mark(&mut self, tick: Tick) -> Late
+    /// `Senders::mark`, of the channels that are made.
+    pub(crate) fn mark(&mut self, tick: Tick) -> Late
         ensures marked { self.new ≡ map (marked_end tick) self.old }
         ensures late { IsLateOver tick self.old result }
     {
@@ -479,15 +519,15 @@ impl Senders {
         late
     }
 
-    /// Whether no channel has a packet queued.
-    pub fn have_no_packet(&self) -> bool
+    /// `Senders::have_no_packet`, of the channels that are made.
+    pub(crate) fn have_no_packet(&self) -> bool
         ensures { result ≡ list_all (λ (s : SendingEnd). not (left s.sender).packets) self.now }
     {
         have_no_packet(&self.channels, &self.pending, &self.ready)
     }
 
-    /// Whether no channel has a reliable command queued or unacknowledged.
-    pub fn have_no_reliable(&self) -> bool
+    /// `Senders::have_no_reliable`, of the channels that are made.
+    pub(crate) fn have_no_reliable(&self) -> bool
         ensures { result ≡ list_all (λ (s : SendingEnd). not (left s.sender).reliable) self.now }
     {
         let mut busy = self.ready;
@@ -495,8 +535,8 @@ impl Senders {
         have_no_reliable(&self.channels, &self.pending, &busy)
     }
 
-    /// Drops all that is queued or sent. The numbers go on from where they stand.
-    pub fn clear(&mut self)
+    /// `Senders::clear`, of the channels that are made.
+    pub(crate) fn clear(&mut self)
         ensures { self.new ≡ map cleared_end self.old }
     {
         clear_each(&mut self.channels, &mut self.pending);
@@ -504,8 +544,8 @@ impl Senders {
         self.flying = ChannelSet::none();
     }
 
-    /// Keeps so many channels, the first ones. The commands of the others are dropped.
-    pub fn narrow(&mut self, count: usize)
+    /// `Senders::narrow`, of the channels that are made.
+    pub(crate) fn narrow(&mut self, count: usize)
         ensures { self.new ≡ take count self.old }
     {
         keep_first(&mut self.channels, &mut self.pending, count);

@@ -1,9 +1,10 @@
 -- An inbox of its parts, and the parts of what it answers.
-use Rattle.std.specs.Prelude.{◌≡◌, ℕ, Bool, true, ◌==◌, if◌then◌else◌, is_ok, Option, Result, Ok, Err}
+use Rattle.std.specs.Prelude.{◌≡◌, ℕ, Bool, true, ◌==◌, nat_lt, if◌then◌else◌, is_ok, Option, Some, None, Result, Ok, Err, length}
 use Rattle.enet_codec.specs.declared.stop.Stop.{Stop}
 use Rattle.enet_codec.specs.declared.stop.Stop.TheVariants as stop
+use Rattle.enet_seq.specs.Windows.{acknowledges}
 use Rattle.enet_fragment.specs.declared.data.DataCommand.{DataCommand}
-use Rattle.enet_receiver.specs.Foresight.{ReceivingEnd}
+use Rattle.enet_receiver.specs.Foresight.{ReceivingEnd, new_end}
 use Rattle.enet_inbox.specs.Inbox.{Inbox, given_way, given_way_receiver}
 use Rattle.enet_inbox.specs.DataEffect.{sequenced}
 use Rattle.enet_receiver.specs.declared.took.Took.{Took}
@@ -22,6 +23,10 @@ answer_by took.Memory may = Err stop.Memory
 abbrev pub answer_of : Foresight → Result Bool Stop
 answer_of f = answer_by f.took f.acknowledged
 
+-- the answer to a command that is taken in where it finds room, where this says whether it finds none
+abbrev pub answer_where : Bool → ReceivingEnd → DataCommand → Result Bool Stop
+answer_where full r c = if full then Err stop.Waiting else Ok (acknowledges r.receiver.front c.number)
+
 -- what waits is given up on all channels but one
 abbrev pub given_way_but : ℕ → ReceivingEnd → ReceivingEnd
 given_way_but own r = if r.channel == own then r else given_way_receiver r
@@ -34,3 +39,7 @@ met_by makes_room b = if makes_room then given_way b else b
 pub record FindsRoom (b : Inbox) (channel : ℕ) (o : Option DataCommand) : Type 0 where
   pub none_yet : (sequenced b channel o).answer ≡ Err stop.Waiting
   pub then_room : is_ok (sequenced (given_way b) channel o).answer ≡ true
+
+-- the receiver of a channel of which nothing was kept yet; none where there is no such channel
+abbrev pub new_at : Inbox → ℕ → Option ReceivingEnd
+new_at b channel = if nat_lt channel (length b.receivers) then Some (new_end channel b.max_packet) else None

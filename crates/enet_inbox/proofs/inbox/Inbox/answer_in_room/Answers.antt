@@ -1,13 +1,12 @@
-use Rattle.std.proofs.Common.{◌≡◌, true, false, Ok, sym, ap, ◌∙◌, arith}
+use Rattle.std.proofs.Common.{◌≡◌, true, false, Option, Some, None, sym, ap, ◌∙◌}
 use Rattle.std.specs.Prelude.{slice_get}
+use Rattle.enet_codec.specs.declared.command.Head.{Head}
 use Rattle.enet_codec.specs.Message.{view}
 use Rattle.enet_receiver.specs.ArrivingData.{data_command}
-use Rattle.enet_receiver.specs.DataOutcome.{is_next}
-use Rattle.enet_inbox.specs.Inbox.{Inbox, is_full, given_way, given_way_receiver}
-use Rattle.enet_inbox.specs.contracts.inbox.Inbox.{the_view}
-use Rattle.enet_inbox.proofs.Keeping.{in_place}
-use Rattle.enet_inbox.proofs.Rooms.{IsAt, answer_by, full_answer, answer_at, full_for_next, room_for, channel_in, found_in}
-use Rattle.enet_inbox.proofs.inbox.Inbox.answer_in_room.Goals.{After-index-receiver}
+use Rattle.enet_receiver.specs.Foresight.{ReceivingEnd}
+use Rattle.enet_inbox.specs.Inbox.{is_full, given_way}
+use Rattle.enet_inbox.proofs.Rooms.{full_answer, found_at, told_in_room}
+use Rattle.enet_inbox.proofs.Made.{made_of, there_made, there_new}
 use Rattle.enet_inbox.proofs.inbox.Inbox.answer_in_room.Goals as goal
 
 pub returns-then-is_full_without_waiting : goal.returns-then-is_full_without_waiting
@@ -15,41 +14,34 @@ returns-then-is_full_without_waiting c =
     let full : is_full (given_way c.args.self.now) ≡ true = sym c.is_full_without_waiting.ensures ∙ c.if-is_full_without_waiting.true in
     sym (full_answer c.args.self.now (view c.args.command.now) c.requires full)
 
-pub index-receiver-requires : goal.index-receiver-requires
-index-receiver-requires c =
-    let low = channel_in c.args.self.now (the_view c.self.inside) (view c.args.command.now) c.in-Some.arriving.head (data_command c.in-Some.arriving) c.self.view_is c.in-Some.ensures.head c.requires c.in-Some.ensures.data in
-    omega (arith, c.self.inside.receivers.ok.0)
+pub returns-in-Some-get : goal.returns-in-Some-get
+returns-in-Some-get c =
+    let i = c.self.inside in
+    let h = c.in-Some.arriving.head in
+    let r = c.in-Some-get.receiver.now in
+    let look = c.in-Some-get.ensures.lookup in
+    let room : is_full (given_way c.args.self.now) ≡ false = sym c.is_full_without_waiting.ensures ∙ c.if-is_full_without_waiting.false in
+    let there = there_made i.channels (made_of i) c.args.self.now c.deref.result.now h.channel r c.self.view_is c.deref.ensures.value look.3.0 look.1 in
+    c.answer_in_room.ensures ∙ told_in_room c.args.self.now (view c.args.command.now) h (data_command c.in-Some.arriving) r c.in-Some.ensures.head c.requires c.in-Some.ensures.data there room
 
-at : (c : After-index-receiver) → IsAt c.args.self.now (view c.args.command.now).head.channel (data_command c.in-Some.arriving) c.index-receiver.result.now
-at c =
-    found_in c.args.self.now (the_view c.self.inside) (view c.args.command.now) c.in-Some.arriving.head (data_command c.in-Some.arriving) c.index-receiver.result.now
-    c.self.view_is c.in-Some.ensures.head c.requires c.in-Some.ensures.data c.index-receiver.ensures
+pub returns-in-Some-new_receiver : goal.returns-in-Some-new_receiver
+returns-in-Some-new_receiver c =
+    let i = c.self.inside in
+    let h = c.in-Some.arriving.head in
+    let r = c.in-Some-new_receiver.receiver in
+    let room : is_full (given_way c.args.self.now) ≡ false = sym c.is_full_without_waiting.ensures ∙ c.if-is_full_without_waiting.false in
+    let there = there_new i.channels (made_of i) c.args.self.now c.deref.result.now h.channel c.self.view_is c.deref.ensures.value c.self.invariant.within c.in-None.ensures.lookup.3
+    ∙ sym c.new_receiver.ensures ∙ c.in-Some-new_receiver.is in
+    c.answer_in_room-in-Some-new_receiver.ensures
+    ∙ told_in_room c.args.self.now (view c.args.command.now) h (data_command c.in-Some.arriving) r c.in-Some.ensures.head c.requires c.in-Some.ensures.data there room
 
-pub returns-then-is_next : goal.returns-then-is_next
-returns-then-is_next c =
-    let d = data_command c.in-Some.arriving in
-    let r = c.index-receiver.result.now in
+pub returns-in-None-new_receiver : goal.returns-in-None-new_receiver
+returns-in-None-new_receiver c =
+    let i = c.self.inside in
+    let h = c.in-Some.arriving.head in
     let b = c.args.self.now in
-    let m = view c.args.command.now in
-    let here = at (goal.at.returns-then-is_next c).After-index-receiver in
-    let next : is_next r.receiver d ≡ true = sym c.is_next.ensures ∙ c.if-is_next.true in
-    sym (answer_at b m d r (sym c.in-Some.ensures.data) here ∙ ap (λ t. answer_by t (given_way_receiver r) d) (full_for_next b m.head.channel d r here next))
-
-pub acknowledges-requires : goal.acknowledges-requires
-acknowledges-requires c =
-    let b = c.args.self.now in
-    let here = at (goal.at.acknowledges-requires c).After-index-receiver in
-    let there = ap (λ (x : Inbox). slice_get x.receivers (view c.args.command.now).head.channel) c.self.view_is ∙ here.there in
-    (in_place (the_view c.self.inside) c.self.inside.waiting (view c.args.command.now).head.channel c.index-receiver.result.now c.self.invariant.inbox there).front
-
-pub returns : goal.returns
-returns c =
-    let d = data_command c.in-Some.arriving in
-    let r = c.index-receiver.result.now in
-    let b = c.args.self.now in
-    let m = view c.args.command.now in
-    let here = at (goal.at.returns c).After-index-receiver in
-    let next : is_next r.receiver d ≡ false = sym c.is_next.ensures ∙ c.if-is_next.false in
-    let full : is_full (given_way b) ≡ false = sym c.is_full_without_waiting.ensures ∙ c.if-is_full_without_waiting.false in
-    ap Ok c.acknowledges.ensures
-    ∙ sym (answer_at b m d r (sym c.in-Some.ensures.data) here ∙ ap (λ t. answer_by t (given_way_receiver r) d) (room_for b d r next full))
+    let found = found_at b (view c.args.command.now) (data_command c.in-Some.arriving) c.requires (sym c.in-Some.ensures.data) in
+    let none : slice_get b.receivers h.channel ≡ None = there_new i.channels (made_of i) b c.deref.result.now h.channel c.self.view_is c.deref.ensures.value c.self.invariant.within c.in-None.ensures.lookup.3
+    ∙ sym c.new_receiver.ensures ∙ c.in-None-new_receiver.is in
+    let some : ◌≡◌ {A = Option ReceivingEnd} None (Some found.0) = sym none ∙ ap (λ (x : Head). slice_get b.receivers x.channel) c.in-Some.ensures.head ∙ found.1.there in
+    absurd (cc)

@@ -1,21 +1,24 @@
 use Rattle.std.proofs.Common.{◌≡◌, ◌+◌, ◌-◌, ◌<◌, ◌≤◌, ◌^◌, length, List, sym, ap, subst, ◌∙◌, arith}
+use Rattle.std.proofs.lemmas.List.{length-map}
 use Rattle.enet_codec.specs.declared.packet.Packet.{Packet}
 use Rattle.enet_receiver.specs.Foresight.{ReceivingEnd}
 use Rattle.enet_inbox.specs.Bounds.{IsBounded}
-use Rattle.enet_inbox.specs.Inbox.{Inbox, is_full, given_way}
+use Rattle.enet_inbox.specs.Inbox.{Inbox, is_full, given_way, given_way_receiver}
 use Rattle.enet_inbox.specs.Invariant.{KeepsInbox, KeepsPackets}
+use Rattle.enet_inbox.specs.DataEffect.{unsequenced_taken}
 use Rattle.enet_inbox.specs.InboxParts.{inbox_of}
+use Rattle.enet_inbox.specs.Made.{with_all}
 use Rattle.enet_inbox.specs.Private.Invariant.{waiting_in, waiting_packets_in}
-use Rattle.enet_inbox.specs.contracts.inbox.Inbox.{the_view}
 use Rattle.enet_inbox.proofs.Keeping.{keeps_pushed, push_fits}
 use Rattle.enet_inbox.proofs.GivingWay.{keeps_given_way, waiting_counted}
 use Rattle.enet_inbox.proofs.Counting.{counts_given_way, waiting_packets_counted}
 use Rattle.enet_inbox.proofs.Limits.{bounded_given_way, bounded_unsequenced}
+use Rattle.enet_inbox.proofs.Made.{made_of, all_full, all_given_way}
 use Rattle.enet_inbox.proofs.inbox.Inbox.append_instead.Goals as goal
 
 pub waiting_in-waiting-requires : goal.waiting_in-waiting-requires
 waiting_in-waiting-requires c =
-    let most = waiting_counted (the_view c.self.inside) c.self.inside.waiting c.self.invariant.inbox in
+    let most = waiting_counted (made_of c.self.inside) c.self.inside.waiting c.self.invariant.inbox in
     let same : waiting_in c.deref.result.now ≡ waiting_in c.self.inside.receivers.items = ap (λ (rs : List ReceivingEnd). waiting_in rs) c.deref.ensures.value in
     let fits : c.self.inside.waiting < 2 ^ 128 = omega arith in
     omega arith
@@ -29,7 +32,7 @@ waiting_packets_in-packets-requires c =
 
 pub overflow_sub-self : goal.overflow_sub-self
 overflow_sub-self c =
-    let most = waiting_counted (the_view c.self.inside) c.self.inside.waiting c.self.invariant.inbox in
+    let most = waiting_counted (made_of c.self.inside) c.self.inside.waiting c.self.invariant.inbox in
     let same : c.waiting_in-waiting.result ≡ waiting_in c.self.inside.receivers.items = c.waiting_in-waiting.ensures ∙ ap (λ (rs : List ReceivingEnd). waiting_in rs) c.deref.ensures.value in
     omega arith
 
@@ -38,7 +41,7 @@ overflow_add-self c =
     let i = c.self.inside in
     let few : length i.untaken.items < 2 ^ 63 = omega (arith, i.untaken.ok.0, i.untaken.small.0, i.untaken.small.1) in
     let short : length c.args.payload.now < 2 ^ 63 = omega arith in
-    let fits = push_fits (the_view c.self.inside) c.self.inside.waiting (length c.args.payload.now) c.self.invariant.inbox few short in
+    let fits = push_fits (made_of c.self.inside) c.self.inside.waiting (length c.args.payload.now) c.self.invariant.inbox few short in
     omega arith
 
 pub overflow_sub-self-2 : goal.overflow_sub-self-2
@@ -68,5 +71,13 @@ invariant_of-self-2 c =
           (subst (λ (rs : List ReceivingEnd). KeepsPackets rs (i.packets - waiting_packets_in i.receivers.items)) (sym c.give_way.ensures) (counts_given_way i.receivers.items i.packets c.self.invariant.places));
       bounded =
           subst (λ (x : Inbox). IsBounded x) (sym now)
-          (bounded_unsequenced (given_way b) c.mark.new.self q c.append.new.untaken.items (bounded_given_way b c.self.invariant.bounded) (ap (λ (x : Inbox). is_full (given_way x)) c.self.view_is ∙ c.requires.room) (subst (λ (x : Inbox). length c.args.payload.now ≤ x.max_packet) (sym c.self.view_is) c.requires.short) added);
+          (bounded_unsequenced (given_way b) c.mark.new.self q c.append.new.untaken.items (bounded_given_way b c.self.invariant.bounded) (sym (all_full i.channels (given_way b)) ∙ ap (λ (x : Inbox). is_full x) (sym (all_given_way i.channels b)) ∙ ap (λ (x : Inbox). is_full (given_way x)) c.self.view_is ∙ c.requires.room) (subst (λ (x : Inbox). length c.args.payload.now ≤ x.max_packet) (sym c.self.view_is) c.requires.short) added);
+      within = subst (λ n. n ≤ i.channels) (sym (ap (λ (rs : List ReceivingEnd). length rs) c.give_way.ensures ∙ length-map i.receivers.items given_way_receiver)) c.self.invariant.within;
     }
+
+pub returns-clause-added : goal.returns-clause-added
+returns-clause-added c = λ _.
+    let i = c.self.inside in
+    let added = c.append.ensures.added c.if-not-append.false in
+    (λ j. with_all i.channels (inbox_of i.max_packet i.max_waiting (c.give_way.ensures j) (c.mark.ensures j) (added j)))
+    ∙ ap (λ (x : Inbox). unsequenced_taken x c.args.channel c.args.group c.args.payload.now) (sym (all_given_way i.channels (made_of i)) ∙ ap (λ (x : Inbox). given_way x) c.self.view_is)

@@ -3,6 +3,7 @@ use Rattle.enet_inbox.specs.Inbox.{Inbox, is_full}
 use Rattle.enet_inbox.specs.InboxParts.{inbox_of}
 use Rattle.enet_inbox.proofs.Keeping.{keeps_pushed, push_fits}
 use Rattle.enet_inbox.proofs.Limits.{bounded_unsequenced}
+use Rattle.enet_inbox.proofs.Made.{all_full}
 use Rattle.enet_inbox.proofs.inbox.Inbox.append_plainly.Goals as goal
 
 pub overflow_add-self : goal.overflow_add-self
@@ -22,5 +23,6 @@ invariant_of-self-2 c =
     record {
       inbox = keeps_pushed b i.waiting c.mark.new.self (record { channel = c.args.channel; flags = 2; body = c.args.payload.now }) c.append.new.untaken.items c.self.invariant.inbox short (c.append.ensures.added c.if-not-append.false);
       places = c.self.invariant.places;
-      bounded = bounded_unsequenced b c.mark.new.self (record { channel = c.args.channel; flags = 2; body = c.args.payload.now }) c.append.new.untaken.items c.self.invariant.bounded (ap (λ (x : Inbox). is_full x) c.self.view_is ∙ c.requires.room) (subst (λ (x : Inbox). length c.args.payload.now ≤ x.max_packet) (sym c.self.view_is) c.requires.short) (c.append.ensures.added c.if-not-append.false);
+      bounded = bounded_unsequenced b c.mark.new.self (record { channel = c.args.channel; flags = 2; body = c.args.payload.now }) c.append.new.untaken.items c.self.invariant.bounded (sym (all_full i.channels b) ∙ ap (λ (x : Inbox). is_full x) c.self.view_is ∙ c.requires.room) (subst (λ (x : Inbox). length c.args.payload.now ≤ x.max_packet) (sym c.self.view_is) c.requires.short) (c.append.ensures.added c.if-not-append.false);
+      within = c.self.invariant.within;
     }

@@ -4,13 +4,15 @@ use Rattle.enet_inbox.specs.Inbox.{Inbox}
 use Rattle.enet_inbox.specs.DataEffect.{is_waiting}
 use Rattle.enet_inbox.specs.Private.Invariant.{HasFront}
 use Rattle.enet_inbox.specs.InboxParts.{foreseen, plain_foreseen, told}
-use Rattle.enet_inbox.proofs.Keeping.{has_front}
+use Rattle.enet_inbox.proofs.Made.{made_of, all_front}
 use Rattle.enet_inbox.proofs.Foresights.{told_is, if_kept, foreseen_plainly, foreseen_in_room, stopped_plainly}
 use Rattle.enet_inbox.proofs.inbox.Inbox.foresee.Goals.{After-finds_no_room}
 use Rattle.enet_inbox.proofs.inbox.Inbox.foresee.Goals as goal
 
 front : (c : After-finds_no_room) → HasFront c.args.self.now (view c.args.command.now).head.channel
-front c = subst (λ (x : Inbox). HasFront x (view c.args.command.now).head.channel) c.self.view_is (has_front _ c.self.inside.waiting (view c.args.command.now).head.channel c.self.invariant.inbox)
+front c =
+    let i = c.self.inside in
+    subst (λ (x : Inbox). HasFront x (view c.args.command.now).head.channel) c.self.view_is (all_front i.channels (made_of i) i.waiting (view c.args.command.now).head.channel c.self.invariant.inbox c.self.invariant.within)
 
 finds : (c : After-finds_no_room) (b : Bool) → c.finds_no_room.result ≡ b → is_waiting (told (plain_foreseen c.args.self.now (view c.args.command.now))) ≡ b
 finds c b e = ap (λ r. is_waiting (told r)) (sym c.foresee_plainly-foreseen.ensures) ∙ sym c.finds_no_room.ensures ∙ e

@@ -15,4 +15,5 @@ invariant_of-self-2 c =
           (keeps_popped b i.waiting c.in_ok-packet.packet c.pop_front.new.self.items c.self.invariant.inbox c.in_ok-packet.ensures.items);
       places = c.self.invariant.places;
       bounded = bounded_popped b c.in_ok-packet.packet c.pop_front.new.self.items c.self.invariant.bounded c.in_ok-packet.ensures.items;
+      within = c.self.invariant.within;
     }
