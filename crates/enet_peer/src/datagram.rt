@@ -12,6 +12,7 @@ ghost use Rattle.enet_codec.specs.Message.{Message, view};
 ghost use Rattle.enet_codec.specs.Datagram.{SpellsAll};
 ghost use Rattle.enet_peer.specs.Peering.{Peering};
 ghost use Rattle.enet_peer.specs.Handling.{Arrival, SoFar, Handles, HandlesEach, Hears, IsHeardAlike, counted};
+ghost use Rattle.enet_peer.specs.Refusing.{turned_away};
 ghost use Rattle.enet_peer.specs.Private.Handling.{Advances, AdvancesPlainly, ConfirmsBy, GoesOnPlainly, NoneConfirms, is_passed};
 
 use crate::Peer;
@@ -117,24 +118,25 @@ fn next(
     ensures { Advances (record { now = now; sent = sent; full = full }) bytes.now peer.old.peer peer.new.peer result }
 {
     if full {
-        return next_at_full(peer, now, sent, bytes);
+        if let Some(len) = refuse(peer, bytes) {
+            return Ok(len);
+        }
     }
     next_plainly(peer, now, sent, bytes)
 }
 
-/// The same at a host that is full, and refuses a client that confirms its answer.
+/// At a host that is full, a client that confirms its answer by the command at the front is refused: how many bytes that has. None, with
+/// nothing changed, if it doesn't confirm by it.
 #[inline(never)]
-fn next_at_full(peer: &mut Peer, now: u32, sent: Option<u16>, bytes: &[u8]) -> Result<usize, Stop>
-    requires some { 1 ≤ length bytes.now }
-    ensures { Advances (record { now = now; sent = sent; full = true }) bytes.now peer.old.peer peer.new.peer result }
+fn refuse(peer: &mut Peer, bytes: &[u8]) -> Option<usize>
+    ensures confirmed { IfSome result (ConfirmsBy bytes.now peer.old.peer) }
+    ensures refused { IfSome result (λ len. peer.new.peer ≡ turned_away peer.old.peer) }
+    ensures none { IfNone result (NoneConfirms bytes.now peer.old.peer) }
+    ensures same { IfNone result (peer.new.peer ≡ peer.old.peer) }
 {
-    match confirmation(peer, bytes) {
-        Some(len) => {
-            peer.turn_away();
-            Ok(len)
-        }
-        None => next_plainly(peer, now, sent, bytes),
-    }
+    let len = confirmation(peer, bytes)?;
+    peer.turn_away();
+    Some(len)
 }
 
 /// How many bytes the command at the front has, if the peer's client confirms its answer by it.
