@@ -52,7 +52,8 @@ pub struct Config {
     /// confirm a connection in another's name. With none all begin at 0, as in ENet: whoever knows the clock knows the sent times.
     pub secret: Option<Secret>,
     /// Whether a CONNECT that finds no free slot takes that of the peer which has been waiting longest for its client to confirm an answer:
-    /// that peer is let go, with no event (our profile).
+    /// that peer is let go, with no event (our profile). Each such CONNECT uses up a generation of a slot, so this wants 4,294,967,295
+    /// `generations`: a flood spends the standard 1,000,000 within hours.
     pub gives_way: bool,
     /// How many peers that began by a CONNECT may be connected or leaving at once: 1 to `peers`; with none said as many as there are slots.
     /// A client that confirms where as many are there is told that the host is full, and let go, with no event (our profile).
@@ -62,7 +63,8 @@ pub struct Config {
 /// What the user of a host sets of whom it lets in (`Config::gives_way`, `Config::most`).
 #[derive(Clone, Copy, Debug, PartialEq, Eq)]
 pub enum Admission {
-    /// From now on the peer which has been waiting longest for its client gives way where no slot is free.
+    /// From now on the peer which has been waiting longest for its client gives way where no slot is free. See `Config::gives_way` for the
+    /// generations that this wants.
     GiveWay,
     /// So many peers that began by a CONNECT may be connected or leaving at once: 1 to the number of slots.
     Most {
