@@ -25,7 +25,7 @@ use Rattle.enet_host.specs.Opening.{host_basis, Opens, Connects, opened}
 use Rattle.enet_host.specs.Receiving.{Receives}
 use Rattle.enet_host.specs.Serving.{Serves}
 use Rattle.enet_c.specs.Numbers.{answered_by}
-use Rattle.enet_c.specs.Shapes.{name_shown, received_shown, no_datagram, datagram_shown, event_shown, reading_named}
+use Rattle.enet_c.specs.Shapes.{name_shown, received_shown, no_datagram, datagram_shown, event_shown, reading_named, allowance_named}
 use Rattle.enet_c.specs.declared.held.Held.{Held}
 use Rattle.enet_c.specs.declared.shapes.CoreDatagram.{CoreDatagram}
 use Rattle.enet_c.specs.declared.shapes.CoreEvent.{CoreEvent}
@@ -83,12 +83,15 @@ abbrev pub Reads : Crossing → Type 0
 Reads c = (c.number ≡ 0) × (c.after ≡ c.before)
 
 -- what is read of a peer, or 2 where there is none of this name
-abbrev pub IsReading : Option CoreReading → CoreReading → CoreReading → ℕ → Type 0
+abbrev pub IsReading : {A : Type 0} → Option A → A → A → ℕ → Type 0
 IsReading None old new number = (number ≡ 2) × (new ≡ old)
 IsReading (Some found) old new number = (number ≡ 0) × (new ≡ found)
 
 abbrev pub ReadsPeer : PeerRef → CoreReading → CoreReading → Crossing → Type 0
 ReadsPeer name old new c = IsReading (reading_named c.before.host.slots name) old new c.number × (c.after ≡ c.before)
+
+abbrev pub ReadsAllowance : PeerRef → ℕ → ℕ → Crossing → Type 0
+ReadsAllowance name old new c = IsReading (allowance_named c.before.host.slots name) old new c.number × (c.after ≡ c.before)
 
 -- a body is staged, or memory is refused
 abbrev pub Stages : List ℕ → Crossing → Type 0

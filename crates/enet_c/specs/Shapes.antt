@@ -14,17 +14,22 @@ use Rattle.enet_peer.specs.declared.parts.PeerState.{PeerState}
 use Rattle.enet_peer.specs.declared.parts.PeerState.TheVariants as state
 use Rattle.enet_peer.specs.Peering.{Peering}
 use Rattle.enet_outbox.specs.Outbox.{transit_of}
+use Rattle.enet_slot.specs.declared.counting.SlotCounts.{SlotCounts}
 use Rattle.enet_slot.specs.Slot.{SlotState}
 use Rattle.enet_host.specs.declared.totals.Totals.{Totals}
-use Rattle.enet_host.specs.Host.{slot_named}
+use Rattle.enet_host.specs.Held.{held_by, most_held}
+use Rattle.enet_host.specs.Host.{Host, named, slot_named}
+use Rattle.enet_host.specs.Memory.{memory_with}
 use Rattle.enet_c.specs.declared.shapes.CoreAddress.{CoreAddress}
 use Rattle.enet_c.specs.declared.shapes.CoreConfig.{CoreConfig}
 use Rattle.enet_c.specs.declared.shapes.CoreDatagram.{CoreDatagram}
 use Rattle.enet_c.specs.declared.shapes.CoreEvent.{CoreEvent}
+use Rattle.enet_c.specs.declared.shapes.CoreHeld.{CoreHeld}
 use Rattle.enet_c.specs.declared.shapes.CorePeer.{CorePeer}
 use Rattle.enet_c.specs.declared.shapes.CoreReading.{CoreReading}
 use Rattle.enet_c.specs.declared.shapes.CoreReceived.{CoreReceived}
 use Rattle.enet_c.specs.declared.shapes.CoreSecret.{CoreSecret}
+use Rattle.enet_c.specs.declared.shapes.CoreSlots.{CoreSlots}
 use Rattle.enet_c.specs.declared.shapes.CoreTotals.{CoreTotals}
 
 abbrev pub config_shown : Config → CoreConfig
@@ -139,3 +144,32 @@ reading_in s = option_map (reading_of s) s.peer
 
 abbrev pub reading_named : List SlotState → PeerRef → Option CoreReading
 reading_named slots name = option_and_then reading_in (slot_named slots name)
+
+abbrev pub allowance_of : Peering → ℕ
+allowance_of p = p.outbox.allowance.bytes
+
+abbrev pub allowance_named : List SlotState → PeerRef → Option ℕ
+allowance_named slots name = option_map allowance_of (named slots name)
+
+-- how much a host holds of what others sent, and the memory that this takes with its slots, now and at most
+abbrev pub held_shown : Host → CoreHeld
+held_shown h = record {
+  channels = (held_by h.slots).channels;
+  senders = (held_by h.slots).senders;
+  packets = (held_by h.slots).packets;
+  undispatched = (held_by h.slots).undispatched;
+  bytes = (held_by h.slots).bytes;
+  acknowledgements = (held_by h.slots).acknowledgements;
+  memory = memory_with (length h.slots) (held_by h.slots);
+  most_memory = memory_with h.config.peers (most_held h.config);
+}
+
+abbrev pub slots_meant : CoreSlots → SlotCounts
+slots_meant s = record {
+  free = s.free;
+  spent = s.spent;
+  connecting = s.connecting;
+  answering = s.answering;
+  connected = s.connected;
+  leaving = s.leaving;
+}

@@ -11,8 +11,8 @@
 //! `service` is `PutsOut` (`Serves`) and leaves the rest of the buffer alone, `next_event` is `Tells` (`Takes`) and keeps the body of the
 //! packet that it told, which `body` copies (`Copies`); `submit` answers 1 only where nothing else is refused, and `throttle_configure`
 //! only where the host may want memory to tell the peer (`wants_room_in`); `broadcast` is the host's `submit_each` with one packet
-//! (`Broadcasts`); `peer` and `totals_of` show what the host holds, and `due_in`
-//! when time brings it something (`IsDueIn`); `open` is `Begins` (`Opens`), and `close` leaves the handle closed. A name that `error_name`
+//! (`Broadcasts`); `peer`, `allowance` and `totals_of` show what the host holds, `slots` and `sent_again` what it counts, `held` how much
+//! that is of what others sent (within what its settings allow), and `due_in` when time brings it something (`IsDueIn`); `open` is `Begins` (`Opens`), and `close` leaves the handle closed. A name that `error_name`
 //! or `stop_name` gives is that of the refusal or stop with this number.
 //! `compress` and `decompress` are the range coder's (`code_of`, `body_of`), and know no handle.
 //! Only tested, by `c/tests`: that C's structures lie as these do, and that calls succeed with ample memory. Neither: what C
@@ -38,7 +38,10 @@ pub use names::{gofnjerta_core_error_name, gofnjerta_core_stop_name};
 pub use opening::{gofnjerta_core_close, gofnjerta_core_open, gofnjerta_core_standard};
 pub use own::{Handle, Own};
 pub use packing::{gofnjerta_core_compress, gofnjerta_core_decompress};
-pub use readings::{gofnjerta_core_due_in, gofnjerta_core_peer, gofnjerta_core_totals_of};
+pub use readings::{
+    gofnjerta_core_allowance, gofnjerta_core_due_in, gofnjerta_core_held, gofnjerta_core_peer,
+    gofnjerta_core_sent_again, gofnjerta_core_slots, gofnjerta_core_totals_of,
+};
 pub use settings::{
     gofnjerta_core_disconnect, gofnjerta_core_disconnect_later, gofnjerta_core_disconnect_now,
     gofnjerta_core_give_way, gofnjerta_core_set_bandwidth, gofnjerta_core_set_most,
@@ -46,8 +49,8 @@ pub use settings::{
     gofnjerta_core_throttle_configure,
 };
 pub use shapes::{
-    CoreAddress, CoreConfig, CoreDatagram, CoreEvent, CorePeer, CoreReading, CoreReceived,
-    CoreSecret, CoreTotals,
+    CoreAddress, CoreConfig, CoreDatagram, CoreEvent, CoreHeld, CorePeer, CoreReading,
+    CoreReceived, CoreSecret, CoreSlots, CoreTotals,
 };
 pub use telling::{gofnjerta_core_body, gofnjerta_core_next_event};
 pub use traffic::{

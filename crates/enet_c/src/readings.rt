@@ -1,13 +1,15 @@
 //! What can be read of a host and its peers.
 
-ghost use Rattle.std.specs.Prelude.{◌≡◌, IfNone, IfSome};
+ghost use Rattle.std.specs.Prelude.{◌≡◌, ◌≤◌, IfNone, IfSome};
+ghost use Rattle.enet_sender.specs.Counting.{added};
+ghost use Rattle.enet_slot.specs.Counting.{Counts, count_sent_again};
 ghost use Rattle.enet_host.specs.Ticking.{IsDueIn};
-ghost use Rattle.enet_c.specs.Border.{Crosses, Reads, ReadsPeer};
-ghost use Rattle.enet_c.specs.Shapes.{name_meant, totals_shown};
+ghost use Rattle.enet_c.specs.Border.{Crosses, Reads, ReadsAllowance, ReadsPeer};
+ghost use Rattle.enet_c.specs.Shapes.{name_meant, totals_shown, held_shown, slots_meant};
 
 use crate::numbers::{CLOSED, OK, number_of};
 use crate::own::Handle;
-use crate::shapes::{CorePeer, CoreReading, CoreTotals};
+use crate::shapes::{CoreHeld, CorePeer, CoreReading, CoreSlots, CoreTotals};
 use enet_host::Refusal;
 use std::alloc::Global;
 
@@ -30,6 +32,31 @@ pub extern "C" fn gofnjerta_core_peer(
     match found {
         Some(found) => {
             *reading = found;
+            OK
+        }
+        None => number_of(Refusal::NoSuchPeer),
+    }
+}
+
+/// Reads a peer's allowance, in bytes. E2 where there is none of this name; then nothing is written.
+#[unsafe(no_mangle)]
+pub extern "C" fn gofnjerta_core_allowance(
+    alloc: Global,
+    handle: &mut Handle,
+    peer: &CorePeer,
+    bytes: &mut u32,
+) -> u32
+    ensures reads { Crosses (ReadsAllowance (name_meant peer.now) bytes.old bytes.new) handle.old.own.value result handle.new.own.value }
+    ensures closed { IfNone handle.old.own.value (bytes.new ≡ bytes.old) }
+{
+    let Some(held) = handle.take(alloc) else {
+        return CLOSED;
+    };
+    let found = held.host.allowance(peer.into_name());
+    handle.put(held);
+    match found {
+        Some(found) => {
+            *bytes = found;
             OK
         }
         None => number_of(Refusal::NoSuchPeer),
@@ -74,5 +101,66 @@ pub extern "C" fn gofnjerta_core_due_in(alloc: Global, handle: &mut Handle, ms: 
     let due = held.host.due_in();
     handle.put(held);
     *ms = due;
+    OK
+}
+
+/// How much the host holds of what others sent, and the memory that this takes.
+#[unsafe(no_mangle)]
+pub extern "C" fn gofnjerta_core_held(
+    alloc: Global,
+    handle: &mut Handle,
+    told: &mut CoreHeld,
+) -> u32
+    ensures reads { Crosses Reads handle.old.own.value result handle.new.own.value }
+    ensures held { IfSome handle.old.own.value (λ held. told.new ≡ held_shown held.host) }
+    ensures bound { IfSome handle.old.own.value (λ held. told.new.memory ≤ told.new.most_memory) }
+    ensures closed { IfNone handle.old.own.value (told.new ≡ told.old) }
+{
+    let Some(held) = handle.take(alloc) else {
+        return CLOSED;
+    };
+    let found = CoreHeld::of(&held.host);
+    handle.put(held);
+    *told = found;
+    OK
+}
+
+/// How many of the host's slots are free, and how far the connections of the others have come.
+#[unsafe(no_mangle)]
+pub extern "C" fn gofnjerta_core_slots(
+    alloc: Global,
+    handle: &mut Handle,
+    slots: &mut CoreSlots,
+) -> u32
+    ensures reads { Crosses Reads handle.old.own.value result handle.new.own.value }
+    ensures counts { IfSome handle.old.own.value (λ held. Counts held.host.config.generations held.host.slots (slots_meant slots.new)) }
+    ensures closed { IfNone handle.old.own.value (slots.new ≡ slots.old) }
+{
+    let Some(held) = handle.take(alloc) else {
+        return CLOSED;
+    };
+    let found = held.host.slot_counts();
+    handle.put(held);
+    *slots = CoreSlots::of(found);
+    OK
+}
+
+/// How many commands of all peers are sent, not acknowledged, and were sent more than once. All that is sent is looked at.
+#[unsafe(no_mangle)]
+pub extern "C" fn gofnjerta_core_sent_again(
+    alloc: Global,
+    handle: &mut Handle,
+    count: &mut u64,
+) -> u32
+    ensures reads { Crosses Reads handle.old.own.value result handle.new.own.value }
+    ensures count { IfSome handle.old.own.value (λ held. count.new ≡ added 0 (count_sent_again held.host.slots)) }
+    ensures closed { IfNone handle.old.own.value (count.new ≡ count.old) }
+{
+    let Some(held) = handle.take(alloc) else {
+        return CLOSED;
+    };
+    let found = held.host.sent_again();
+    handle.put(held);
+    *count = found;
     OK
 }

@@ -1,9 +1,9 @@
 //! What goes over the border by value or into the caller's memory.
 
 ghost use Rattle.std.specs.Prelude.{◌≡◌, ◌≤◌, IfSome};
-ghost use Rattle.enet_c.specs.Shapes.{config_shown, config_meant, secret_meant, address_shown, address_meant, name_shown, name_meant, no_datagram, datagram_shown, no_event, event_shown, received_shown, state_number};
+ghost use Rattle.enet_c.specs.Shapes.{config_shown, config_meant, secret_meant, address_shown, address_meant, name_shown, name_meant, no_datagram, datagram_shown, no_event, event_shown, received_shown, state_number, held_shown, slots_meant};
 
-use enet_host::{Addr, Config, Event, PeerRef, PeerState, Received, Secret};
+use enet_host::{Addr, Config, Event, HostCore, PeerRef, PeerState, Received, Secret, SlotCounts};
 use std::mem::size_of;
 
 const _: () = prove!(size_of::<CoreConfig>() == 32);
@@ -23,6 +23,10 @@ const _: () = prove!(size_of::<CoreEvent>() == 32);
 const _: () = prove!(size_of::<CoreReading>() == 60);
 
 const _: () = prove!(size_of::<CoreTotals>() == 32);
+
+const _: () = prove!(size_of::<CoreHeld>() == 64);
+
+const _: () = prove!(size_of::<CoreSlots>() == 12);
 
 /// The settings of a host: those of `enet_codec::Config` but its secret.
 #[repr(C)]
@@ -134,6 +138,34 @@ pub struct CoreTotals {
     pub bytes_in: u64,
     pub datagrams_out: u64,
     pub bytes_out: u64,
+}
+
+/// How much a host holds of what others sent, and the memory that this takes with its slots.
+#[repr(C)]
+#[derive(Clone, Copy)]
+pub struct CoreHeld {
+    pub channels: u64,
+    pub senders: u64,
+    pub packets: u64,
+    pub undispatched: u64,
+    pub bytes: u64,
+    pub acknowledgements: u64,
+    /// In bytes, each thing as one of its kind.
+    pub memory: u64,
+    /// The most that this ever is, by the host's settings.
+    pub most_memory: u64,
+}
+
+/// How many slots are free, with a generation left or none, and how far the connections of the others have come.
+#[repr(C)]
+#[derive(Clone, Copy)]
+pub struct CoreSlots {
+    pub free: u16,
+    pub spent: u16,
+    pub connecting: u16,
+    pub answering: u16,
+    pub connected: u16,
+    pub leaving: u16,
 }
 
 impl CoreConfig {
@@ -310,6 +342,41 @@ impl CoreEvent {
             Some(Event::Refused { .. }) | None => {}
         }
         event
+    }
+}
+
+impl CoreHeld {
+    /// What a host holds. Each slot is looked at, twice.
+    pub(crate) fn of(host: &HostCore) -> CoreHeld
+        ensures shown { result ≡ held_shown host.now }
+        ensures bound { result.memory ≤ result.most_memory }
+    {
+        let held = host.held();
+        CoreHeld {
+            channels: held.channels,
+            senders: held.senders,
+            packets: held.packets,
+            undispatched: held.undispatched,
+            bytes: held.bytes,
+            acknowledgements: held.acknowledgements,
+            memory: host.memory_held(),
+            most_memory: host.most_memory_held(),
+        }
+    }
+}
+
+impl CoreSlots {
+    pub(crate) fn of(counts: SlotCounts) -> CoreSlots
+        ensures { slots_meant result ≡ counts }
+    {
+        CoreSlots {
+            free: counts.free,
+            spent: counts.spent,
+            connecting: counts.connecting,
+            answering: counts.answering,
+            connected: counts.connected,
+            leaving: counts.leaving,
+        }
     }
 }
 
