@@ -33,7 +33,11 @@ uint32_t gofnjerta_core_throttle_configure(gofnjerta_host *host, const gofnjerta
 uint32_t gofnjerta_core_set_ping_interval(gofnjerta_host *host, const gofnjerta_peer *peer, uint32_t ms);
 uint32_t gofnjerta_core_set_timeout(gofnjerta_host *host, const gofnjerta_peer *peer, uint32_t limit, uint32_t minimum, uint32_t maximum);
 uint32_t gofnjerta_core_peer(gofnjerta_host *host, const gofnjerta_peer *peer, gofnjerta_reading *reading);
+uint32_t gofnjerta_core_allowance(gofnjerta_host *host, const gofnjerta_peer *peer, uint32_t *bytes);
 uint32_t gofnjerta_core_totals_of(gofnjerta_host *host, gofnjerta_totals *totals);
+uint32_t gofnjerta_core_held(gofnjerta_host *host, gofnjerta_held *held);
+uint32_t gofnjerta_core_slots(gofnjerta_host *host, gofnjerta_slots *slots);
+uint32_t gofnjerta_core_sent_again(gofnjerta_host *host, uint64_t *commands);
 uint32_t gofnjerta_core_due_in(gofnjerta_host *host, uint32_t *ms);
 
 /* A range coder's memory, of as many bytes as crates/enet_c says; only the proved code reads it. What is in it before a call doesn't matter. */

@@ -16,6 +16,10 @@ static const char *const stops[] = {
 
 #define COUNT(names) (sizeof(names) / sizeof(names)[0])
 
+uint32_t gofnjerta_version(void) {
+    return GOFNJERTA_VERSION;
+}
+
 const char *gofnjerta_error_name(uint32_t number) {
     if (number < COUNT(errors)) return errors[number];
     if (number >= GOFNJERTA_CLOSED && number - GOFNJERTA_CLOSED < COUNT(border)) return border[number - GOFNJERTA_CLOSED];
@@ -171,9 +175,29 @@ uint32_t gofnjerta_read_peer(gofnjerta_host *host, gofnjerta_peer peer, gofnjert
     return gofnjerta_core_peer(host, &peer, reading);
 }
 
+uint32_t gofnjerta_read_allowance(gofnjerta_host *host, gofnjerta_peer peer, uint32_t *bytes) {
+    if (!host || !bytes) return GOFNJERTA_NULL;
+    return gofnjerta_core_allowance(host, &peer, bytes);
+}
+
 uint32_t gofnjerta_read_totals(gofnjerta_host *host, gofnjerta_totals *totals) {
     if (!host || !totals) return GOFNJERTA_NULL;
     return gofnjerta_core_totals_of(host, totals);
+}
+
+uint32_t gofnjerta_read_held(gofnjerta_host *host, gofnjerta_held *held) {
+    if (!host || !held) return GOFNJERTA_NULL;
+    return gofnjerta_core_held(host, held);
+}
+
+uint32_t gofnjerta_read_slots(gofnjerta_host *host, gofnjerta_slots *slots) {
+    if (!host || !slots) return GOFNJERTA_NULL;
+    return gofnjerta_core_slots(host, slots);
+}
+
+uint32_t gofnjerta_read_sent_again(gofnjerta_host *host, uint64_t *commands) {
+    if (!host || !commands) return GOFNJERTA_NULL;
+    return gofnjerta_core_sent_again(host, commands);
 }
 
 uint32_t gofnjerta_due_in(gofnjerta_host *host, uint32_t *ms) {

@@ -18,7 +18,10 @@
  *
  * A call with a uint32_t result returns 0 if it succeeded, otherwise the number of the first reason that applies; GOFNJERTA_MEMORY is
  * the last of these. It has then changed nothing in the handle, and has written to the caller's memory only if its comment says so. Each
- * call with a handle may return GOFNJERTA_NULL and GOFNJERTA_CLOSED. */
+ * call with a handle may return GOFNJERTA_NULL and GOFNJERTA_CLOSED.
+ *
+ * As long as the library is libgofnjerta.so.0, no structure, call or number of this header changes. What is added is a new call, with a new
+ * structure if it needs one. gofnjerta_layout.h says where each field lies. */
 #ifndef GOFNJERTA_H
 #define GOFNJERTA_H
 #include <stdbool.h>
@@ -27,6 +30,15 @@
 #ifdef __cplusplus
 extern "C" {
 #endif
+
+/* The version of this header. gofnjerta_version returns the library's own in the form of GOFNJERTA_VERSION: the major version times 65,536, the
+ * minor one times 256 and the patch, added up. */
+#define GOFNJERTA_VERSION_MAJOR 0
+#define GOFNJERTA_VERSION_MINOR 1
+#define GOFNJERTA_VERSION_PATCH 0
+#define GOFNJERTA_VERSION (GOFNJERTA_VERSION_MAJOR << 16 | GOFNJERTA_VERSION_MINOR << 8 | GOFNJERTA_VERSION_PATCH)
+
+uint32_t gofnjerta_version(void);
 
 /* A host: `gofnjerta_host host = {0};`. Only this library reads or writes its members. */
 typedef struct gofnjerta_host {
@@ -146,6 +158,28 @@ typedef struct gofnjerta_totals {
     uint64_t datagrams_out, bytes_out;
 } gofnjerta_totals;
 
+/* How much a host holds of what others sent. Whatever datagrams come, each number is within what the host's settings allow. */
+typedef struct gofnjerta_held {
+    uint64_t channels, senders; /* channels of the peers: on which packets come, and on which they are sent to */
+    uint64_t packets;           /* that came, whole or in part, and weren't taken */
+    uint64_t undispatched;      /* those of them that can't be taken yet */
+    uint64_t bytes;             /* of the packets, each counted whole from its first piece on */
+    uint64_t acknowledgements;  /* that wait to be sent */
+    uint64_t memory;            /* bytes that all this takes with the host's slots, at most. Not counted are packets that were submitted, and
+                                   the room of lists that once held more */
+    uint64_t most_memory;       /* what `memory` is at most, by the settings */
+} gofnjerta_held;
+
+/* How many slots of a host are so. Each slot is in one of these counts. */
+typedef struct gofnjerta_slots {
+    uint16_t free;       /* those that have a generation left */
+    uint16_t spent;      /* free ones that have none left */
+    uint16_t connecting; /* the peer asked for a connection, and wasn't answered yet */
+    uint16_t answering;  /* the peer answered a client that hasn't confirmed it yet */
+    uint16_t connected;
+    uint16_t leaving; /* the connection is to end or ends, or has ended and its last event isn't taken yet */
+} gofnjerta_slots;
+
 /* The longest packet that any host takes, and the room that gofnjerta_service needs, in bytes. */
 enum { GOFNJERTA_MAX_PACKET = 33554432, GOFNJERTA_ROOM = 4096 };
 
@@ -253,8 +287,20 @@ uint32_t gofnjerta_set_timeout(gofnjerta_host *host, gofnjerta_peer peer, uint32
 /* Reads a peer. NO_SUCH_PEER. */
 uint32_t gofnjerta_read_peer(gofnjerta_host *host, gofnjerta_peer peer, gofnjerta_reading *reading);
 
+/* Reads a peer's allowance, 2,800 to 131,072 bytes, at first 65,536: as much may be in transit to it, where each command of a reliable packet
+ * counts 28 more than it carries. From 65,536 on it limits nothing. It falls if the line drops packets, and grows as they are acknowledged.
+ * NO_SUCH_PEER. */
+uint32_t gofnjerta_read_allowance(gofnjerta_host *host, gofnjerta_peer peer, uint32_t *bytes);
+
 /* Reads how much went through the host. */
 uint32_t gofnjerta_read_totals(gofnjerta_host *host, gofnjerta_totals *totals);
+
+/* Read what the host holds of what others sent, and how its slots stand. Both look at each slot. */
+uint32_t gofnjerta_read_held(gofnjerta_host *host, gofnjerta_held *held);
+uint32_t gofnjerta_read_slots(gofnjerta_host *host, gofnjerta_slots *slots);
+
+/* Reads how many commands of all peers aren't acknowledged and were sent more than once. It looks at all that isn't acknowledged. */
+uint32_t gofnjerta_read_sent_again(gofnjerta_host *host, uint64_t *commands);
 
 #ifdef __cplusplus
 }

@@ -1,14 +1,9 @@
-/* The header against the library: sizes, offsets and numbers; and what a call answers that is used badly. */
+/* The header against the library: where fields lie, and numbers; and what a call answers that is used badly. */
 #include "../core.h"
+#include "../gofnjerta_layout.h"
 #include "check.h"
 #include <stdlib.h>
 #include <string.h>
-
-/* Sizes: those that crates/enet_c proves of its own structures (src/shapes.rt). */
-_Static_assert(sizeof(gofnjerta_config) == 32 && sizeof(gofnjerta_address) == 8 && sizeof(gofnjerta_peer) == 8, "settings and names");
-_Static_assert(sizeof(gofnjerta_received) == 12 && sizeof(gofnjerta_datagram) == 20 && sizeof(gofnjerta_event) == 32, "what a host gives");
-_Static_assert(sizeof(gofnjerta_reading) == 60 && sizeof(gofnjerta_totals) == 32, "readings");
-_Static_assert(sizeof(gofnjerta_host) == 16 && sizeof(bool) == 1, "the handle");
 
 static const gofnjerta_address at_a = {0x0A0B0C0D, 7000}, at_b = {0x0E0F1011, 7001};
 static const gofnjerta_address shortened = {1, 2};
@@ -29,6 +24,13 @@ static int carry(gofnjerta_host *from, gofnjerta_address own, gofnjerta_host *to
 
 static void settle(gofnjerta_host *a, gofnjerta_host *b) {
     while (carry(a, at_a, b) + carry(b, at_b, a)) {}
+}
+
+/* Whether the slots of a host stand so. */
+static bool stand(gofnjerta_host *host, gofnjerta_slots wanted) {
+    gofnjerta_slots slots;
+    memset(&slots, 0xFF, sizeof slots);
+    return gofnjerta_read_slots(host, &slots) == GOFNJERTA_OK && !memcmp(&slots, &wanted, sizeof slots);
 }
 
 /* The names of the numbers: the library's own, for each number that the proved functions know. */
@@ -101,9 +103,11 @@ static void settings(void) {
 static void conversation(gofnjerta_host *a, gofnjerta_host *b, gofnjerta_peer *from_b, gofnjerta_peer *from_a) {
     gofnjerta_event event;
     uint8_t body[64];
+    CHECK(stand(b, (gofnjerta_slots){.free = 4}));
     ANSWERS(GOFNJERTA_OK, gofnjerta_connect(b, at_a, 2, 0x01020304, 0x11223344, from_b));
     ANSWERS(GOFNJERTA_NOT_CONNECTED, gofnjerta_submit(b, *from_b, 0, GOFNJERTA_RELIABLE, "x", 1));
     carry(b, at_b, a);
+    CHECK(stand(b, (gofnjerta_slots){.free = 3, .connecting = 1}) && stand(a, (gofnjerta_slots){.free = 3, .answering = 1}));
     gofnjerta_tick(a, 30), gofnjerta_tick(b, 30);
     settle(a, b);
     ANSWERS(GOFNJERTA_OK, gofnjerta_next_event(b, &event));
@@ -111,6 +115,7 @@ static void conversation(gofnjerta_host *a, gofnjerta_host *b, gofnjerta_peer *f
     ANSWERS(GOFNJERTA_OK, gofnjerta_next_event(a, &event));
     CHECK(event.kind == GOFNJERTA_CONNECT && event.info == 0x01020304 && event.peer.slot == 0 && event.peer.generation == 0);
     *from_a = event.peer;
+    CHECK(stand(b, (gofnjerta_slots){.free = 3, .connected = 1}) && stand(a, (gofnjerta_slots){.free = 3, .connected = 1}));
     ANSWERS(GOFNJERTA_UNTOLD, gofnjerta_body(a, body, sizeof body));
 
     ANSWERS(GOFNJERTA_OK, gofnjerta_submit(b, *from_b, 1, GOFNJERTA_RELIABLE, "hello", 5));
@@ -136,6 +141,50 @@ static void conversation(gofnjerta_host *a, gofnjerta_host *b, gofnjerta_peer *f
     ANSWERS(GOFNJERTA_OK, gofnjerta_next_event(a, &event));
     CHECK(event.kind == GOFNJERTA_NONE && event.length == 0 && event.channel == 0);
     ANSWERS(GOFNJERTA_UNTOLD, gofnjerta_body(a, body, sizeof body));
+}
+
+/* What a host holds, in a conversation whose numbers are known: a packet of 5 bytes that came, and is acknowledged later. Of memory a host has
+ * 4,096 bytes and 9,216 for a slot; 9,216 and 672 for a channel, as one comes and one goes; 192 for a packet, 2 for each byte of it and 16 for
+ * an acknowledgement. At most a slot has 255 channels, 524,543 packets of 118,508,864 bytes, 262,399 of them with 2,816 bytes more since they
+ * can't be taken yet, and 8,192 acknowledgements. */
+static void holding(gofnjerta_host *a, gofnjerta_host *b, gofnjerta_peer from_b) {
+    static const gofnjerta_held before = {2, 2, 0, 0, 0, 0, 60736, 4317233280}, with = {2, 2, 1, 0, 5, 1, 60954, 4317233280};
+    gofnjerta_held held;
+    gofnjerta_event event;
+    uint32_t bytes = 0;
+    ANSWERS(GOFNJERTA_OK, gofnjerta_read_allowance(b, from_b, &bytes));
+    CHECK(bytes == 65545); /* a packet of 5 bytes was acknowledged: its price is 33, and 33 / 4 + 2048 * 33 / 65536 is 9 */
+    ANSWERS(GOFNJERTA_OK, gofnjerta_read_held(a, &held));
+    CHECK(!memcmp(&held, &before, sizeof held));
+    ANSWERS(GOFNJERTA_OK, gofnjerta_submit(b, from_b, 0, GOFNJERTA_RELIABLE, "world", 5));
+    carry(b, at_b, a);
+    ANSWERS(GOFNJERTA_OK, gofnjerta_read_held(a, &held));
+    CHECK(!memcmp(&held, &with, sizeof held));
+    settle(a, b);
+    ANSWERS(GOFNJERTA_OK, gofnjerta_next_event(a, &event));
+    CHECK(event.kind == GOFNJERTA_RECEIVE && event.length == 5);
+}
+
+/* A packet whose datagram is lost is sent again, and counts until it is acknowledged. */
+static void resent(gofnjerta_host *a, gofnjerta_host *b, gofnjerta_peer from_b) {
+    uint8_t buffer[GOFNJERTA_ROOM];
+    gofnjerta_datagram gave;
+    gofnjerta_event event;
+    uint64_t commands = 9;
+    ANSWERS(GOFNJERTA_OK, gofnjerta_submit(b, from_b, 0, GOFNJERTA_RELIABLE, "lost", 4));
+    ANSWERS(GOFNJERTA_OK, gofnjerta_service(b, buffer, sizeof buffer, &gave));
+    CHECK(gave.length > 0);
+    ANSWERS(GOFNJERTA_OK, gofnjerta_read_sent_again(b, &commands));
+    CHECK(commands == 0);
+    gofnjerta_tick(a, 200), gofnjerta_tick(b, 200);
+    carry(b, at_b, a);
+    ANSWERS(GOFNJERTA_OK, gofnjerta_read_sent_again(b, &commands));
+    CHECK(commands == 1);
+    settle(a, b);
+    ANSWERS(GOFNJERTA_OK, gofnjerta_read_sent_again(b, &commands));
+    CHECK(commands == 0);
+    ANSWERS(GOFNJERTA_OK, gofnjerta_next_event(a, &event));
+    CHECK(event.kind == GOFNJERTA_RECEIVE && event.length == 4);
 }
 
 /* A body that is staged goes to a peer again and again; an empty one is a packet too. */
@@ -200,6 +249,7 @@ static void beyond(gofnjerta_host *b, gofnjerta_peer from_b) {
     ANSWERS(GOFNJERTA_NO_SUCH_PEER, gofnjerta_set_timeout(b, gone, 1, 2, 3));
     ANSWERS(GOFNJERTA_NO_SUCH_PEER, gofnjerta_throttle_configure(b, gone, 1, 2, 3));
     ANSWERS(GOFNJERTA_NO_SUCH_PEER, gofnjerta_read_peer(b, gone, &read));
+    ANSWERS(GOFNJERTA_NO_SUCH_PEER, gofnjerta_read_allowance(b, gone, &read.mtu));
     CHECK(read.mtu == 5);
     ANSWERS(GOFNJERTA_BAD_CONFIG, gofnjerta_connect(b, at_a, 0, 0, 0, &gone));
     ANSWERS(GOFNJERTA_SHORT, gofnjerta_service(b, buffer, GOFNJERTA_ROOM - 1, &gave));
@@ -235,6 +285,7 @@ static void parted(gofnjerta_host *a, gofnjerta_host *b, gofnjerta_peer from_b, 
     settle(a, b);
     while (gofnjerta_next_event(a, &event) == GOFNJERTA_OK && event.kind) {}
     ANSWERS(GOFNJERTA_OK, gofnjerta_disconnect(b, from_b, 0x0A0B0C0D));
+    CHECK(stand(b, (gofnjerta_slots){.free = 3, .leaving = 1}));
     ANSWERS(GOFNJERTA_NOT_CONNECTED, gofnjerta_disconnect(b, from_b, 0));
     ANSWERS(GOFNJERTA_NOT_CONNECTED, gofnjerta_submit(b, from_b, 0, GOFNJERTA_RELIABLE, "x", 1));
     settle(a, b);
@@ -350,6 +401,19 @@ static void admission(void) {
     ANSWERS(GOFNJERTA_OK, gofnjerta_close(&server));
 }
 
+/* A slot whose one generation was had by a peer that never connected. */
+static void spent(void) {
+    gofnjerta_host host = {0};
+    gofnjerta_config config = gofnjerta_standard(2, 1);
+    gofnjerta_peer peer;
+    config.generations = 1;
+    ANSWERS(GOFNJERTA_OK, gofnjerta_open(&host, &config));
+    ANSWERS(GOFNJERTA_OK, gofnjerta_connect(&host, at_a, 1, 0, 5, &peer));
+    ANSWERS(GOFNJERTA_OK, gofnjerta_disconnect_now(&host, peer, 0));
+    CHECK(stand(&host, (gofnjerta_slots){.free = 1, .spent = 1}));
+    ANSWERS(GOFNJERTA_OK, gofnjerta_close(&host));
+}
+
 /* A handle that holds no host, and pointers to nothing. */
 static void nothing(void) {
     gofnjerta_host host = {0};
@@ -360,7 +424,10 @@ static void nothing(void) {
     gofnjerta_received got = {9, 9, 9};
     gofnjerta_reading read = {.mtu = 9};
     gofnjerta_totals totals = {.bytes_in = 9};
+    gofnjerta_held held = {.bytes = 9};
+    gofnjerta_slots slots = {.free = 9};
     uint32_t ms = 9;
+    uint64_t commands = 9;
     uint8_t buffer[GOFNJERTA_ROOM], key[32] = {7};
 #define BOTH(call, ...) (ANSWERS(GOFNJERTA_CLOSED, gofnjerta_##call(&host, ##__VA_ARGS__)), ANSWERS(GOFNJERTA_NULL, gofnjerta_##call(NULL, ##__VA_ARGS__)))
     BOTH(connect, at_a, 2, 0, 0, &peer);
@@ -384,8 +451,13 @@ static void nothing(void) {
     BOTH(set_ping_interval, peer, 1);
     BOTH(set_timeout, peer, 1, 2, 3);
     BOTH(read_peer, peer, &read);
+    BOTH(read_allowance, peer, &ms);
     BOTH(read_totals, &totals);
+    BOTH(read_held, &held);
+    BOTH(read_slots, &slots);
+    BOTH(read_sent_again, &commands);
     BOTH(due_in, &ms);
+    CHECK(held.bytes == 9 && slots.free == 9 && commands == 9);
     CHECK(peer.slot == 1 && peer.generation == 2 && got.stop == 9 && read.mtu == 9 && totals.bytes_in == 9 && ms == 9);
     CHECK(event.kind == GOFNJERTA_NONE && gave.length == 0 && !host.is_open && !host.at);
     ANSWERS(GOFNJERTA_NULL, gofnjerta_close(NULL));
@@ -403,7 +475,11 @@ static void nothing(void) {
     ANSWERS(GOFNJERTA_NULL, gofnjerta_next_event(&host, NULL));
     ANSWERS(GOFNJERTA_NULL, gofnjerta_body(&host, NULL, 1));
     ANSWERS(GOFNJERTA_NULL, gofnjerta_read_peer(&host, peer, NULL));
+    ANSWERS(GOFNJERTA_NULL, gofnjerta_read_allowance(&host, peer, NULL));
     ANSWERS(GOFNJERTA_NULL, gofnjerta_read_totals(&host, NULL));
+    ANSWERS(GOFNJERTA_NULL, gofnjerta_read_held(&host, NULL));
+    ANSWERS(GOFNJERTA_NULL, gofnjerta_read_slots(&host, NULL));
+    ANSWERS(GOFNJERTA_NULL, gofnjerta_read_sent_again(&host, NULL));
     ANSWERS(GOFNJERTA_NULL, gofnjerta_due_in(&host, NULL));
     ANSWERS(GOFNJERTA_NULL, gofnjerta_set_secret(&host, NULL));
     ANSWERS(GOFNJERTA_OK, gofnjerta_due_in(&host, &ms));
@@ -421,19 +497,30 @@ static void nothing(void) {
     ANSWERS(GOFNJERTA_OK, gofnjerta_close(&host));
 }
 
+/* The library has the header's version, of which each part has a byte of its own (scripts/check/check-documents.py compares it with VERSION). */
+static void version(void) {
+    CHECK(gofnjerta_version() == GOFNJERTA_VERSION);
+    CHECK(gofnjerta_version() >> 16 == GOFNJERTA_VERSION_MAJOR && (gofnjerta_version() >> 8 & 255) == GOFNJERTA_VERSION_MINOR);
+    CHECK((gofnjerta_version() & 255) == GOFNJERTA_VERSION_PATCH);
+}
+
 int main(void) {
     gofnjerta_host a = {0}, b = {0};
     gofnjerta_config config = gofnjerta_standard(4, 3);
     gofnjerta_peer from_a, from_b;
     names();
+    version();
     settings();
     secret();
     admission();
+    spent();
     nothing();
     config.mtu = 1000, config.max_packet = 200000;
     ANSWERS(GOFNJERTA_OK, gofnjerta_open(&a, &config));
     ANSWERS(GOFNJERTA_OK, gofnjerta_open(&b, &config));
     conversation(&a, &b, &from_b, &from_a);
+    holding(&a, &b, from_b);
+    resent(&a, &b, from_b);
     staged(&a, &b, from_b);
     several(&a, &b, from_b);
     beyond(&b, from_b);

@@ -4,6 +4,8 @@
 # - the tests of c/tests: the header against the library and bad use (border), two hosts in memory over a lossy net (lossy), whom a host lets
 #   in, by a model of the rules (admitted), each allocation failing in turn (memory), and the blocks that the layer keeps (pool, also as it
 #   is built for debugging); plain, with AddressSanitizer and UndefinedBehaviorSanitizer, and under valgrind;
+# - the structures of gofnjerta.h lie, for C and C++, as the lines of gofnjerta_layout.h say (shapes, shapes-c++), and its calls are all that the
+#   shared library gives away (declared);
 # - the layer: its structures lie as the reference library's header says (layout), what isn't offered is refused, and packets that are sent
 #   while others are let go come as they are (refusals); the reference library and ours do the same with packets of any length and their
 #   bytes (packets), with ten thousand calls drawn from a seed, of which all ways to end (calls), where packets are taken peer by peer
@@ -27,7 +29,7 @@
 #   of strangers and connect ids (strangers); and who gets a slot beside strangers' CONNECTs (newcomers);
 # - installed below a prefix, it is found by pkg-config under libenet's name, and each header stands alone; and it is taken away.
 # Prints what failed, and as last line 'N passed, M failed'; the status is 1 where one failed or nothing was tried. It ends within 4
-# minutes. As root it installs what is missing of gcc, libenet-dev, valgrind, python3-enet and pkg-config.
+# minutes. As root it installs what is missing of gcc, g++, libenet-dev, valgrind, python3-enet and pkg-config.
 cd "$(dirname "$0")/../.." || exit 1
 . scripts/lib/clients.sh
 . scripts/lib/in-memory.sh
@@ -78,11 +80,25 @@ build_tests() {
         compile memory memory "$wrap" "$made/lib/libgofnjerta.a" && compile pool pool -pthread "$wrap" c/pool.c &&
         compile pool pool-checked -pthread "$wrap" "${checked[@]}" c/pool.c &&
         compile pool pool-debug -pthread "$wrap" -DGOFNJERTA_DEBUG c/pool.c && compile lossy lossy-shared -L"$made/lib" -lgofnjerta &&
-        compile layout layout-ours && cc c/tests/layout.c -o "$room/layout-theirs" && build_layer_tests &&
+        compile shapes shapes && compile layout layout-ours && cc c/tests/layout.c -o "$room/layout-theirs" && build_layer_tests &&
         compile tutorial our-tutorial "$made/lib/libgofnjerta_enet.a" && cc -Wall -Wextra c/tests/tutorial.c -o "$room/tutorial" -lenet &&
         compile progress our-progress "$made/lib/libgofnjerta_enet.a" && cc -O1 -Wall -Wextra c/tests/progress.c -o "$room/progress" -lenet &&
         compile border border-checked "${checked[@]}" c/gofnjerta.c "$room/checked.a" &&
         compile lossy lossy-checked "${checked[@]}" c/gofnjerta.c "$room/checked.a"
+}
+
+# The lines of gofnjerta_layout.h, as a binding reads them.
+laid_out() {
+    sed -n 's/^GOFNJERTA_\(STRUCT\|FIELD\)(\(.*\));$/\2/p' c/gofnjerta_layout.h | tr -d ,
+}
+
+# The calls that gofnjerta.h declares, and the names that the shared library gives away.
+declared() {
+    sed -n 's/^[a-z].*[ *]\(gofnjerta_[a-z_]*\)(.*/\1/p' c/gofnjerta.h | sort
+}
+
+given_away() {
+    nm -D --defined-only "$room/made/lib/libgofnjerta.so.0" | awk '{ print $NF }' | sort
 }
 
 # Those of the layer: on ours, plain and with sanitizers, and on the reference library where they compare the two.
@@ -299,11 +315,12 @@ installed() {
     bash scripts/by-hand/install-c.sh --uninstall "$prefix" && [ -z "$(find "$prefix" ! -type d)" ] && [ ! -e "$prefix/lib/gofnjerta" ]
 }
 
-# Debian's valgrind, Python binding and pkg-config, where they are missing.
+# Debian's valgrind, Python binding, pkg-config and compiler for C++, where they are missing.
 install_tools() {
     local missing=()
     command -v pkg-config || missing+=(pkg-config)
     command -v valgrind || missing+=(valgrind)
+    command -v c++ || missing+=(g++)
     /usr/bin/python3 -c 'import enet' || missing+=(python3-enet)
     [ ${#missing[@]} -eq 0 ] || install_packages "${missing[@]}"
 }
@@ -355,6 +372,9 @@ else
     try border-valgrind "${grind[@]}" "$room/border"
     try memory-valgrind "${grind[@]}" "$room/memory"
     try pool-valgrind "${grind[@]}" "$room/pool"
+    try shapes same_files <("$room/shapes") <(laid_out)
+    try declared same_files <(declared) <(given_away)
+    try shapes-c++ c++ -std=c++11 -pedantic -Wall -Wextra -Werror -Ic -fsyntax-only -x c++ c/gofnjerta_layout.h
     try layout same_files <("$room/layout-ours") <("$room/layout-theirs")
     try installed installed
     documented

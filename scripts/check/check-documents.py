@@ -10,8 +10,9 @@
 - the counts of definitions that docs/HEADLINE.md and docs/PROOFS.md tell are those of scripts/check/trusted.py;
 - docs/ERRORS.md has a row for each refusal and for each stop of the code;
 - docs/OPERATING.md has a row for each option of `serve`, with the range and the default that the code has;
-- the version that `enet_relay --version` tells, in the code and in its definition, is the one of the file VERSION, and so are those that
-  README's files have and that CHANGELOG.md begins with;
+- the version that `enet_relay --version` tells, in the code and in its definition, is the one of the file VERSION, and so are those of
+  c/gofnjerta.h, that README's files have and that CHANGELOG.md begins with;
+- c/gofnjerta_layout.h has each structure and field of c/gofnjerta.h, in order, and the sizes that crates/enet_c proves of its own;
 - docs/PERF.md begins with the line that names the start, which never changes, and its table has the counts of bench/instructions.txt;
 - no document has more of the habits that scripts/check/tics.py counts, in 100 words, than scripts/check/tics.txt says;
 - the plots are what measure/draw.py makes of measure/results.
@@ -253,17 +254,36 @@ def options(counts):
 
 
 def version(counts):
-    """One version: of the file VERSION, of the program, of its contract, of the files that README names and of the newest part of CHANGELOG.md."""
+    """One version: of the file VERSION, of the program, of its contract, of C's header, of README's files and of CHANGELOG.md's newest part."""
     told = read("VERSION").strip()
     for path, marked in (
         ("crates/enet_console/src/versions.rt", rf'^    "{re.escape(told)} \('),
         ("crates/enet_console/specs/Versions.antt", rf'^version = codes "{re.escape(told)}"$'),
     ):
         counts.check(re.search(marked, read(path), re.M), f"{path} hasn't the version {told} of the file VERSION")
+    parts = re.findall(r"^#define GOFNJERTA_VERSION_(MAJOR|MINOR|PATCH) (\d+)$", read("c/gofnjerta.h"), re.M)
+    wanted = list(zip(("MAJOR", "MINOR", "PATCH"), told.split(".")))
+    counts.check(parts == wanted and all(int(part) < 256 for _, part in parts), f"c/gofnjerta.h: its version is {parts}, not {told} of VERSION")
     files = set(re.findall(r"(?:_|gofnjerta-?)(\d+\.\d+\.\d+)[_-]", read("README.md")))
     counts.check(files == {told}, f"README.md names files of {files or 'no version'}, not of {told}")
     newest = re.search(r"^## (\S+)", read("CHANGELOG.md"), re.M)
     counts.check(newest and newest[1] == told, f"CHANGELOG.md doesn't begin with the version {told} of the file VERSION")
+
+
+def layout(counts):
+    """The table of C's structures beside the header that makes them, and beside the sizes that `enet_c` proves."""
+    made = []
+    for name, body in re.findall(r"^typedef struct (\w+) {(.*?)^} \1;$", re.sub(r"/\*.*?\*/", "", read("c/gofnjerta.h"), flags=re.S), re.M | re.S):
+        fields = [field.split()[-1].lstrip("*") for line in body.split(";") for field in line.split(",") if field.strip()]
+        made += [(name, ""), *((name, field) for field in fields)]
+    table = read("c/gofnjerta_layout.h")
+    told = re.findall(r"^GOFNJERTA_(?:STRUCT|FIELD)\((\w+), (?:([a-z]\w*), )?\d+, \d+\);$", table, re.M)
+    counts.check(made and made == told, f"c/gofnjerta_layout.h: c/gofnjerta.h or the table alone has {sorted(set(made) ^ set(told)) or 'another order'}")
+    proved = re.findall(r"size_of::<Core(\w+)>\(\) == (\d+)", read("crates/enet_c/src/shapes.rt"))
+    counts.check(proved, "crates/enet_c/src/shapes.rt proves no sizes")
+    for name, size in proved:
+        row = f"GOFNJERTA_STRUCT(gofnjerta_{name.lower()}, {size}, "
+        counts.check(name == "Secret" or row in table, f"c/gofnjerta_layout.h hasn't '{row}', the size of Core{name}")
 
 
 def habits(counts):
@@ -279,7 +299,7 @@ def plots(counts):
 def main():
     os.chdir(os.path.join(os.path.dirname(os.path.abspath(__file__)), "..", ".."))
     counts = Counts()
-    for check in (stated, names, links, commits, commands, shown, trusted, start, labels, options, version, habits, plots):
+    for check in (stated, names, links, commits, commands, shown, trusted, start, labels, options, version, layout, habits, plots):
         check(counts)
     print(f"{counts.passed} passed, {counts.failed} failed")
     return 1 if counts.failed else 0
