@@ -9,25 +9,13 @@ were unpacked by `tar -xmf`, so that they are newer than its files; they are tru
 Waits until no `rt` works in either checkout. Prints how many were taken. It stands on the kit's `rtlib`.
 """
 
-import functools
-import importlib.util
 import os
 import shutil
-import subprocess
 import sys
 
 sys.dont_write_bytecode = True
-
-
-def load_rtlib():
-    """Returns the kit's module that knows crates. A stamp is made once here, where the kit makes those of all below anew each time."""
-    page = subprocess.run(["rt", "doc"], check=True, stdout=subprocess.PIPE, text=True).stdout
-    spec = importlib.util.spec_from_file_location("rtlib", f"{os.path.dirname(page)}/bin/rtlib.py")
-    made = importlib.util.module_from_spec(spec)
-    sys.modules["rtlib"] = made
-    spec.loader.exec_module(made)
-    made.Crate.stamp = functools.cache(made.Crate.stamp)
-    return made
+sys.path.insert(0, f"{os.path.dirname(os.path.abspath(__file__))}/../lib")
+from kit import load_rtlib  # noqa: E402
 
 
 def is_left(rtlib, crate):
