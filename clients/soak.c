@@ -4,17 +4,18 @@
 // unreliable one on channel 1. The last `idle` of them (0) only listen, and where `direct` is given, the first is at this port, beside the
 // line. All look each `look` milliseconds (2) for what came and is to be sent. Who lost its connection asks anew a second later. When the
 // senders have stopped, all listen until all has come, and at most for `after` seconds (0). Prints how many connections of talkers and of
-// idle ones were lost; how many reliable packets came, of how many where none was lost, and how many unreliable ones; the median, the 99th
-// percentile and the longest of the trips of reliable ones, in milliseconds; how many seconds after the senders the last of them came; how
-// many came out of order, before any connection was lost; and how many bytes the first client got, and those listeners that got least and
-// most. It is compiled against either library.
+// idle ones were lost; how often one that asked anew was told that the relay is full, which isn't counted as lost; how many reliable packets
+// came, of how many where none was lost, and how many unreliable ones; the median, the 99th percentile and the longest of the trips of
+// reliable ones, in milliseconds; how many seconds after the senders the last of them came; how many came out of order, before any
+// connection was lost; and how many bytes the first client got, and those listeners that got least and most. It is compiled against either
+// library.
 #include <enet/enet.h>
 #include <poll.h>
 #include <stdbool.h>
 
 #include "common.h"
 
-enum { MOST = 64, LONGEST = 20000, TRIPS = 1 << 20, JOIN = 20, SETTLE = 3, LONG_EACH = 20 };
+enum { MOST = 64, LONGEST = 20000, TRIPS = 1 << 21, JOIN = 20, SETTLE = 3, LONG_EACH = 20 };
 
 // The front of a packet, as far as it is long enough.
 typedef struct Message {
@@ -36,8 +37,8 @@ static Client clients[MOST];
 static int count;
 static ENetAddress relay, beside;
 static double end; // when the senders stop; 0 before all are in
-static unsigned long lost[2], sent, came[2], unordered;
-static float trips[TRIPS];
+static unsigned long lost[2], refused, sent, came[2], unordered;
+static float trips[TRIPS + 1];
 static size_t tripped;
 static double last_came;
 static long length = 100, longest, often = 10, idle, plain = 1, after, direct, look = 2;
@@ -66,7 +67,9 @@ static void service(Client *client)
             client->next = now();
         }
         if (event.type == ENET_EVENT_TYPE_DISCONNECT) {
-            lost[client->is_idle] += client->is_in;
+            bool is_full = event.data == UINT32_MAX;
+            refused += is_full;
+            lost[client->is_idle] += client->is_in && !is_full;
             client->is_in = false;
             client->peer = NULL;
             client->next = now() + 1;
@@ -153,8 +156,8 @@ static void print(void)
     }
     qsort(trips, tripped, sizeof *trips, by_size);
     trips[tripped] = tripped > 0 ? trips[tripped - 1] : 0;
-    printf("lost %lu %lu came %lu %lu %lu trips %.0f %.0f %.0f drained %.2f unordered %lu bytes %lu %lu %lu\n", lost[0], lost[1], came[0],
-        sent * (unsigned long)(count - 1), came[1], trips[tripped / 2], trips[tripped * 99 / 100], trips[tripped],
+    printf("lost %lu %lu refused %lu came %lu %lu %lu trips %.0f %.0f %.0f drained %.2f unordered %lu bytes %lu %lu %lu\n", lost[0], lost[1],
+        refused, came[0], sent * (unsigned long)(count - 1), came[1], trips[tripped / 2], trips[tripped * 99 / 100], trips[tripped],
         last_came > end ? last_came - end : 0, unordered, clients[0].got, least, greatest);
 }
 

@@ -5,12 +5,12 @@
 # relay with its own clients. Our layer is linked with crates/enet_c/out/libenet_c.a, or, of a SERVER=ARCHIVE, with that archive, so that
 # two commits run side by side. Each try has a line of its own (clients/proxy.c), and what a client says goes to all others.
 #
-# Prints a row for each try: the line; the relay, the clients; how many connections of talking and of idle clients were lost; how many
-# reliable packets came, of how many that would have come where none was lost; how many unreliable ones; the median, the 99th percentile and
-# the longest of the trips of reliable ones, in milliseconds; how many seconds after the senders stopped the last of them came; which share
-# of the relay's sends of reliable commands with data were not the first; how many datagrams found the line's queue full; how many packets
-# came out of order, before a connection was lost; how many KB the first client got, and those that got least and most; and the relay's
-# resident memory at its end, in MB.
+# Prints a row for each try: the line; the relay, the clients; how many connections of talking and of idle clients were lost, and how often
+# one that asked anew was told that the relay is full; how many reliable packets came, of how many that would have come where none was lost;
+# how many unreliable ones; the median, the 99th percentile and the longest of the trips of reliable ones, in milliseconds; how many seconds
+# after the senders stopped the last of them came; which share of the relay's sends of reliable commands with data were not the first; how
+# many datagrams found the line's queue full; how many packets came out of order, before a connection was lost; how many KB the first client
+# got, and those that got least and most; and the relay's resident memory at its end, in MB.
 #
 # It tests nothing: what is lost is drawn, and the times are the machine's. Where other things run, put `chrt -r 20` in front. RUNS (1) is
 # how often each line is tried, all relays at once; ONLY, where it is set, is a regular expression that the names of the lines to be tried
@@ -47,8 +47,8 @@ row() {
         if ($1 == "failed") { print "| " head " | failed |"; exit }
         l = at["lost"]; c = at["came"]; t = at["trips"]; b = at["bytes"]
         sent = $(at["sent"] + 1)
-        printf "| %s | %d, %d | %d of %d | %d | %d, %d, %d | %.1f | %.0f %% | %d | %d | %d, %d, %d | %.1f |\n", head, $(l + 1), $(l + 2),
-            $(c + 1), $(c + 2), $(c + 3), $(t + 1), $(t + 2), $(t + 3), $(at["drained"] + 1), sent ? 100 * $(at["again"] + 1) / sent : 0,
+        printf "| %s | %d, %d, %d | %d of %d | %d | %d, %d, %d | %.1f | %.0f %% | %d | %d | %d, %d, %d | %.1f |\n", head, $(l + 1), $(l + 2),
+            $(at["refused"] + 1), $(c + 1), $(c + 2), $(c + 3), $(t + 1), $(t + 2), $(t + 3), $(at["drained"] + 1), sent ? 100 * $(at["again"] + 1) / sent : 0,
             $(at["overfull"] + 1), $(at["unordered"] + 1), $(b + 1) / 1000, $(b + 2) / 1000, $(b + 3) / 1000, $(at["memory"] + 1) / 1024
     }'
 }
