@@ -337,6 +337,19 @@ def full(script):
     script.row("full")
 
 
+def full_of_channels(script):
+    """The same where something was kept on each of the 255 channels before, so that all of them were made."""
+    bytes_of_one = [unreliable(channel, 5, 1000, 1) for channel in range(154)]
+    last_pieces = [last_of_32_mib(channel, 6, 1000) for channel in range(86)]
+    for name, waiting, commands in (("gives-way-all-made", 1, bytes_of_one), ("gives-way-pieces-all-made", MOST, last_pieces)):
+        script.open(1, 255, waiting=waiting, secret=0)
+        script.do("join 1 255", "from 0")
+        script.pack([unreliable(channel, 5, channel, 1) for channel in range(255)])
+        script.do("play each")
+        script.pack(commands)
+        script.row(name)
+
+
 def acknowledged(script):
     orders = {"oldest": range(1, 2001), "newest": range(2000, 0, -1), "mixed": [number * 997 % 2003 for number in range(1, 2003)]}
     for name, numbers in orders.items():
@@ -370,6 +383,20 @@ def many_channels(script):
     script.do("join 1 255", "from 0", "submit 0 0 1 1300 60", *[f"submit 0 {channel} 0 1300 1" for channel in range(1, 255)], "play last")
     script.send(*[ping(number) for number in range(2, 52)])
     script.row("pings-254-unreliable")
+
+
+def much_waits(script):
+    """What the host is asked behind anyone's datagram while clients wait for room, and a DISCONNECT of one for whom much waits."""
+    for name, peers, channels in (("255-channels-wait", 1, 255), ("1000-wait", 1000, 1)):
+        script.open(peers, channels, secret=0)
+        script.do(f"join {peers} {channels}", *[f"submit {peer} 0 1 1300 60" for peer in range(peers)])
+        script.do(*[f"submit 0 {channel} 1 1300 1" for channel in range(1, channels)], "play last", "at 5000", *["raw +0"] * 50)
+        script.row(f"empty-while-{name}", kind="stranger")
+    for name, flags, size in (("", 1, 1), ("-long", 0, 5000)):
+        script.open(1, 255, secret=0)
+        script.do("join 1 255", "from 0", *[f"submit 0 {channel} {flags} {size} 40" for channel in range(255)], "play last")
+        script.send(f"84ff1000{word(0)}")
+        script.row(f"disconnect-with-waiting{name}")
 
 
 def crowds(script):
@@ -413,12 +440,12 @@ def look(script):
     script.do(f"join {PEERS} 1", *[f"submit {number} 0 1 1 1" for number in range(PEERS)], "play last")
     script.call("look", "look")
     script.open(400, 255, secret=0)
-    script.do("join 400 255", *[f"submit {number} 0 1 1 1" for number in range(400)], "play last")
+    script.do("join 400 255", *[f"submit {number} 254 1 1 1" for number in range(400)], "play last")
     script.call("look", "look-255-channels")
 
 
-ALL = [strangers, crowded, newcomers, half_open, short_of_room, give_way, in_order, held, kept, pieces, full, acknowledged]
-ALL += [many_channels, crowds, ended, bandwidths, look]
+ALL = [strangers, crowded, newcomers, half_open, short_of_room, give_way, in_order, held, kept, pieces, full, full_of_channels]
+ALL += [acknowledged, many_channels, much_waits, crowds, ended, bandwidths, look]
 
 
 def written(chosen):
