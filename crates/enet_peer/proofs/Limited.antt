@@ -1,7 +1,9 @@
--- Whatever happens to a peer, its inbox keeps the limits with which it began, and nothing makes it wait for its client that didn't.
-use Rattle.std.proofs.Common.{◌≡◌, ℕ, ◌%◌, ◌^◌, ◌&&◌, Bool, true, false, cond, not, List, [], ◌∷◌, length, sym, subst, Option, Some, None, Result, Ok, Err, slice_get}
+-- Whatever happens to a peer, its inbox keeps the limits with which it began, it has the connect id with which it began, and nothing makes it
+-- wait for its client that didn't.
+use Rattle.std.proofs.Common.{◌≡◌, ℕ, ◌%◌, ◌^◌, ◌&&◌, Bool, true, false, cond, not, List, [], ◌∷◌, length, refl, sym, ap, subst, ◌∙◌, Option, Some, None, Result, Ok, Err, slice_get}
 use Rattle.std.specs.Prelude.{is_some, nat_lt, nat_le}
 use Rattle.enet_codec.specs.declared.command.Head.{Head}
+use Rattle.enet_codec.specs.declared.command.Offer.{Offer}
 use Rattle.enet_codec.specs.declared.command.Verify.{Verify}
 use Rattle.enet_codec.specs.declared.event.Received.{Received}
 use Rattle.enet_codec.specs.declared.packet.Packet as codec
@@ -12,7 +14,7 @@ use Rattle.enet_rtt.specs.declared.expiry.Expiry.{Expiry}
 use Rattle.enet_rtt.specs.declared.expiry.Expiry.TheVariants.{No, Resend, End}
 use Rattle.enet_unsequenced.specs.Groups.{dispatches}
 use Rattle.enet_connect.specs.declared.terms.Terms.{Terms}
-use Rattle.enet_connect.specs.Verification.{confirmed}
+use Rattle.enet_connect.specs.Verification.{agreed, confirmed, is_accepted}
 use Rattle.enet_senders.specs.declared.control.Control.{Control}
 use Rattle.enet_senders.specs.declared.control.Control.TheVariants as control
 use Rattle.enet_fragment.specs.declared.data.DataCommand.{DataCommand}
@@ -88,16 +90,21 @@ arrival-keeps x y b m h = arrival-of-keeps x y (met b m) m m.body (by (makes_roo
 
 -- ---- what lasts
 
--- with which limits a peer began; whether it waited for its client at a moment, and when it was made
+-- with which limits a peer began; whether it waited for its client at a moment, and when it was made; its connect id, if that is told
 pub record Mark : Type 0 where
   pub packet : ℕ
   pub waiting : ℕ
   pub answers : Bool
   pub made : ℕ
+  pub word : Option ℕ
 
--- It still keeps the limits; and it only waits for its client if it did then, and was made when it was made then
+-- a peer has this connect id, and asks for a connection with no other
+abbrev pub IsOf : ℕ → Peering → Type 0
+IsOf word p = (p.terms.connect_id ≡ word) × (is_connecting p.state ≡ true → p.offer.connect_id ≡ word)
+
+-- It still keeps the limits; it only waits for its client if it did then, and was made when it was made then; and its connect id is that one
 abbrev pub Lasts : Mark → Peering → Type 0
-Lasts k p = HasLimits k.packet k.waiting p × (is_answering p.state ≡ true → (k.answers ≡ true) × (p.made ≡ k.made))
+Lasts k p = HasLimits k.packet k.waiting p × (is_answering p.state ≡ true → (k.answers ≡ true) × (p.made ≡ k.made)) × ((word : ℕ) → k.word ≡ Some word → IsOf word p)
 
 -- what lasts of one lasts of another
 abbrev pub Follows : Peering → Peering → Type 0
@@ -106,6 +113,10 @@ Follows p q = (k : Mark) → Lasts k p → Lasts k q
 -- it doesn't wait for its client
 away : {X : Type 0} → false ≡ true → X
 away e = absurd (let y : false ≡ true = e in cc)
+
+-- where no connect id is told nothing is said of it
+pub untold : (p : Peering) (word : ℕ) → ◌≡◌ {A = Option ℕ} None (Some word) → IsOf word p
+untold p word told = absurd (cc)
 
 -- ---- a command that comes
 
@@ -118,11 +129,11 @@ if-outcome k true t e f g = f
 if-outcome k false t e f g = g
 
 settled-lasts : (k : Mark) (p : Peering) → Lasts k p → Lasts k (settled p)
-settled-lasts k p h = if-peer k (is_later p.state && is_done p.outbox) (disconnecting p p.info) p (h.0, λ e. away e) h
+settled-lasts k p h = if-peer k (is_later p.state && is_done p.outbox) (disconnecting p p.info) p (h.0, (λ e. away e), λ w told. ((h.2 w told).0, λ e. away e)) h
 
 answer-lasts : (k : Mark) (s : PeerState) (what : Control) (p : Peering) → Lasts k p → Lasts k (with_answer s what p)
-answer-lasts k state.Answering (control.VerifyConnect v) p h = (h.0, λ e. away e)
-answer-lasts k state.Disconnecting (control.Disconnect info) p h = (h.0, λ e. away e)
+answer-lasts k state.Answering (control.VerifyConnect v) p h = (h.0, (λ e. away e), λ w told. ((h.2 w told).0, λ e. away e))
+answer-lasts k state.Disconnecting (control.Disconnect info) p h = (h.0, (λ e. away e), λ w told. ((h.2 w told).0, λ e. away e))
 answer-lasts k s what p h = h
 
 match-lasts : (k : Mark) (what : Matched) (old gone : Peering) → Lasts k old → Lasts k gone → Lasts k (on_match what old gone)
@@ -136,24 +147,32 @@ acknowledge-lasts k p now channel number told h =
     let gone : Peering = on_match (matched_by p.outbox channel number meant) p (acknowledged p now channel number meant) in
     if-peer k (is_connecting p.state) p gone h (match-lasts k (matched_by p.outbox channel number meant) p (acknowledged p now channel number meant) h h)
 
-welcome-lasts : (k : Mark) (p : Peering) (v : Verify) (o : Option Terms) → Lasts k p → Lasts k (welcomed p v o)
-welcome-lasts k p v None h = unwelcomed-holds (Lasts k) p v h (h.0, λ e. away e)
-welcome-lasts k p v (Some terms) h = (h.0, λ e. away e)
+-- the terms that a client accepts have the connect id with which it asked
+confirmed-word : (o : Offer) (v : Verify) (terms : Terms) → confirmed o v ≡ Some terms → terms.connect_id ≡ o.connect_id
+confirmed-word o v terms e = by (is_accepted o v) e
+  where
+    by : (b : Bool) → ◌≡◌ {A = Option Terms} (cond b (Some (agreed o v)) None) (Some terms) → terms.connect_id ≡ o.connect_id
+    by true e = let same : agreed o v ≡ terms = cc in sym (ap (λ (t : Terms). t.connect_id) same)
+    by false e = absurd (cc)
 
-verify-lasts : (k : Mark) (s : PeerState) (p : Peering) (v : Verify) → Lasts k p → Lasts k (on_verify_in s p v)
-verify-lasts k state.Connecting p v h = welcome-lasts k p v (confirmed p.offer v) h
-verify-lasts k s p v h = h
+welcome-lasts : (k : Mark) (p : Peering) (v : Verify) (o : Option Terms) → is_connecting p.state ≡ true → confirmed p.offer v ≡ o → Lasts k p → Lasts k (welcomed p v o)
+welcome-lasts k p v None asks is h = unwelcomed-holds (Lasts k) p v h (h.0, (λ e. away e), λ w told. ((h.2 w told).0, λ e. away e))
+welcome-lasts k p v (Some terms) asks is h = (h.0, (λ e. away e), λ w told. (confirmed-word p.offer v terms is ∙ (h.2 w told).1 asks, λ e. away e))
+
+verify-lasts : (k : Mark) (s : PeerState) (p : Peering) (v : Verify) → p.state ≡ s → Lasts k p → Lasts k (on_verify_in s p v)
+verify-lasts k state.Connecting p v is h = welcome-lasts k p v (confirmed p.offer v) (ap is_connecting is) refl h
+verify-lasts k s p v is h = h
 
 last-lasts : (k : Mark) (p : Peering) (b : Bool) (info : ℕ) → Lasts k p → Lasts k (on_last_disconnect p b info)
-last-lasts k p true info h = (h.0, λ e. away e)
-last-lasts k p false info h = (h.0, λ e. away e)
+last-lasts k p true info h = (h.0, (λ e. away e), λ w told. ((h.2 w told).0, λ e. away e))
+last-lasts k p false info h = (h.0, (λ e. away e), λ w told. ((h.2 w told).0, λ e. away e))
 
 disconnect-lasts : (k : Mark) (s : PeerState) (p : Peering) (b : Bool) (info : ℕ) → Lasts k p → Lasts k (on_disconnect_in s p b info)
 disconnect-lasts k state.Connected p b info h = last-lasts k p b info h
 disconnect-lasts k state.DisconnectLater p b info h = last-lasts k p b info h
-disconnect-lasts k state.Connecting p b info h = (h.0, λ e. away e)
-disconnect-lasts k state.Disconnecting p b info h = (h.0, λ e. away e)
-disconnect-lasts k state.Answering p b info h = (h.0, λ e. away e)
+disconnect-lasts k state.Connecting p b info h = (h.0, (λ e. away e), λ w told. ((h.2 w told).0, λ e. away e))
+disconnect-lasts k state.Disconnecting p b info h = (h.0, (λ e. away e), λ w told. ((h.2 w told).0, λ e. away e))
+disconnect-lasts k state.Answering p b info h = (h.0, (λ e. away e), λ w told. ((h.2 w told).0, λ e. away e))
 disconnect-lasts k s p b info h = h
 
 answered-at-lasts : (k : Mark) (p : Peering) (head : Head) (sent : Option ℕ) → Lasts k p → Lasts k (answered_at p head sent).after
@@ -172,13 +191,13 @@ data-lasts : (k : Mark) (p : Peering) (m : Message) (sent : Option ℕ) → Last
 data-lasts k p m sent h =
     if-outcome k (is_later p.state) (by_answer p m sent (passed_over p.inbox m)) (by_arrival p m sent (arrival p.inbox m))
     (by-answer-lasts k p m sent (passed_over p.inbox m) h)
-    (by-answer-lasts k (record p { inbox = (arrival p.inbox m).after }) m sent (arrival p.inbox m).answer (arrival-keeps k.packet k.waiting p.inbox m h.0, h.1))
+    (by-answer-lasts k (record p { inbox = (arrival p.inbox m).after }) m sent (arrival p.inbox m).answer (arrival-keeps k.packet k.waiting p.inbox m h.0, h.1, h.2))
 
 body-lasts : (k : Mark) (p : Peering) (now : ℕ) (sent : Option ℕ) (m : Message) (body : Body) → Lasts k p → Lasts k (by_body p now sent m body).after
 body-lasts k p now sent m (acknowledge number time) h =
     answered-lasts k (on_acknowledge p now m.head.channel number time) m sent true (acknowledge-lasts k p now m.head.channel number time h)
 body-lasts k p now sent m (connect offer) h = h
-body-lasts k p now sent m (verify_connect v) h = answered-lasts k (on_verify_in p.state p v) m sent true (verify-lasts k p.state p v h)
+body-lasts k p now sent m (verify_connect v) h = answered-lasts k (on_verify_in p.state p v) m sent true (verify-lasts k p.state p v refl h)
 body-lasts k p now sent m (disconnect info) h =
     answered-lasts k (on_disconnect_in p.state p (m.head.acknowledge && is_some sent) info) m sent true (disconnect-lasts k p.state p (m.head.acknowledge && is_some sent) info h)
 body-lasts k p now sent m ping h = answered-lasts k p m sent true h
@@ -224,8 +243,8 @@ hears-lasts k a bytes p answer q h e = hears-if k (is_turned_away p) a bytes p a
 -- ---- a datagram that goes, and the clock
 
 gone-lasts : (k : Mark) (s : PeerState) (p : Peering) → Lasts k p → Lasts k (gone_on_in s p)
-gone-lasts k state.AckDisconnect p h = (h.0, λ e. away e)
-gone-lasts k state.Parting p h = if-peer k (nat_lt 0 (length p.outbox.control.queued)) p (freed p) h (h.0, λ e. away e)
+gone-lasts k state.AckDisconnect p h = (h.0, (λ e. away e), λ w told. ((h.2 w told).0, λ e. away e))
+gone-lasts k state.Parting p h = if-peer k (nat_lt 0 (length p.outbox.control.queued)) p (freed p) h (h.0, (λ e. away e), λ w told. ((h.2 w told).0, λ e. away e))
 gone-lasts k state.Free p h = settled-lasts k p h
 gone-lasts k state.Connecting p h = settled-lasts k p h
 gone-lasts k state.Answering p h = settled-lasts k p h
@@ -239,8 +258,8 @@ put-out-lasts k now len p q buf h out =
     subst (Lasts k) (sym out.after) (gone-lasts k p.state (record p { outbox = (filled (pace_of p now) p.outbox).outbox }) h)
 
 cut-off-lasts : (k : Mark) (s : PeerState) (p : Peering) → Lasts k p → Lasts k (cut_off_in s p)
-cut-off-lasts k state.Answering p h = (h.0, λ e. away e)
-cut-off-lasts k s p h = (h.0, λ e. away e)
+cut-off-lasts k state.Answering p h = (h.0, (λ e. away e), λ w told. ((h.2 w told).0, λ e. away e))
+cut-off-lasts k s p h = (h.0, (λ e. away e), λ w told. ((h.2 w told).0, λ e. away e))
 
 timeouts-lasts : (k : Mark) (e : Expiry) (p : Peering) (now : ℕ) → Lasts k p → Lasts k (after_timeouts_by e p now)
 timeouts-lasts k End p now h = cut-off-lasts k p.state p h
@@ -259,20 +278,20 @@ moved-lasts k short p now h = if-peer k (is_held_back short p now) (held_back p 
 -- ---- the user's calls
 
 pub left-lasts : (k : Mark) (how : Leave) (p q : Peering) (info : ℕ) → Lasts k p → left how p info ≡ Some q → Lasts k q
-left-lasts k AtOnce p q info h e = let same : freed p ≡ q = cc in subst (Lasts k) same (h.0, λ e. away e)
-left-lasts k TellsOnce p q info h e = let same : parting p info ≡ q = cc in subst (Lasts k) same (h.0, λ e. away e)
-left-lasts k Asks p q info h e = let same : disconnecting p info ≡ q = cc in subst (Lasts k) same (h.0, λ e. away e)
+left-lasts k AtOnce p q info h e = let same : freed p ≡ q = cc in subst (Lasts k) same (h.0, (λ e. away e), λ w told. ((h.2 w told).0, λ e. away e))
+left-lasts k TellsOnce p q info h e = let same : parting p info ≡ q = cc in subst (Lasts k) same (h.0, (λ e. away e), λ w told. ((h.2 w told).0, λ e. away e))
+left-lasts k Asks p q info h e = let same : disconnecting p info ≡ q = cc in subst (Lasts k) same (h.0, (λ e. away e), λ w told. ((h.2 w told).0, λ e. away e))
 left-lasts k AsksLater p q info h e =
     let waiting : Peering = record p { state = state.DisconnectLater; info = info } in
     let same : settled waiting ≡ q = cc in
-    subst (Lasts k) same (settled-lasts k waiting (h.0, λ e. away e))
+    subst (Lasts k) same (settled-lasts k waiting (h.0, (λ e. away e), λ w told. ((h.2 w told).0, λ e. away e)))
 left-lasts k Refused p q info h e = absurd (let none : None ≡ Some q = e in cc)
 
 some-lasts : (k : Mark) (s t : Taken) → Some s ≡ Some t → Lasts k s.after → Lasts k t.after
 some-lasts k s t e h = let same : s ≡ t = cc in subst (λ (t : Taken). Lasts k t.after) same h
 
 last-event-lasts : (k : Mark) (s : PeerState) (p : Peering) (t : Taken) → Lasts k p → last_event s p ≡ Some t → Lasts k t.after
-last-event-lasts k state.Ended p t h e = some-lasts k (record { event = event.Disconnect p.info; after = record p { state = state.Free } }) t e (h.0, λ e. away e)
+last-event-lasts k state.Ended p t h e = some-lasts k (record { event = event.Disconnect p.info; after = record p { state = state.Free } }) t e (h.0, (λ e. away e), λ w told. ((h.2 w told).0, λ e. away e))
 last-event-lasts k s p t h e = absurd cc
 
 packet-lasts : (k : Mark) (p : Peering) (xs : List codec.Packet) (t : Taken) → Lasts k p → packet_event p xs ≡ Some t → Lasts k t.after

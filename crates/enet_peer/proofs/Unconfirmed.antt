@@ -27,7 +27,7 @@ use Rattle.enet_peer.specs.Refusing.{confirms, confirms_by, heeded, is_turned_aw
 use Rattle.enet_peer.specs.Handling.{Arrival, SoFar, Handles, HearsIf, IsHeardAlike, SpellsNone, nothing_left, no_command, stops, goes_on, one_more}
 use Rattle.enet_peer.specs.Private.Handling.{is_passed, matches_by, matches_control}
 use Rattle.enet_peer.proofs.Each.{split-once}
-use Rattle.enet_peer.proofs.Limited.{Lasts, Mark, obeyed-lasts}
+use Rattle.enet_peer.proofs.Limited.{Lasts, Mark, untold, obeyed-lasts}
 use Rattle.enet_peer.proofs.Refusals.{heeded-obeyed}
 
 -- ---- a peer that waits for its client goes on waiting, with the same commands of channel 0xFF
@@ -188,8 +188,8 @@ not-true false f = refl
 
 away-stays : (p : Peering) (now : ℕ) (sent : Option ℕ) (m : Message) → is_answering p.state ≡ false → is_answering (obeyed p now sent m).after.state ≡ false
 away-stays p now sent m away =
-    let k : Mark = record { packet = p.inbox.max_packet; waiting = p.inbox.max_waiting; answers = false; made = p.made } in
-    let lasts : Lasts k (obeyed p now sent m).after = obeyed-lasts k p now sent m ((refl, refl), λ e. absurd (let y : false ≡ true = sym away ∙ e in cc)) in
+    let k : Mark = record { packet = p.inbox.max_packet; waiting = p.inbox.max_waiting; answers = false; made = p.made; word = None } in
+    let lasts : Lasts k (obeyed p now sent m).after = obeyed-lasts k p now sent m ((refl, refl), (λ e. absurd (let y : false ≡ true = sym away ∙ e in cc)), untold p) in
     not-true (is_answering (obeyed p now sent m).after.state) (λ e. (lasts.1 e).0)
 
 abbrev with-room : ℕ → Option ℕ → Arrival
