@@ -143,7 +143,6 @@ shared-sleeps outgoing standing i v s (inr h) =
       waits = shared-waits outgoing standing s.emitted s.peer h.waits;
       held = shared-vacant outgoing standing s.emitted s.peer ∙ h.held;
       unlisted = h.unlisted;
-      marked = h.marked;
       moment = h.moment;
       at = h.at;
       ahead = h.ahead;

@@ -26,6 +26,7 @@ use Rattle.enet_slot.specs.Slotted.{all_shown}
 use Rattle.enet_host.specs.Shown.{HostNumbers, KeepsHost}
 use Rattle.enet_host.specs.Private.Shown.{SlotGivesEvent}
 use Rattle.enet_deadlines.specs.Sets.{IsIn}
+use Rattle.enet_sleepers.specs.Seating.{Seating, KeepsSeats, HoldNobody, Enters}
 use Rattle.enet_sleepers.specs.Sleeping.{Noted, KeepsSleepers}
 use Rattle.enet_sleepers.proofs.Keeping.{keeps-set}
 use Rattle.enet_slot.proofs.Shown.{length-shown}
@@ -47,7 +48,8 @@ use Rattle.enet_host.specs.Crediting.{is_short_at}
 use Rattle.enet_host.specs.Ticking.{all_moved, clock_after, with_time, is_due, ticked}
 use Rattle.enet_slot.specs.Calls.{kept, on_peer_in, Submits, Does, DoesWithMemory, GivesEvent}
 use Rattle.enet_host.specs.Calls.{put_back, on_slot, on_named}
-use Rattle.enet_host.proofs.Limits.{AllHold, Minds, joined-limited, joined-nowhere, keeps-of, limited-of, minds-all, unused-limited, unused-nowhere}
+use Rattle.enet_host.proofs.Limits.{AllHold, Minds, joined-limited, joined-nowhere, keeps-of, limited-of, minds-all, seats-of, unused-limited, unused-nowhere}
+use Rattle.enet_host.proofs.Seated.{joined-seats, unused-nobody}
 use Rattle.enet_host.proofs.Moving.{each-moved}
 use Rattle.enet_host.proofs.Turning.{turns-apart}
 
@@ -284,16 +286,16 @@ shared-if-held due outgoing slots new e old =
     subst HoldsNoFree (sym e) (held-if due (map (shared outgoing (count_by is_standing slots)) slots) slots (shared-held outgoing (count_by is_standing slots) slots old) old)
 
 -- what a host keeps once its slots and turns have changed
-pub keeps-after : (peers was now generations packet waiting from event first last : ℕ) (v w : Noted) (t u : Waiting) (xs ys : List Slot)
-    → KeepsHost (record { peers = peers; clock = was; generations = generations; max_packet = packet; max_waiting = waiting; service_from = from; event_from = event }) v t xs → length ys ≡ length xs
-    → first < peers → last < peers → IsKept now w (all_shown ys) → AreLimited packet waiting (all_shown ys) × KeepsUnproved now generations u (all_shown ys)
-    → KeepsHost (record { peers = peers; clock = now; generations = generations; max_packet = packet; max_waiting = waiting; service_from = first; event_from = last }) w u ys
-keeps-after peers was now generations packet waiting from event first last v w t u xs ys k e a b after of_peers =
-    record { count = e ∙ k.count; many = k.many; service = a; event = b; few = k.few; held = after.0; sleeping = after.1; waiting = of_peers.1; limited = of_peers.0 }
+pub keeps-after : (peers was now generations packet waiting from event first last : ℕ) (v w : Noted) (f g : Seating) (t u : Waiting) (xs ys : List Slot)
+    → KeepsHost (record { peers = peers; clock = was; generations = generations; max_packet = packet; max_waiting = waiting; service_from = from; event_from = event }) v f t xs → length ys ≡ length xs
+    → first < peers → last < peers → IsKept now w (all_shown ys) → AreLimited packet waiting (all_shown ys) × KeepsUnproved now generations u (all_shown ys) × KeepsSeats g (all_shown ys)
+    → KeepsHost (record { peers = peers; clock = now; generations = generations; max_packet = packet; max_waiting = waiting; service_from = first; event_from = last }) w g u ys
+keeps-after peers was now generations packet waiting from event first last v w f g t u xs ys k e a b after of_peers =
+    record { count = e ∙ k.count; many = k.many; service = a; event = b; few = k.few; held = after.0; sleeping = after.1; seated = of_peers.2; waiting = of_peers.1; limited = of_peers.0 }
 
 -- what is noted of who waits for a client may change
-pub keeps-waiting : {n : HostNumbers} {v : Noted} {t u : Waiting} {xs : List Slot} → KeepsHost n v t xs → KeepsUnproved n.clock n.generations u (all_shown xs) → KeepsHost n v u xs
-keeps-waiting {n} {v} {t} {u} {xs} k waiting = record {
+pub keeps-waiting : {n : HostNumbers} {v : Noted} {f : Seating} {t u : Waiting} {xs : List Slot} → KeepsHost n v f t xs → KeepsUnproved n.clock n.generations u (all_shown xs) → KeepsHost n v f u xs
+keeps-waiting {n} {v} {f} {t} {u} {xs} k waiting = record {
   count = k.count;
   many = k.many;
   service = k.service;
@@ -301,43 +303,60 @@ keeps-waiting {n} {v} {t} {u} {xs} k waiting = record {
   few = k.few;
   held = k.held;
   sleeping = k.sleeping;
+  seated = k.seated;
   waiting = waiting;
   limited = k.limited;
 }
 
+-- so may where connections are found
+pub keeps-seating : {n : HostNumbers} {v : Noted} {f g : Seating} {u : Waiting} {xs : List Slot} → KeepsHost n v f u xs → KeepsSeats g (all_shown xs) → KeepsHost n v g u xs
+keeps-seating {n} {v} {f} {g} {u} {xs} k seated = record {
+  count = k.count;
+  many = k.many;
+  service = k.service;
+  event = k.event;
+  few = k.few;
+  held = k.held;
+  sleeping = k.sleeping;
+  seated = seated;
+  waiting = k.waiting;
+  limited = k.limited;
+}
+
 -- whom a host lets in may change
-pub keeps-admitting : (c : Config) (what : Admission) (clock from event : ℕ) (v : Noted) (u : Waiting) (xs : List Slot)
-    → KeepsHost (record { peers = c.peers; clock = clock; generations = c.generations; max_packet = c.max_packet; max_waiting = c.max_waiting; service_from = from; event_from = event }) v u xs
-    → KeepsHost (record { peers = (admitting c what).peers; clock = clock; generations = (admitting c what).generations; max_packet = (admitting c what).max_packet; max_waiting = (admitting c what).max_waiting; service_from = from; event_from = event }) v u xs
-keeps-admitting c admission.GiveWay clock from event v u xs k = k
-keeps-admitting c (admission.Most peers) clock from event v u xs k = k
+pub keeps-admitting : (c : Config) (what : Admission) (clock from event : ℕ) (v : Noted) (f : Seating) (u : Waiting) (xs : List Slot)
+    → KeepsHost (record { peers = c.peers; clock = clock; generations = c.generations; max_packet = c.max_packet; max_waiting = c.max_waiting; service_from = from; event_from = event }) v f u xs
+    → KeepsHost (record { peers = (admitting c what).peers; clock = clock; generations = (admitting c what).generations; max_packet = (admitting c what).max_packet; max_waiting = (admitting c what).max_waiting; service_from = from; event_from = event }) v f u xs
+keeps-admitting c admission.GiveWay clock from event v f u xs k = k
+keeps-admitting c (admission.Most peers) clock from event v f u xs k = k
 
 -- what it keeps of its peers
-abbrev pub Minded : HostNumbers → Waiting → List Slot → Type 0
-Minded n u xs = AllHold (Minds n.max_packet n.max_waiting n.generations u) (all_shown xs)
+abbrev pub Minded : HostNumbers → Waiting → Seating → List Slot → Type 0
+Minded n u f xs = AllHold (Minds n.max_packet n.max_waiting n.generations u f) (all_shown xs)
 
-pub all-minded : {n : HostNumbers} {v : Noted} {u : Waiting} {xs : List Slot} → KeepsHost n v u xs → Minded n u xs
-all-minded {n} {v} {u} {xs} k = minds-all n.max_packet n.max_waiting n.generations n.clock u (all_shown xs) k.limited k.waiting
+pub all-minded : {n : HostNumbers} {v : Noted} {f : Seating} {u : Waiting} {xs : List Slot} → KeepsHost n v f u xs → Minded n u f xs
+all-minded {n} {v} {f} {u} {xs} k = minds-all n.max_packet n.max_waiting n.generations n.clock u f (all_shown xs) k.limited k.waiting k.seated
 
-pub minded : {n : HostNumbers} {v : Noted} {u : Waiting} {xs : List Slot} (ys : List Slot) → KeepsHost n v u xs → length ys ≡ length xs → Minded n u ys
-    → AreLimited n.max_packet n.max_waiting (all_shown ys) × KeepsUnproved n.clock n.generations u (all_shown ys)
-minded {n} {v} {u} {xs} ys k e all = (
-  limited-of n.max_packet n.max_waiting n.generations u (all_shown ys) all,
-  (let w = k.waiting in keeps-of n.max_packet n.max_waiting n.generations n.clock u (all_shown ys) (w.count ∙ length-shown xs ∙ sym e ∙ sym (length-shown ys)) w.shown all),
+pub minded : {n : HostNumbers} {v : Noted} {f : Seating} {u : Waiting} {xs : List Slot} (ys : List Slot) → KeepsHost n v f u xs → length ys ≡ length xs → Minded n u f ys
+    → AreLimited n.max_packet n.max_waiting (all_shown ys) × KeepsUnproved n.clock n.generations u (all_shown ys) × KeepsSeats f (all_shown ys)
+minded {n} {v} {f} {u} {xs} ys k e all = (
+  limited-of n.max_packet n.max_waiting n.generations u f (all_shown ys) all,
+  (let w = k.waiting in keeps-of n.max_packet n.max_waiting n.generations n.clock u f (all_shown ys) (w.count ∙ length-shown xs ∙ sym e ∙ sym (length-shown ys)) w.shown all),
+  (let w = k.seated in seats-of n.max_packet n.max_waiting n.generations u f (all_shown ys) (w.count ∙ length-shown xs ∙ sym e ∙ sym (length-shown ys)) all),
 )
 
 -- and once a slot was woken
-pub woken-kept : (peers now generations packet waiting from event : ℕ) (v w : Noted) (t : Waiting) (xs : List Slot) → KeepsHost (record { peers = peers; clock = now; generations = generations; max_packet = packet; max_waiting = waiting; service_from = from; event_from = event }) v t xs
+pub woken-kept : (peers now generations packet waiting from event : ℕ) (v w : Noted) (f : Seating) (t : Waiting) (xs : List Slot) → KeepsHost (record { peers = peers; clock = now; generations = generations; max_packet = packet; max_waiting = waiting; service_from = from; event_from = event }) v f t xs
     → ((n : ℕ) (slots : List SlotState) → KeepsSleepers n v slots → KeepsSleepers n w slots) → IsKept now w (all_shown xs)
-woken-kept peers now generations packet waiting from event v w t xs k woken = (k.held, woken now (all_shown xs) k.sleeping)
+woken-kept peers now generations packet waiting from event v w f t xs k woken = (k.held, woken now (all_shown xs) k.sleeping)
 
 -- what it keeps at first
-in-range : (c : Config) → is_in_range c ≡ true → (0 < c.peers) × (c.peers ≤ 4095) × (c.generations ≤ greatest)
+pub in-range : (c : Config) → is_in_range c ≡ true → (0 < c.peers) × (c.peers ≤ 4095) × (c.generations ≤ greatest)
 in-range c h = (grind (arith, nat_tests), grind (arith, nat_tests), grind (arith, nat_tests))
 
-keeps-fresh : (c : Config) (r : Bool) (v : Noted) (u : Waiting) (xs : List Slot) (slots : List SlotState) → r ≡ is_in_range c → r ≡ true → ((slots : List SlotState) → length slots ≡ c.peers → KeepsSleepers c.clock v slots) → all_shown xs ≡ slots
-    → length slots ≡ c.peers → HoldsNoFree slots → AreLimited c.max_packet c.max_waiting slots → KeepsUnproved c.clock c.generations u slots → KeepsHost (record { peers = c.peers; clock = c.clock; generations = c.generations; max_packet = c.max_packet; max_waiting = c.max_waiting; service_from = 0; event_from = 0 }) v u xs
-keeps-fresh c r v u xs slots is go fresh e count held limited unproved =
+keeps-fresh : (c : Config) (r : Bool) (v : Noted) (f : Seating) (u : Waiting) (xs : List Slot) (slots : List SlotState) → r ≡ is_in_range c → r ≡ true → ((slots : List SlotState) → length slots ≡ c.peers → KeepsSleepers c.clock v slots) → all_shown xs ≡ slots
+    → length slots ≡ c.peers → HoldsNoFree slots → AreLimited c.max_packet c.max_waiting slots → KeepsUnproved c.clock c.generations u slots → KeepsSeats f slots → KeepsHost (record { peers = c.peers; clock = c.clock; generations = c.generations; max_packet = c.max_packet; max_waiting = c.max_waiting; service_from = 0; event_from = 0 }) v f u xs
+keeps-fresh c r v f u xs slots is go fresh e count held limited unproved seated =
     let h : (0 < c.peers) × (c.peers ≤ 4095) × (c.generations ≤ greatest) = in-range c (sym is ∙ go) in
     record {
       count = sym (length-shown xs) ∙ ap length e ∙ count;
@@ -347,20 +366,24 @@ keeps-fresh c r v u xs slots is go fresh e count held limited unproved =
       few = h.2;
       held = subst HoldsNoFree (sym e) held;
       sleeping = fresh (all_shown xs) (ap length e ∙ count);
+      seated = subst (KeepsSeats f) (sym e) seated;
       waiting = subst (KeepsUnproved c.clock c.generations u) (sym e) unproved;
       limited = subst (AreLimited c.max_packet c.max_waiting) (sym e) limited;
     }
 
-pub keeps-opened : (c : Config) (r : Bool) (v : Noted) (u : Waiting) (xs : List Slot) → r ≡ is_in_range c → r ≡ true → ((slots : List SlotState) → length slots ≡ c.peers → KeepsSleepers c.clock v slots)
-    → ((slots : List SlotState) → length slots ≡ c.peers → YieldNowhere c.generations slots → KeepsUnproved c.clock c.generations u slots) → all_shown xs ≡ replicate c.peers unused_slot
-    → KeepsHost (record { peers = c.peers; clock = c.clock; generations = c.generations; max_packet = c.max_packet; max_waiting = c.max_waiting; service_from = 0; event_from = 0 }) v u xs
-keeps-opened c r v u xs is go fresh none e =
-    keeps-fresh c r v u xs (replicate c.peers unused_slot) is go fresh e (length-replicate c.peers unused_slot) (unused-held c.peers) (unused-limited c.max_packet c.max_waiting c.peers)
+pub keeps-opened : (c : Config) (r : Bool) (v : Noted) (f : Seating) (u : Waiting) (xs : List Slot) → r ≡ is_in_range c → r ≡ true → ((slots : List SlotState) → length slots ≡ c.peers → KeepsSleepers c.clock v slots)
+    → ((slots : List SlotState) → length slots ≡ c.peers → YieldNowhere c.generations slots → KeepsUnproved c.clock c.generations u slots) → ((slots : List SlotState) → length slots ≡ c.peers → HoldNobody slots → KeepsSeats f slots) → all_shown xs ≡ replicate c.peers unused_slot
+    → KeepsHost (record { peers = c.peers; clock = c.clock; generations = c.generations; max_packet = c.max_packet; max_waiting = c.max_waiting; service_from = 0; event_from = 0 }) v f u xs
+keeps-opened c r v f u xs is go fresh none nobody e =
+    keeps-fresh c r v f u xs (replicate c.peers unused_slot) is go fresh e (length-replicate c.peers unused_slot) (unused-held c.peers) (unused-limited c.max_packet c.max_waiting c.peers)
     (none (replicate c.peers unused_slot) (length-replicate c.peers unused_slot) (unused-nowhere c.generations c.peers))
+    (nobody (replicate c.peers unused_slot) (length-replicate c.peers unused_slot) (unused-nobody c.peers))
 
-pub keeps-joined : (c : Config) (address : Addr) (r : Bool) (v : Noted) (u : Waiting) (xs : List Slot) → r ≡ is_in_range c → r ≡ true → ((slots : List SlotState) → length slots ≡ c.peers → KeepsSleepers c.clock v slots)
+pub keeps-joined : (c : Config) (address : Addr) (r : Bool) (v : Noted) (f g : Seating) (u : Waiting) (xs : List Slot) → r ≡ is_in_range c → r ≡ true → ((slots : List SlotState) → length slots ≡ c.peers → KeepsSleepers c.clock v slots)
     → ((slots : List SlotState) → length slots ≡ c.peers → YieldNowhere c.generations slots → KeepsUnproved c.clock c.generations u slots)
-    → all_shown xs ≡ joined_slots c address → KeepsHost (record { peers = c.peers; clock = c.clock; generations = c.generations; max_packet = c.max_packet; max_waiting = c.max_waiting; service_from = 0; event_from = 0 }) v u xs
-keeps-joined c address r v u xs is go fresh none e =
+    → ((slots : List SlotState) → length slots ≡ c.peers → HoldNobody slots → KeepsSeats f slots) → Enters f 0 address 0 g
+    → all_shown xs ≡ joined_slots c address → KeepsHost (record { peers = c.peers; clock = c.clock; generations = c.generations; max_packet = c.max_packet; max_waiting = c.max_waiting; service_from = 0; event_from = 0 }) v g u xs
+keeps-joined c address r v f g u xs is go fresh none nobody enters e =
     let count = length-set (replicate c.peers unused_slot) 0 (given unused_slot address (peers.joined c.clock (joined_terms c) (limits_of c))) ∙ length-replicate c.peers unused_slot in
-    keeps-fresh c r v u xs (joined_slots c address) is go fresh e count (joined-held c address) (joined-limited c address) (none (joined_slots c address) count (joined-nowhere c address))
+    keeps-fresh c r v g u xs (joined_slots c address) is go fresh e count (joined-held c address) (joined-limited c address) (none (joined_slots c address) count (joined-nowhere c address))
+    (joined-seats c address f g (nobody (replicate c.peers unused_slot) (length-replicate c.peers unused_slot) (unused-nobody c.peers)) enters)

@@ -7,6 +7,7 @@ pub mod Broadcasting
 pub mod Sleeping
 pub mod Serving
 pub mod Telling
+pub mod Seated
 pub mod Holding
 pub mod Foretold
 pub mod Moving

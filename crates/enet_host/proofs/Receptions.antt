@@ -1,5 +1,5 @@
 -- A datagram comes to a slot.
-use Rattle.std.proofs.Common.{◌≡◌, ◌≢◌, ℕ, ◌<◌, inl, inr, ◌&&◌, not, if◌then◌else◌, Bool, true, false, Option, Some, None, List, length, slice_get, slice_set, get_or, refl, sym, ap, ap₂, subst, ◌∙◌}
+use Rattle.std.proofs.Common.{◌≡◌, ◌≢◌, ℕ, ◌<◌, ◌&&◌, not, if◌then◌else◌, Bool, true, false, Option, Some, None, List, length, slice_get, slice_set, get_or, refl, sym, ap, ap₂, subst, ◌∙◌}
 use Rattle.std.specs.Prelude.{is_some}
 use Rattle.enet_codec.specs.declared.header.Header.{Header}
 use Rattle.enet_codec.specs.declared.address.Addr.{Addr}
@@ -7,16 +7,13 @@ use Rattle.enet_codec.specs.declared.command.Offer.{Offer}
 use Rattle.enet_codec.specs.declared.event.Received.{Received}
 use Rattle.enet_codec.specs.declared.stop.Stop.{Stop}
 use Rattle.enet_codec.specs.declared.stop.Stop.TheVariants as stop
-use Rattle.enet_peer.specs.declared.parts.PeerState.{PeerState}
-use Rattle.enet_peer.specs.declared.parts.PeerState.TheVariants as state
-use Rattle.enet_peer.specs.Handling.{Arrival}
 use Rattle.enet_peer.specs.Peering.{Peering}
 use Rattle.enet_peer.specs.Heading.{IsRead, IsOffer}
 use Rattle.enet_slot.specs.declared.slot.Slot.{Slot}
-use Rattle.enet_slot.specs.Slot.{SlotState, with_peer_in}
+use Rattle.enet_slot.specs.Slot.{SlotState}
 use Rattle.enet_slot.specs.Giving.{Basis, is_vacant}
 use Rattle.enet_slot.specs.Entering.{awaits}
-use Rattle.enet_slot.specs.Receiving.{IsHeardAlike, PeerReceives, is_deaf, is_same_address, fits_session, hears_in, no_peer, refused_by_slot, refused_by_peer, stopped}
+use Rattle.enet_slot.specs.Receiving.{IsHeardAlike, PeerReceives, is_deaf, is_same_address, fits_session, hears_in, no_peer, refused_by_slot, refused_by_peer}
 use Rattle.enet_host.specs.declared.credits.Credit.{Credit}
 use Rattle.enet_host.specs.Crediting.{with_came}
 use Rattle.enet_host.specs.Receiving.{Listener, Arrives, Credits, heard, is_at, is_most, refused_by, refuses_at}
@@ -27,7 +24,6 @@ use Rattle.enet_slot.specs.Slotted.{shown, all_shown}
 use Rattle.enet_slot.proofs.Shown.{get-shown, set-shown}
 use Rattle.enet_sleepers.specs.Sleeping.{Noted, KeepsSleepers, KeepsOthers}
 use Rattle.enet_sleepers.proofs.Keeping.{keeps-others}
-use Rattle.enet_host.proofs.Sleeping.{in-or-out}
 
 pub refused-in : (xs ys : List Slot) (from : Addr) (header : Header) (r a : Option Stop) → r ≡ refused_by (all_shown ys) from header → ys ≡ xs → r ≡ a
     → refused_by (all_shown xs) from header ≡ a
@@ -91,32 +87,9 @@ heard-at basis xs from bytes header commands n x y answer full read known fine e
     subst (λ (ss : List SlotState). Arrives (record { basis = basis; slots = all_shown xs }) from bytes answer ss) after
     (heard header commands (shown x) (shown y) answer read known fine there hears_it)
 
--- whatever comes to a slot, it is where it was
-same-place : (o : PeerState) (s : SlotState) (p : Peering) → (with_peer_in o s p).address ≡ s.address
-same-place state.Free s p = refl
-same-place state.Connecting s p = refl
-same-place state.Answering s p = refl
-same-place state.Connected s p = refl
-same-place state.DisconnectLater s p = refl
-same-place state.Disconnecting s p = refl
-same-place state.AckDisconnect s p = refl
-same-place state.Parting s p = refl
-same-place state.Ended s p = refl
-
-stays-placed : (a : Arrival) (commands : List ℕ) (s t : SlotState) (answer : Received) → (is_vacant s.peer ≡ false → PeerReceives a commands s answer t)
-    → (is_vacant s.peer ≡ true → (answer ≡ stopped stop.UnknownPeer) × (t ≡ s)) → t.address ≡ s.address
-stays-placed a commands s t answer hears none = elim (in-or-out (is_vacant s.peer)) [
-  | inl vacant ↦ ap (λ (x : SlotState). x.address) (none vacant).1
-  | inr held ↦ let r = hears held in ap (λ (x : SlotState). x.address) r.left ∙ same-place r.after.state s r.after
-]
-
--- so what is noted of the others stays true
-pub keeps-heard : (now n : ℕ) (v : Noted) (xs : List Slot) (x y : Slot) (a : Arrival) (commands : List ℕ) (answer : Received) → n < length xs → x ≡ get_or xs n x
-    → (is_vacant (shown x).peer ≡ false → PeerReceives a commands (shown x) answer (shown y))
-    → (is_vacant (shown x).peer ≡ true → (answer ≡ stopped stop.UnknownPeer) × (shown y ≡ shown x)) → KeepsSleepers now v (all_shown xs) → KeepsOthers now n v (all_shown (slice_set xs n y))
-keeps-heard now n v xs x y a commands answer inside is hears none k =
-    subst (KeepsOthers now n v) (sym (set-shown xs n y))
-    (keeps-others now n v (all_shown xs) (shown x) (shown y) (get-shown xs n x inside is) (stays-placed a commands (shown x) (shown y) answer hears none) k)
+-- whatever comes to a slot, what is noted of the others stays true
+pub keeps-heard : (now n : ℕ) (v : Noted) (xs : List Slot) (y : Slot) → KeepsSleepers now v (all_shown xs) → KeepsOthers now n v (all_shown (slice_set xs n y))
+keeps-heard now n v xs y k = subst (KeepsOthers now n v) (sym (set-shown xs n y)) (keeps-others now n v (all_shown xs) (shown y) k)
 
 -- ---- for which peer a datagram counts
 

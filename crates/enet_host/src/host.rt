@@ -21,7 +21,7 @@ use crate::ticking::pass_time;
 use crate::totals::Totals;
 use crate::turns::slot_after;
 use enet_codec::{Addr, Admission, Config, Event, PeerRef, Received, Refusal, Secret};
-use enet_sleepers::{Sleepers, Unproved};
+use enet_sleepers::{Seats, Sleepers, Unproved};
 use enet_slot::{Question, Slot, Start, joined_slots, set_bandwidth, unused_slots};
 use std::alloc::Global;
 use std::marker::Model;
@@ -52,6 +52,8 @@ pub struct HostCore {
     pub(crate) slots: Vec<Slot>,
     /// Which of the slots sleep.
     pub(crate) sleepers: Sleepers,
+    /// At which slot each connection may be found.
+    pub(crate) seats: Seats,
     /// Since when the peers of slots wait for their clients.
     pub(crate) unproved: Unproved,
     /// By slot, what its peer's address sent for it and got.
@@ -80,7 +82,7 @@ impl Model for HostCore {
       credits = h.credits.items;
     } };
 
-    ghost invariant = { λ h. KeepsHost (record { peers = h.start.config.peers; clock = h.start.clock; generations = h.start.config.generations; max_packet = h.start.config.max_packet; max_waiting = h.start.config.max_waiting; service_from = h.service_from; event_from = h.event_from }) h.sleepers h.unproved h.slots.items };
+    ghost invariant = { λ h. KeepsHost (record { peers = h.start.config.peers; clock = h.start.clock; generations = h.start.config.generations; max_packet = h.start.config.max_packet; max_waiting = h.start.config.max_waiting; service_from = h.service_from; event_from = h.event_from }) h.sleepers h.seats h.unproved h.slots.items };
 }
 
 impl HostCore {
@@ -94,9 +96,10 @@ impl HostCore {
         }
         let slots = unused_slots(alloc, config.peers)?;
         let sleepers = Sleepers::new(alloc, config.peers, config.clock)?;
+        let seats = Seats::new(alloc, config.peers, config.secret)?;
         let unproved = Unproved::new(alloc, config.peers, config.clock)?;
         let credits = no_credits(alloc, config.peers)?;
-        Ok(HostCore::with_slots(alloc, config, slots, sleepers, unproved, credits))
+        Ok(HostCore::with_slots(alloc, config, slots, sleepers, seats, unproved, credits))
     }
 
     /// A law: a slot has at most 4,294,967,295 generations, and none holds a peer that is free.
@@ -117,9 +120,11 @@ impl HostCore {
         }
         let slots = joined_slots(alloc, &config, address)?;
         let sleepers = Sleepers::new(alloc, config.peers, config.clock)?;
+        let mut seats = Seats::new(alloc, config.peers, config.secret)?;
+        seats.enter(0, address, 0);
         let unproved = Unproved::new(alloc, config.peers, config.clock)?;
         let credits = no_credits(alloc, config.peers)?;
-        Ok(HostCore::with_slots(alloc, config, slots, sleepers, unproved, credits))
+        Ok(HostCore::with_slots(alloc, config, slots, sleepers, seats, unproved, credits))
     }
 
     /// A host with these settings and slots, to which nothing has happened.
@@ -128,10 +133,11 @@ impl HostCore {
         config: Config,
         slots: Vec<Slot>,
         sleepers: Sleepers,
+        seats: Seats,
         unproved: Unproved,
         credits: Vec<Credit>,
     ) -> HostCore
-        requires { KeepsHost (record { peers = config.peers; clock = config.clock; generations = config.generations; max_packet = config.max_packet; max_waiting = config.max_waiting; service_from = 0; event_from = 0 }) sleepers unproved slots.items }
+        requires { KeepsHost (record { peers = config.peers; clock = config.clock; generations = config.generations; max_packet = config.max_packet; max_waiting = config.max_waiting; service_from = 0; event_from = 0 }) sleepers seats unproved slots.items }
         ensures { result ≡ record (opened config) { slots = all_shown slots.items; credits = credits.items } }
     {
         HostCore {
@@ -146,6 +152,7 @@ impl HostCore {
             totals: Totals::none(),
             slots,
             sleepers,
+            seats,
             unproved,
             credits,
         }
@@ -170,7 +177,13 @@ impl HostCore {
             info,
             word,
         };
-        connect(&mut self.slots, &mut self.sleepers, &self.start, question)
+        connect(
+            &mut self.slots,
+            &mut self.sleepers,
+            &mut self.seats,
+            &self.start,
+            question,
+        )
     }
 
     /// A datagram comes from an address. It goes to the peer of the slot that its header names, or is the offer of one who has
@@ -190,6 +203,7 @@ impl HostCore {
         receive(
             &mut self.slots,
             &mut self.sleepers,
+            &mut self.seats,
             &mut self.unproved,
             &mut self.credits,
             &self.start,
@@ -275,6 +289,7 @@ impl HostCore {
         ensures { self.new ≡ with_secret self.old secret }
     {
         self.start.config.secret = Some(secret);
+        self.seats.rekey(&self.slots, secret);
     }
 
     /// The next event of the next slot that has one: Connect first, then the packets in the order of dispatch, then Disconnect,

@@ -37,7 +37,8 @@
 //!   queued or unacknowledged.
 //!
 //! Of every host: no slot holds a peer that is free (`HostCore::keeps`). By the invariant of `HostCore` a slot that sleeps has nothing to
-//! put out or to tell, and it is noted when time brings it something (`KeepsSleepers` of `enet_sleepers`). Want of memory, of which no
+//! put out or to tell, and it is noted when time brings it something (`KeepsSleepers` of `enet_sleepers`); each peer is found by its
+//! address and connect id (`KeepsSeats`). Want of memory, of which no
 //! clause can say when it comes, changes nothing.
 //!
 //! # Only tested
@@ -50,7 +51,8 @@
 //! - That a slot which has nothing falls asleep.
 //! - That those asleep, free ones and those whose peer only waits, are looked at by no call of `service` or of those that tell events, by
 //!   `due_in` not at all, and by `tick` only where bandwidth is shared out or time brings that slot something.
-//! - That an offer looks at one of them at most, unless two of them have one mark, and at the free ones up to the one that it gets.
+//! - That an offer is compared with a few slots, those that are noted at its connection's place, and looks at no other that sleeps but the
+//!   free ones up to the one that it gets.
 //! - That an offer finds the peer that gives way without a look at each slot.
 #![tactic(auto)]
 

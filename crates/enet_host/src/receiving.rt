@@ -9,6 +9,7 @@ ghost use Rattle.enet_host.specs.Crediting.{with_came};
 ghost use Rattle.enet_slot.specs.Entering.{entered};
 ghost use Rattle.enet_slot.specs.Slot.{SlotState};
 ghost use Rattle.enet_host.specs.Private.Receiving.{is_heard, ComesAsAt, IsSeatOf, OfferCredits};
+ghost use Rattle.enet_sleepers.specs.Seating.{KeepsSeats};
 ghost use Rattle.enet_sleepers.specs.Sleeping.{KeepsSleepers};
 ghost use Rattle.enet_sleepers.specs.Unproved.{KeepsUnproved};
 ghost use Rattle.enet_slot.specs.Slotted.{all_shown};
@@ -17,7 +18,7 @@ use crate::credits::{Credit, count_came, count_offer};
 use enet_codec::{Addr, Header, MAX_CHANNELS, NO_PEER, Received, Stop};
 use enet_connect::Offer;
 use enet_peer::{read_heading, read_offer};
-use enet_sleepers::{Sleepers, Unproved};
+use enet_sleepers::{Seats, Sleepers, Unproved, seat_for};
 use enet_slot::{Seat, Slot, Start, count_entered};
 
 /// The answer to a datagram of which nothing was looked at.
@@ -105,19 +106,21 @@ pub(crate) fn oldest_seat(slots: &[Slot], unproved: &mut Unproved, start: &Start
 /// Where an offer from this address with this connect id is to go.
 fn find_seat(
     slots: &[Slot],
-    sleepers: &mut Sleepers,
+    sleepers: &Sleepers,
+    seats: &Seats,
     unproved: &mut Unproved,
     start: &Start,
     from: Addr,
     connect_id: u32,
 ) -> Seat
-    requires sleepers { KeepsSleepers start.now.clock sleepers.old (all_shown slots.now) }
+    requires sleepers { KeepsSleepers start.now.clock sleepers.now (all_shown slots.now) }
+    requires seats { KeepsSeats seats.now (all_shown slots.now) }
     requires unproved { KeepsUnproved start.now.clock start.now.config.generations unproved.old (all_shown slots.now) }
     ensures seat { IsSeatOf (basis_of start.now) from connect_id (all_shown slots.now) result }
-    ensures sleepers { KeepsSleepers start.now.clock sleepers.new (all_shown slots.now) }
     ensures unproved { KeepsUnproved start.now.clock start.now.config.generations unproved.new (all_shown slots.now) }
 {
-    match sleepers.seat_for(slots, from, connect_id, start.config.generations) {
+    let generations = start.config.generations;
+    match seat_for(slots, sleepers, seats, from, connect_id, generations) {
         Seat::Known(place) => Seat::Known(place),
         Seat::At(place) => Seat::At(place),
         Seat::Full => match oldest_seat(slots, unproved, start) {
@@ -131,6 +134,7 @@ fn find_seat(
 fn take_offer(
     slots: &mut Vec<Slot>,
     sleepers: &mut Sleepers,
+    seats: &mut Seats,
     unproved: &mut Unproved,
     credits: &mut Vec<Credit>,
     start: &Start,
@@ -141,9 +145,11 @@ fn take_offer(
     requires many { length slots.old.items ≤ 4095 }
     requires all { length slots.old.items ≡ start.now.config.peers }
     requires sleepers { KeepsSleepers start.now.clock sleepers.old (all_shown slots.old.items) }
+    requires seats { KeepsSeats seats.old (all_shown slots.old.items) }
     requires unproved { KeepsUnproved start.now.clock start.now.config.generations unproved.old (all_shown slots.old.items) }
     ensures count { length slots.new.items ≡ length slots.old.items }
     ensures sleepers { KeepsSleepers start.now.clock sleepers.new (all_shown slots.new.items) }
+    ensures seats { KeepsSeats seats.new (all_shown slots.new.items) }
     ensures unproved { KeepsUnproved start.now.clock start.now.config.generations unproved.new (all_shown slots.new.items) }
     ensures offers { Offers (record { basis = basis_of start.now; slots = all_shown slots.old.items }) from offer result (all_shown slots.new.items) }
     ensures credits { OfferCredits (record { basis = basis_of start.now; slots = all_shown slots.old.items }) from offer len result credits.old.items credits.new.items }
@@ -151,7 +157,8 @@ fn take_offer(
     if let Some(why) = offer_refused(&offer) {
         return stopped(why);
     }
-    let place = match find_seat(slots, sleepers, unproved, start, from, offer.connect_id) {
+    let word = offer.connect_id;
+    let place = match find_seat(slots, sleepers, seats, unproved, start, from, word) {
         Seat::Known(place) => {
             count_offer(credits, place, true, len);
             return HANDLED_ONE;
@@ -166,6 +173,7 @@ fn take_offer(
     match slot.answer(start, place as u16, from, offer) {
         Ok(()) => {
             unproved.note(place);
+            seats.enter(place, from, word);
             count_offer(credits, place, false, len);
             HANDLED_ONE
         }
@@ -214,6 +222,7 @@ fn refuses_by(slots: &[Slot], start: &Start, number: usize, commands: &[u8]) -> 
 pub(crate) fn receive(
     slots: &mut Vec<Slot>,
     sleepers: &mut Sleepers,
+    seats: &mut Seats,
     unproved: &mut Unproved,
     credits: &mut Vec<Credit>,
     start: &Start,
@@ -223,9 +232,11 @@ pub(crate) fn receive(
     requires many { length slots.old.items ≤ 4095 }
     requires all { length slots.old.items ≡ start.now.config.peers }
     requires sleepers { KeepsSleepers start.now.clock sleepers.old (all_shown slots.old.items) }
+    requires seats { KeepsSeats seats.old (all_shown slots.old.items) }
     requires unproved { KeepsUnproved start.now.clock start.now.config.generations unproved.old (all_shown slots.old.items) }
     ensures count { length slots.new.items ≡ length slots.old.items }
     ensures sleepers { KeepsSleepers start.now.clock sleepers.new (all_shown slots.new.items) }
+    ensures seats { KeepsSeats seats.new (all_shown slots.new.items) }
     ensures unproved { KeepsUnproved start.now.clock start.now.config.generations unproved.new (all_shown slots.new.items) }
     ensures arrives { Arrives (record { basis = basis_of start.now; slots = all_shown slots.old.items }) from bytes.now result (all_shown slots.new.items) }
     ensures credits { Credits (record { basis = basis_of start.now; slots = all_shown slots.old.items }) from bytes.now result credits.old.items credits.new.items }
@@ -239,6 +250,7 @@ pub(crate) fn receive(
             Some(offer) => take_offer(
                 slots,
                 sleepers,
+                seats,
                 unproved,
                 credits,
                 start,

@@ -4,7 +4,6 @@ use Rattle.std.specs.Option.{option_map}
 use Rattle.std.proofs.lemmas.Bool.{cases_eq, cases_lt}
 use Rattle.std.proofs.lemmas.List.{get_or-set_other, get_or-set_same, get_or_past, get_or-replicate, length-set, length-map, length-replicate}
 use Rattle.std.proofs.lemmas.Option.{slice_get_within, slice_get-get_or, slice_get_read, get_or_from_slice_get, slice_get-map}
-use Rattle.enet_codec.specs.declared.address.Addr.{Addr}
 use Rattle.enet_deadlines.specs.Clock.{HappensAt}
 use Rattle.enet_deadlines.specs.Moments.{IsAt}
 use Rattle.enet_deadlines.specs.Sets.{IsIn, IsOut}
@@ -12,7 +11,6 @@ use Rattle.enet_peer.specs.Peering.{Peering}
 use Rattle.enet_slot.specs.Slot.{SlotState, is_due}
 use Rattle.enet_slot.specs.Giving.{is_vacant}
 use Rattle.enet_slot.specs.Waiting.{waits_in, Waits}
-use Rattle.enet_sleepers.specs.Marks.{mark_of, Names}
 use Rattle.enet_sleepers.specs.Sleeping.{Noted, Sleeps, KeepsSleepers, KeepsOthers, woken, Wakes}
 use Rattle.enet_sleepers.specs.Private.Sleepers.{AllIn}
 
@@ -27,7 +25,7 @@ get-set-other xs i j y t other h =
     let len = length-set xs i y in
     slice_get_read xs (length xs) j t refl (omega (arith, within, len)) (sym read ∙ get_or-set_other xs i j y t other)
 
-get-set-same : (xs : List SlotState) (i : ℕ) (y t : SlotState) → i < length xs → slice_get (slice_set xs i y) i ≡ Some t → y ≡ t
+pub get-set-same : (xs : List SlotState) (i : ℕ) (y t : SlotState) → i < length xs → slice_get (slice_set xs i y) i ≡ Some t → y ≡ t
 get-set-same xs i y t inside h = sym (get_or-set_same xs i y t inside) ∙ get_or_from_slice_get (slice_set xs i y) i t t h
 
 -- it sleeps
@@ -37,14 +35,13 @@ sleeps-waits v i s (inr held) = held.waits
 
 -- as much is noted of a slot as before
 pub sleeps-still : (v w : Noted) (i : ℕ) (s : SlotState) → get_or w.free i false ≡ get_or v.free i false → get_or w.due i None ≡ get_or v.due i None → w.clock ≡ v.clock
-    → (IsOut v.free i → Names (mark_of v.marks s.address) i → Names (mark_of w.marks s.address) i) → Sleeps v i s → Sleeps w i s
-sleeps-still v w i s free due clock marks (inl f) = inl (record { empty = f.empty; listed = free ∙ f.listed; never = due ∙ f.never })
-sleeps-still v w i s free due clock marks (inr h) =
+    → Sleeps v i s → Sleeps w i s
+sleeps-still v w i s free due clock (inl f) = inl (record { empty = f.empty; listed = free ∙ f.listed; never = due ∙ f.never })
+sleeps-still v w i s free due clock (inr h) =
     inr (record {
       waits = h.waits;
       held = h.held;
       unlisted = free ∙ h.unlisted;
-      marked = marks h.unlisted h.marked;
       moment = h.moment;
       at = due ∙ h.at;
       ahead = subst (λ (n : ℕ). n < h.moment) (sym clock) h.ahead;
@@ -56,17 +53,12 @@ out-in : (set : List Bool) (i : ℕ) → IsOut set i → IsIn set i → ⊥
 out-in set i out is = let x : false ≡ true = sym out ∙ is in absurd (cc)
 
 -- what is true of all is so of all but one
-sleeps-marked : (v : Noted) (i : ℕ) (s : SlotState) → IsOut v.free i → Sleeps v i s → Names (mark_of v.marks s.address) i
-sleeps-marked v i s unlisted (inl f) = absurd (out-in v.free i unlisted f.listed)
-sleeps-marked v i s unlisted (inr h) = h.marked
-
 keeps-rest : (now n : ℕ) (v : Noted) (slots : List SlotState) → KeepsSleepers now v slots → KeepsOthers now n v slots
 keeps-rest now n v slots k = record {
   count = k.count;
   shown = k.shown;
   blank = k.blank;
   asleep = λ i s other there out. k.asleep i s there out;
-  marked = λ s there out unlisted. sleeps-marked v n s unlisted (k.asleep n s there out);
 }
 
 -- one to which something came is woken
@@ -89,7 +81,7 @@ keeps-risen now n v slots inside free due k = record {
         let is : get_or (slice_set v.awake n true) i false ≡ true = ap (λ (j : ℕ). get_or (slice_set v.awake n true) j false) same ∙ get_or-set_same v.awake n true false inside in
         absurd (out-in (slice_set v.awake n true) i out is)
     | inr other ↦
-        sleeps-still v (woken v n) i s (get_or-set_other v.free n i false false other) (get_or-set_other v.due n i None None other) refl (λ unlisted names. names)
+        sleeps-still v (woken v n) i s (get_or-set_other v.free n i false false other) (get_or-set_other v.due n i None None other) refl
         (k.asleep i s other there (sym (get_or-set_other v.awake n i true false other) ∙ out))
   ];
 }
@@ -119,14 +111,13 @@ keeps-on now n moment v slots s inside size here waits held asleep unlisted ahea
               waits = waits;
               held = held;
               unlisted = subst (IsOut v.free) (sym same) unlisted;
-              marked = subst (Names (mark_of v.marks s.address)) (sym same) (k.marked s here asleep unlisted);
               moment = moment;
               at = ap (λ (j : ℕ). get_or (slice_set v.due n (Some moment)) j None) same ∙ get_or-set_same v.due n (Some moment) None (omega (arith, inside, size));
               ahead = ahead;
               near = near;
               due = due;
             }))
-        | inr other ↦ sleeps-still v w i t refl (get_or-set_other v.due n i (Some moment) None other) refl (λ unlisted names. names) (k.asleep i t other there out)
+        | inr other ↦ sleeps-still v w i t refl (get_or-set_other v.due n i (Some moment) None other) refl (k.asleep i t other there out)
       ];
     }
 
@@ -138,7 +129,6 @@ sleeps-later v clock i s later none (inr h) =
       waits = h.waits;
       held = h.held;
       unlisted = h.unlisted;
-      marked = h.marked;
       moment = h.moment;
       at = h.at;
       ahead = none i h.moment h.at;
@@ -189,21 +179,18 @@ keeps-free now n v slots s inside free here empty awake k =
               never = ap (λ (j : ℕ). get_or v.due j None) same ∙ (k.blank n awake).1;
             })
         | inr other ↦
-            sleeps-still v w i t (get_or-set_other v.free n i true false other) refl refl (λ unlisted names. names)
+            sleeps-still v w i t (get_or-set_other v.free n i true false other) refl refl
             (k.asleep i t there (sym (get_or-set_other v.awake n i false false other) ∙ out))
       ];
     }
 
 -- one that holds a peer does
-pub keeps-held : (now n moment : ℕ) (v w : Noted) (slots : List SlotState) (s : SlotState) → n < length v.awake → length v.due ≡ length v.awake → slice_get slots n ≡ Some s
-    → w ≡ record v { awake = slice_set v.awake n false; due = slice_set v.due n (Some moment); marks = w.marks }
+pub keeps-held : (now n moment : ℕ) (v : Noted) (slots : List SlotState) (s : SlotState) → n < length v.awake → length v.due ≡ length v.awake → slice_get slots n ≡ Some s
     → Waits s → is_vacant s.peer ≡ false → IsIn v.awake n → v.clock < moment → moment < v.clock + 4294967295 → HappensAt (λ (t : ℕ). is_due t s) v.clock moment
-    → Names (mark_of w.marks s.address) n
-    → ((i : ℕ) (t : SlotState) → slice_get slots i ≡ Some t → IsOut v.awake i → IsOut v.free i → Names (mark_of v.marks t.address) i → Names (mark_of w.marks t.address) i)
-    → KeepsSleepers now v slots → KeepsSleepers now w slots
-keeps-held now n moment v w slots s inside size here is_w waits held awake ahead near due named kept k =
-    let u : Noted = record v { awake = slice_set v.awake n false; due = slice_set v.due n (Some moment); marks = w.marks } in
-    subst (λ (x : Noted). KeepsSleepers now x slots) (sym is_w) (record {
+    → KeepsSleepers now v slots → KeepsSleepers now (record v { awake = slice_set v.awake n false; due = slice_set v.due n (Some moment) }) slots
+keeps-held now n moment v slots s inside size here waits held awake ahead near due k =
+    let u : Noted = record v { awake = slice_set v.awake n false; due = slice_set v.due n (Some moment) } in
+    record {
       count = length-set v.awake n false ∙ k.count;
       shown = k.shown;
       blank = λ i is. elim (cases_eq i n) [
@@ -221,7 +208,6 @@ keeps-held now n moment v w slots s inside size here is_w waits held awake ahead
               waits = waits;
               held = held;
               unlisted = ap (λ (j : ℕ). get_or v.free j false) same ∙ (k.blank n awake).0;
-              marked = subst (Names (mark_of w.marks s.address)) (sym same) named;
               moment = moment;
               at = ap (λ (j : ℕ). get_or (slice_set v.due n (Some moment)) j None) same ∙ get_or-set_same v.due n (Some moment) None (omega (arith, inside, size));
               ahead = ahead;
@@ -230,9 +216,9 @@ keeps-held now n moment v w slots s inside size here is_w waits held awake ahead
             }))
         | inr other ↦
             let slept : IsOut v.awake i = sym (get_or-set_other v.awake n i false false other) ∙ out in
-            sleeps-still v u i t refl (get_or-set_other v.due n i (Some moment) None other) refl (kept i t there slept) (k.asleep i t there slept)
+            sleeps-still v u i t refl (get_or-set_other v.due n i (Some moment) None other) refl (k.asleep i t there slept)
       ];
-    })
+    }
 
 -- a slot that is awake may change
 pub keeps-set : (now i : ℕ) (v : Noted) (slots : List SlotState) (t : SlotState) → (i < length slots → IsIn v.awake i) → KeepsSleepers now v slots → KeepsSleepers now v (slice_set slots i t)
@@ -249,16 +235,13 @@ keeps-set now i v slots t awake k = record {
 }
 
 -- where something comes to slot i, so it is of all others
-pub keeps-others : (now i : ℕ) (v : Noted) (slots : List SlotState) (s t : SlotState) → slice_get slots i ≡ Some s → t.address ≡ s.address → KeepsSleepers now v slots
+pub keeps-others : (now i : ℕ) (v : Noted) (slots : List SlotState) (t : SlotState) → KeepsSleepers now v slots
     → KeepsOthers now i v (slice_set slots i t)
-keeps-others now i v slots s t here same k = record {
+keeps-others now i v slots t k = record {
   count = k.count ∙ sym (length-set slots i t);
   shown = k.shown;
   blank = k.blank;
   asleep = λ j u other there out. k.asleep j u (get-set-other slots i j t u other there) out;
-  marked = λ u there out unlisted.
-      let is : t ≡ u = get-set-same slots i t u (slice_get_within slots i s here) there in
-      subst (λ (a : Addr). Names (mark_of v.marks a) i) (sym same ∙ ap (λ (x : SlotState). x.address) is) (sleeps-marked v i s unlisted (k.asleep i s here out));
 }
 
 -- all may, if those that sleep do so afterwards
@@ -355,16 +338,3 @@ keeps-fresh now n v slots size free due shown all count = record {
 -- a slot that is awake is there
 pub in-inside : (set : List Bool) (i : ℕ) → IsIn set i → i < length set
 in-inside set i is = elim (cases_lt i (length set)) [ inl inside ↦ inside | inr past ↦ absurd (out-in set i (get_or_past set i false past) is) ]
-
--- marks that still name those that sleep
-pub keeps-marked : (now : ℕ) (v w : Noted) (slots : List SlotState) → w ≡ record v { marks = w.marks }
-    → ((i : ℕ) (s : SlotState) → slice_get slots i ≡ Some s → IsOut v.awake i → IsOut v.free i → Names (mark_of v.marks s.address) i → Names (mark_of w.marks s.address) i)
-    → KeepsSleepers now v slots → KeepsSleepers now w slots
-keeps-marked now v w slots is kept k =
-    let u : Noted = record v { marks = w.marks } in
-    subst (λ (x : Noted). KeepsSleepers now x slots) (sym is) (record {
-      count = k.count;
-      shown = k.shown;
-      blank = k.blank;
-      asleep = λ i s there out. sleeps-still v u i s refl refl refl (kept i s there out) (k.asleep i s there out);
-    })

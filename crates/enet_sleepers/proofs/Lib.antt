@@ -1,6 +1,6 @@
 pub mod Keeping
 pub mod Dueness
-pub mod Marking
+pub mod Found
 pub mod Offered
 pub mod Waited
 pub mod Anew

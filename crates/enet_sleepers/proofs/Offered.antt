@@ -1,29 +1,24 @@
 -- Where an offer is to go.
-use Rattle.std.proofs.Common.{◌≡◌, ℕ, ◌+◌, ◌<◌, ◌≤◌, ◌⊎◌, inl, inr, Bool, true, false, ◌&&◌, nat_lt, cond, ltb, Option, Some, None, IfNone, IfSome, List, length, get_or, refl, sym, ap, subst, ◌∙◌, arith}
-use Rattle.std.specs.List.{list_any, position, position_or_len}
+use Rattle.std.proofs.Common.{◌≡◌, ℕ, ◌+◌, ◌<◌, ◌≤◌, inl, inr, Bool, true, false, ◌&&◌, nat_lt, cond, ltb, Some, None, List, length, get_or, sym, ap, subst, ◌∙◌, arith}
+use Rattle.std.specs.List.{position, position_or_len}
 use Rattle.std.proofs.lemmas.Bool.{lt-ltb, le-ltb, cases_lt}
-use Rattle.std.proofs.lemmas.Bool.Decides.{nat_tests}
-use Rattle.std.proofs.lemmas.List.{get_or-map, get_or_default, get_or_past}
-use Rattle.std.proofs.lemmas.List.Sums.{position_or_len_is, fails_before_first}
-use Rattle.std.proofs.lemmas.List.Folds.{list_any_at, list_any_none}
-use Rattle.std.proofs.lemmas.List.Quantifiers.{position-Some}
+use Rattle.std.proofs.lemmas.List.{get_or-map, get_or_past}
+use Rattle.std.proofs.lemmas.List.Sums.{position_or_len_is}
+use Rattle.std.proofs.lemmas.List.Folds.{list_any_at}
 use Rattle.std.proofs.lemmas.Option.{slice_get-get_or, get_or_from_slice_get}
 use Rattle.enet_codec.specs.declared.address.Addr.{Addr}
 use Rattle.enet_deadlines.specs.Sets.{IsIn, IsOut}
-use Rattle.enet_peer.specs.Peering.{Peering}
 use Rattle.enet_slot.specs.declared.slot.Slot.{Slot}
 use Rattle.enet_slot.specs.Slot.{SlotState}
 use Rattle.enet_slot.specs.Giving.{unused_slot, is_vacant, is_available}
-use Rattle.enet_slot.specs.Receiving.{is_connection, is_connection_in}
+use Rattle.enet_slot.specs.Receiving.{is_connection}
 use Rattle.enet_slot.specs.declared.all.Seat.TheVariants.{Known}
 use Rattle.enet_slot.specs.Seating.{IsSeat}
 use Rattle.enet_slot.specs.Slotted.{shown, all_shown}
-use Rattle.enet_sleepers.specs.declared.marks.Mark.{Mark}
-use Rattle.enet_sleepers.specs.Marks.{mark_of, Names}
 use Rattle.enet_sleepers.specs.Sleeping.{Noted, KeepsSleepers}
-use Rattle.enet_sleepers.specs.Private.Sleepers.{NoneOf, KnownAt, KnownNowhere}
+use Rattle.enet_sleepers.specs.Private.Seating.{KnownAt}
+use Rattle.enet_sleepers.specs.Private.Sleepers.{NoneOf}
 use Rattle.enet_sleepers.proofs.Dueness.{in-or-out}
-use Rattle.enet_sleepers.proofs.Marking.{unmarked-unknown}
 
 -- the first of all slots that can be given out
 first-at : (generations : ℕ) (slots : List SlotState) (i : ℕ) → i < length slots → is_available generations (get_or slots i unused_slot) ≡ true
@@ -90,28 +85,7 @@ found generations first last slots within inside awake free none =
           subst (λ (j : ℕ). is_available generations (get_or slots j unused_slot) ≡ true) (sym same) (free (omega (arith, inside, same)))
     ]) none
 
--- no slot holds the connection of an offer
-pub known-nowhere : (now : ℕ) (from : Addr) (word : ℕ) (m : Mark) (v : Noted) (slots : List SlotState) → KeepsSleepers now v slots → mark_of v.marks from ≡ m
-    → KnownNowhere from word slots v.awake → ((i : ℕ) → Names m i → is_connection from word (get_or slots i unused_slot) ≡ false) → list_any (is_connection from word) slots ≡ false
-known-nowhere now from word m v slots k is awake named =
-    list_any_none (is_connection from word) slots (λ i d inside.
-    ap (is_connection from word) (get_or_default slots i d unused_slot inside)
-    ∙ elim (in-or-out (get_or v.awake i false)) [
-      | inl at ↦ awake i at
-      | inr out ↦ elim (k.asleep i (get_or slots i unused_slot) (slice_get-get_or slots i unused_slot inside) out) [
-        | inl f ↦ ap (λ (o : Option Peering). is_connection_in (get_or slots i unused_slot) from word o) f.empty
-        | inr h ↦ by-mark i h.marked (in-or-out (is_connection from word (get_or slots i unused_slot)))
-      ]
-    ])
-  where
-    by-mark : (i : ℕ) → Names (mark_of v.marks (get_or slots i unused_slot).address) i
-        → (is_connection from word (get_or slots i unused_slot) ≡ true) ⊎ (is_connection from word (get_or slots i unused_slot) ≡ false) → is_connection from word (get_or slots i unused_slot) ≡ false
-    by-mark i marked (inl yes_it_is) =
-        unmarked-unknown v.marks (get_or slots i unused_slot) from word i (λ held. marked)
-        (λ names. let no_it_is = named i (subst (λ (x : Mark). Names x i) is names) in let x : true ≡ false = sym yes_it_is ∙ no_it_is in absurd (cc))
-    by-mark i marked (inr not_it) = not_it
-
--- none of those that are awake is known
+-- none of a set is known
 pub nowhere-passed : (from : Addr) (word place to : ℕ) (slots : List SlotState) (set : List Bool) → ((i : ℕ) → place ≤ i → i < to → IsOut set i)
     → ((i : ℕ) → i < place → IsIn set i → is_connection from word (get_or slots i unused_slot) ≡ false)
     → (i : ℕ) → i < to → IsIn set i → is_connection from word (get_or slots i unused_slot) ≡ false
@@ -130,34 +104,12 @@ nowhere-more from word place slots set s is other none = λ i low inside. elim (
       ap (λ (j : ℕ). is_connection from word (get_or slots j unused_slot)) same ∙ ap (is_connection from word) is ∙ other
 ]
 
--- what a search that found nothing says
-pub none-then : {X P Q : Type 0} (r : Option X) → (P → Q) → IfNone r P → IfNone r Q
-none-then None then none = then none
-none-then (Some x) then none = tt
-
--- the slot that a mark names may hold it
+-- one that is known is there
 pub known-named : (from : Addr) (word number : ℕ) (slots : List SlotState) → is_connection from word (get_or slots number unused_slot) ≡ true → KnownAt from word slots number
 known-named from word number slots is = elim (cases_lt number (length slots)) [
   | inl inside ↦ (inside, is)
   | inr past ↦ let x : false ≡ true = sym (ap (is_connection from word) (get_or_past slots number unused_slot past)) ∙ is in absurd (cc)
 ]
-
--- or the first of all does, if one does
-pub known-first : (from : Addr) (word : ℕ) (slots : List SlotState) (r : Option ℕ) → r ≡ position (is_connection from word) slots → IfSome r (λ i. KnownAt from word slots i)
-known-first from word slots None e = tt
-known-first from word slots (Some i) e = let h = position-Some (is_connection from word) slots i unused_slot (sym e) in (h.0, h.1)
-
-past-all : (b : Bool) (n len : ℕ) → ltb n len ≡ b → cond b (Some n) None ≡ None → len ≤ n
-past-all true n len e none = absurd (cc)
-past-all false n len e none = grind (arith, nat_tests, e)
-
-pub known-none : (from : Addr) (word : ℕ) (slots : List SlotState) (r : Option ℕ) → r ≡ position (is_connection from word) slots → IfNone r (list_any (is_connection from word) slots ≡ false)
-known-none from word slots (Some i) e = tt
-known-none from word slots None e =
-    let p = is_connection from word in
-    let n = position_or_len p slots in
-    let past : length slots ≤ n = past-all (ltb n (length slots)) n (length slots) refl (sym e) in
-    list_any_none p slots (λ i d inside. fails_before_first p slots i d (omega (arith, inside, past)))
 
 -- where it is known an offer is to go there
 pub seat-known : (from : Addr) (word generations i : ℕ) (slots : List SlotState) → KnownAt from word slots i → IsSeat from word generations slots (Known i)

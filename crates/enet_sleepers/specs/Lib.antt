@@ -1,4 +1,5 @@
-pub mod Marks
+pub mod Places
+pub mod Seating
 pub mod Sleeping
 pub mod Soon
 pub mod Unproved

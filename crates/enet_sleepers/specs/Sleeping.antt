@@ -6,15 +6,12 @@ use Rattle.enet_deadlines.specs.Sets.{IsIn, IsOut}
 use Rattle.enet_slot.specs.Slot.{SlotState, is_due}
 use Rattle.enet_slot.specs.Giving.{is_vacant}
 use Rattle.enet_slot.specs.Waiting.{Waits}
-use Rattle.enet_sleepers.specs.declared.marks.Mark.{Mark}
-use Rattle.enet_sleepers.specs.Marks.{mark_of, Names}
 
 -- what is noted of the slots of a host
 pub record Noted : Type 0 where
   pub awake : List Bool  -- which are awake; the others sleep
   pub free : List Bool  -- which of those that sleep are free
   pub due : List (Option ℕ)  -- when time brings those that sleep and hold a peer something, on a clock that doesn't wrap
-  pub marks : List Mark  -- where these may be
   pub clock : ℕ  -- that clock
 
 -- as much is noted of each slot, and there are few of them; the clock is far from the end of its numbers
@@ -35,7 +32,6 @@ pub record SleepsHeld (v : Noted) (i : ℕ) (s : SlotState) : Type 0 where
   pub waits : Waits s
   pub held : is_vacant s.peer ≡ false
   pub unlisted : IsOut v.free i
-  pub marked : Names (mark_of v.marks s.address) i
   pub moment : ℕ
   pub at : IsAt v.due i moment
   pub ahead : v.clock < moment
@@ -52,13 +48,12 @@ pub record KeepsSleepers (now : ℕ) (v : Noted) (slots : List SlotState) : Type
   pub blank : (i : ℕ) → IsIn v.awake i → IsOut v.free i × (slice_index_or v.due i None ≡ None)
   pub asleep : (i : ℕ) (s : SlotState) → slice_get slots i ≡ Some s → IsOut v.awake i → Sleeps v i s
 
--- So it is of all slots but n, to which something came: if it slept, it is where it was.
+-- So it is of all slots but n, to which something came.
 pub record KeepsOthers (now n : ℕ) (v : Noted) (slots : List SlotState) : Type 0 where
   pub count : length v.awake ≡ length slots
   pub shown : v.clock % 2 ^ 32 ≡ now
   pub blank : (i : ℕ) → IsIn v.awake i → IsOut v.free i × (slice_index_or v.due i None ≡ None)
   pub asleep : (i : ℕ) (s : SlotState) → i ≢ n → slice_get slots i ≡ Some s → IsOut v.awake i → Sleeps v i s
-  pub marked : (s : SlotState) → slice_get slots n ≡ Some s → IsOut v.awake n → IsOut v.free n → Names (mark_of v.marks s.address) n
 
 -- slot i is awake from now on
 abbrev pub woken : Noted → ℕ → Noted

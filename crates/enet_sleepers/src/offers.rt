@@ -1,18 +1,18 @@
 //! Which slot an offer is to go to.
 
-ghost use Rattle.std.specs.Prelude.{◌≡◌, ℕ, ◌<◌, ◌≤◌, true, false, length, get_or, IfNone, IfSome};
-ghost use Rattle.std.specs.List.{list_any, position};
+ghost use Rattle.std.specs.Prelude.{◌≡◌, ℕ, ◌<◌, ◌≤◌, true, length, get_or, IfSome};
+ghost use Rattle.std.specs.List.{position};
 ghost use Rattle.enet_slot.specs.Giving.{unused_slot, is_available};
-ghost use Rattle.enet_slot.specs.Receiving.{is_connection};
 ghost use Rattle.enet_slot.specs.Seating.{IsSeat};
 ghost use Rattle.enet_slot.specs.Slotted.{all_shown};
 ghost use Rattle.enet_sleepers.specs.Sleeping.{KeepsSleepers};
-ghost use Rattle.enet_sleepers.specs.Private.Sleepers.{NoneOf, KnownAt, KnownNowhere};
+ghost use Rattle.enet_sleepers.specs.Seating.{KeepsSeats};
+ghost use Rattle.enet_sleepers.specs.Private.Sleepers.{NoneOf};
 
-use crate::marks::{Mark, mark_of};
+use crate::seats::Seats;
 use crate::sleepers::Sleepers;
 use enet_codec::Addr;
-use enet_slot::{Seat, Slot, position_of_connection};
+use enet_slot::{Seat, Slot};
 
 impl Sleepers {
     /// The first slot that is free and has a generation left of so many. Of those that sleep the free ones alone are looked at, up to it.
@@ -71,74 +71,26 @@ impl Sleepers {
         }
         last
     }
-
-    /// A slot that holds a connection with this address and connect id, which takes something in. Of those that sleep mostly one at
-    /// most is looked at: all are where two of them have the same mark.
-    fn known_at(&self, slots: &[Slot], from: Addr, connect_id: u32) -> Option<usize>
-        requires { (now : ℕ) × KeepsSleepers now self.now (all_shown slots.now) }
-        ensures found { IfSome result (λ i. KnownAt from connect_id (all_shown slots.now) i) }
-        ensures none { IfNone result (list_any (is_connection from connect_id) (all_shown slots.now) ≡ false) }
-    {
-        match mark_of(&self.marks, from) {
-            Mark::Nobody => self.awake_known_at(slots, from, connect_id),
-            Mark::One(number) => {
-                let number = usize::from(number);
-                if slot_knows(slots, number, from, connect_id) {
-                    Some(number)
-                } else {
-                    self.awake_known_at(slots, from, connect_id)
-                }
-            }
-            Mark::Several => position_of_connection(slots, from, connect_id),
-        }
-    }
-
-    /// The same of those that are awake.
-    fn awake_known_at(&self, slots: &[Slot], from: Addr, connect_id: u32) -> Option<usize>
-        requires { (now : ℕ) × KeepsSleepers now self.now (all_shown slots.now) }
-        ensures found { IfSome result (λ i. KnownAt from connect_id (all_shown slots.now) i) }
-        ensures none { IfNone result (KnownNowhere from connect_id (all_shown slots.now) self.now.awake) }
-    {
-        let mut place = 0;
-        while place < slots.len() {
-            let number = self.next_awake(place)?;
-            if slots[number].is_connection(from, connect_id) {
-                return Some(number);
-            }
-            place = number + 1;
-        }
-        None
-    }
-
-    /// Where an offer from this address with this connect id is to go, if so many generations are allowed.
-    pub fn seat_for(
-        &mut self,
-        slots: &[Slot],
-        from: Addr,
-        connect_id: u32,
-        generations: u32,
-    ) -> Seat
-        requires { (now : ℕ) × KeepsSleepers now self.old (all_shown slots.now) }
-        ensures seat { IsSeat from connect_id generations (all_shown slots.now) result }
-        ensures kept { (now : ℕ) → KeepsSleepers now self.old (all_shown slots.now) → KeepsSleepers now self.new (all_shown slots.now) }
-    {
-        self.sift(slots, from);
-        if let Some(place) = self.known_at(slots, from, connect_id) {
-            return Seat::Known(place);
-        }
-        match self.first_available(slots, generations) {
-            Some(place) => Seat::At(place),
-            None => Seat::Full,
-        }
-    }
 }
 
-/// The same of the slot of this number, if there is one.
-fn slot_knows(slots: &[Slot], number: usize, from: Addr, connect_id: u32) -> bool
-    ensures { result ≡ is_connection from connect_id (get_or (all_shown slots.now) number unused_slot) }
+/// Where an offer from this address with this connect id is to go, if so many generations are allowed.
+pub fn seat_for(
+    slots: &[Slot],
+    sleepers: &Sleepers,
+    seats: &Seats,
+    from: Addr,
+    connect_id: u32,
+    generations: u32,
+) -> Seat
+    requires sleepers { (now : ℕ) × KeepsSleepers now sleepers.now (all_shown slots.now) }
+    requires seats { KeepsSeats seats.now (all_shown slots.now) }
+    ensures { IsSeat from connect_id generations (all_shown slots.now) result }
 {
-    match slots.get(number) {
-        Some(slot) => slot.is_connection(from, connect_id),
-        None => false,
+    if let Some(place) = seats.known_at(slots, from, connect_id) {
+        return Seat::Known(place);
+    }
+    match sleepers.first_available(slots, generations) {
+        Some(place) => Seat::At(place),
+        None => Seat::Full,
     }
 }

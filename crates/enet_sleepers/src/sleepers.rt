@@ -7,10 +7,8 @@ ghost use Rattle.enet_slot.specs.Slot.{SlotState};
 ghost use Rattle.enet_slot.specs.Slotted.{all_shown};
 ghost use Rattle.enet_sleepers.specs.Sleeping.{KeepsSleepers, KeepsOthers, woken, Wakes};
 ghost use Rattle.enet_sleepers.specs.Private.Sleepers.{AllIn};
-ghost use Rattle.enet_sleepers.specs.Marks.{place_of, mark_of, Names};
 
-use crate::marks::{MARKS_A_SLOT, Mark, place_of};
-use enet_codec::{Addr, Refusal};
+use enet_codec::Refusal;
 use enet_deadlines::{Deadlines, Places, moment_at, moments_are_right};
 use enet_slot::Slot;
 use std::alloc::Global;
@@ -34,8 +32,6 @@ pub struct Sleepers {
     pub(crate) free: Places,
     /// When time brings the others something.
     pub(crate) due: Deadlines,
-    /// Where these are.
-    pub(crate) marks: Vec<Mark>,
     /// The host's clock as it was last told, on a clock that doesn't wrap.
     pub(crate) clock: u64,
     /// How often slots may still fall asleep by `rest`, or sleep on by `hear`, before the clock goes on.
@@ -47,9 +43,9 @@ impl Model for Sleepers {
 
     ghost Value = { Noted };
 
-    ghost view = { λ s. record { awake = s.awake; free = s.free; due = s.due; marks = s.marks.items; clock = s.clock } };
+    ghost view = { λ s. record { awake = s.awake; free = s.free; due = s.due; clock = s.clock } };
 
-    ghost invariant = { λ s. IsWhole (record { awake = s.awake; free = s.free; due = s.due; marks = s.marks.items; clock = s.clock }) };
+    ghost invariant = { λ s. IsWhole (record { awake = s.awake; free = s.free; due = s.due; clock = s.clock }) };
 }
 
 /// From now on all places are in the set.
@@ -77,15 +73,11 @@ impl Sleepers {
         let Ok(due) = Deadlines::new(alloc, u32::from(peers)) else {
             return Err(Refusal::Memory);
         };
-        let Ok(marks) = vec![in alloc; Mark::Nobody; usize::from(peers) * MARKS_A_SLOT] else {
-            return Err(Refusal::Memory);
-        };
         insert_all(&mut awake);
         Ok(Sleepers {
             awake,
             free,
             due,
-            marks,
             clock: u64::from(now),
             naps: 0,
         })
@@ -271,94 +263,8 @@ impl Sleepers {
         moments_are_right();
         let wait = slots[number].due_in(now);
         if wait > 0 && wait < u32::MAX {
-            self.mark(slots, number);
             self.due.set(number, self.clock + u64::from(wait));
             self.awake.remove(number);
-        }
-    }
-
-    /// The slot of this number, which holds a peer, may be found by its peer's address from now on.
-    fn mark(&mut self, slots: &[Slot], number: usize)
-        requires number { number < length self.old.awake }
-        requires within { number < length slots.now }
-        ensures others { self.new ≡ record self.old { marks = self.new.marks } }
-        ensures named { (s : SlotState) → slice_get (all_shown slots.now) number ≡ Some s → Names (mark_of self.new.marks s.address) number }
-        ensures kept { (i : ℕ) (s : SlotState) → slice_get (all_shown slots.now) i ≡ Some s → IsOut self.old.awake i → IsOut self.old.free i
-            → Names (mark_of self.old.marks s.address) i → Names (mark_of self.new.marks s.address) i }
-    {
-        let place = place_of(self.marks.len(), slots[number].address());
-        if place < self.marks.len() {
-            let mark = self.mark_at(slots, place);
-            self.marks[place] = mark.with(number as u16);
-        }
-    }
-
-    /// The mark at this place. One that names a slot alone is gone over: it is that of nobody unless that slot still sleeps there.
-    fn mark_at(&self, slots: &[Slot], place: usize) -> Mark
-        requires { place < length self.now.marks }
-        ensures { (i : ℕ) (s : SlotState) → slice_get (all_shown slots.now) i ≡ Some s → IsOut self.now.awake i → IsOut self.now.free i
-            → place_of (length self.now.marks) s.address ≡ place → Names (mark_of self.now.marks s.address) i → Names result i }
-    {
-        let mark = self.marks[place];
-        if let Mark::One(number) = mark {
-            if !self.is_placed(slots, usize::from(number), place) {
-                return Mark::Nobody;
-            }
-        }
-        mark
-    }
-
-    /// The mark of this address is gone over if it stands for several: by the slots that sleep now.
-    pub(crate) fn sift(&mut self, slots: &[Slot], address: Addr)
-        requires { length slots.now ≡ length self.old.awake }
-        ensures { (now : ℕ) → KeepsSleepers now self.old (all_shown slots.now) → KeepsSleepers now self.new (all_shown slots.now) }
-    {
-        let place = place_of(self.marks.len(), address);
-        if place < self.marks.len() {
-            let mark = self.sifted(slots, place);
-            self.marks[place] = mark;
-        }
-    }
-
-    /// The mark at this place, gone over if it stands for several.
-    fn sifted(&self, slots: &[Slot], place: usize) -> Mark
-        requires slots { length slots.now ≡ length self.now.awake }
-        requires within { place < length self.now.marks }
-        ensures { (i : ℕ) (s : SlotState) → slice_get (all_shown slots.now) i ≡ Some s → IsOut self.now.awake i → IsOut self.now.free i
-            → place_of (length self.now.marks) s.address ≡ place → Names (mark_of self.now.marks s.address) i → Names result i }
-    {
-        match self.marks[place] {
-            Mark::Several => self.mark_by(slots, place),
-            mark => mark,
-        }
-    }
-
-    /// The mark of this place by the slots that sleep. Each slot is looked at.
-    fn mark_by(&self, slots: &[Slot], place: usize) -> Mark
-        requires { length slots.now ≤ 65535 }
-        ensures { (i : ℕ) (s : SlotState) → slice_get (all_shown slots.now) i ≡ Some s → IsOut self.now.awake i → IsOut self.now.free i
-            → place_of (length self.now.marks) s.address ≡ place → Names result i }
-    {
-        let mut mark = Mark::Nobody;
-        for number in 0..slots.len() {
-            if self.is_placed(slots, number, place) {
-                mark = mark.with(number as u16);
-            }
-        }
-        mark
-    }
-
-    /// Whether the slot of this number sleeps, holds a peer and has its mark at this place.
-    fn is_placed(&self, slots: &[Slot], number: usize, place: usize) -> bool
-        ensures { result ≡ false → (s : SlotState) → slice_get (all_shown slots.now) number ≡ Some s → IsOut self.now.awake number → IsOut self.now.free number
-            → place_of (length self.now.marks) s.address ≢ place }
-    {
-        if self.awake.contains(number) || self.free.contains(number) {
-            return false;
-        }
-        match slots.get(number) {
-            Some(slot) => place_of(self.marks.len(), slot.address()) == place,
-            None => false,
         }
     }
 }

@@ -1,10 +1,8 @@
 -- Sets of slots.
-use Rattle.std.specs.Prelude.{◌≡◌, ℕ, ◌<◌, Bool, true, false, List, length, get_or}
+use Rattle.std.specs.Prelude.{◌≡◌, ℕ, ◌<◌, Bool, false, List, length, get_or}
 use Rattle.enet_deadlines.specs.Sets.{IsIn}
 use Rattle.enet_slot.specs.Slot.{SlotState}
-use Rattle.enet_codec.specs.declared.address.Addr.{Addr}
 use Rattle.enet_slot.specs.Giving.{unused_slot, is_available}
-use Rattle.enet_slot.specs.Receiving.{is_connection}
 
 -- all slots are awake
 abbrev pub AllIn : List Bool → Type 0
@@ -13,11 +11,3 @@ AllIn set = (i : ℕ) → i < length set → IsIn set i
 -- of the slots of a set none before this one can be given out
 abbrev pub NoneOf : ℕ → List SlotState → List Bool → ℕ → Type 0
 NoneOf generations slots set end = (i : ℕ) → i < end → IsIn set i → is_available generations (get_or slots i unused_slot) ≡ false
-
--- none of them holds the connection of an offer
-abbrev pub KnownNowhere : Addr → ℕ → List SlotState → List Bool → Type 0
-KnownNowhere from word slots set = (i : ℕ) → IsIn set i → is_connection from word (get_or slots i unused_slot) ≡ false
-
--- this one does
-abbrev pub KnownAt : Addr → ℕ → List SlotState → ℕ → Type 0
-KnownAt from word slots i = (i < length slots) × (is_connection from word (get_or slots i unused_slot) ≡ true)

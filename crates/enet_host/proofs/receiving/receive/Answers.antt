@@ -8,6 +8,7 @@ use Rattle.enet_slot.specs.Slotted.{shown, all_shown}
 use Rattle.enet_slot.proofs.Shown.{get-shown, set-shown}
 use Rattle.enet_host.proofs.Receptions.{refused-in, refuses-in, held-at, heard-at, keeps-heard, credits-heard, credits-offered}
 use Rattle.enet_host.proofs.Limits.{heard-noted}
+use Rattle.enet_sleepers.specs.Seating.{KeepsSeats}
 use Rattle.enet_sleepers.specs.Sleeping.{KeepsOthers}
 use Rattle.enet_sleepers.specs.Unproved.{KeepsUnproved}
 use Rattle.enet_host.proofs.receiving.receive.Goals as goal
@@ -36,10 +37,7 @@ returns-in-Some-refusal-clause-arrives c =
 pub hear-requires-clause-others : goal.hear-requires-clause-others
 hear-requires-clause-others c =
     subst (λ (xs : List Slot). KeepsOthers c.args.start.now.clock c.from-number.result c.args.sleepers.now (all_shown xs)) (sym c.deref-3.ensures.value)
-    (keeps-heard c.args.start.now.clock c.from-number.result c.args.sleepers.now c.args.slots.now.items c.index_mut.result.now c.receive-answer.new.self
-    (record { now = c.args.start.now.clock; sent = c.in-Ok.found.0.sent; full = c.refuses_by-full.result }) c.in-Ok.found.1.now c.receive-answer.result
-    (let within = c.in_default.ensures.within in let len = c.deref.ensures.len in let e = c.from-number.ensures in grind (arith, within, len, e)) c.index_mut.ensures.value
-    c.receive-answer.ensures.receives c.receive-answer.ensures.vacant c.requires.sleepers)
+    (keeps-heard c.args.start.now.clock c.from-number.result c.args.sleepers.now c.args.slots.now.items c.receive-answer.new.self c.requires.sleepers)
 
 pub returns-clause-arrives : goal.returns-clause-arrives
 returns-clause-arrives c =
@@ -59,9 +57,21 @@ returns-clause-unproved c =
     let inside : n < length xs = (let within = c.in_default.ensures.within in let len = c.deref.ensures.len in let e = c.from-number.ensures in grind (arith, within, len, e)) in
     let fine = refused-in xs c.deref.result.now c.args.from c.in-Ok.found.0 _ _ c.refused_by-refusal.ensures.stop c.deref.ensures.value c.in_default.is in
     subst (KeepsUnproved c.args.start.now.clock c.args.start.now.config.generations c.args.unproved.now) (sym (set-shown xs n c.receive-answer.new.self))
-    (heard-noted c.args.start.now.clock c.args.start.now.config.generations n c.args.unproved.now (all_shown xs) (shown x) (shown c.receive-answer.new.self)
+    (heard-noted c.args.start.now.clock c.args.start.now.config.generations n c.args.unproved.now c.args.seats.now (all_shown xs) (shown x) (shown c.receive-answer.new.self)
     (record { now = c.args.start.now.clock; sent = c.in-Ok.found.0.sent; full = c.refuses_by-full.result }) c.in-Ok.found.1.now c.receive-answer.result
-    (get-shown xs n x inside c.index_mut.ensures.value) (c.receive-answer.ensures.receives (held-at xs c.args.from c.in-Ok.found.0 n x fine c.from-number.ensures inside c.index_mut.ensures.value)) c.requires.unproved)
+    (get-shown xs n x inside c.index_mut.ensures.value) (c.receive-answer.ensures.receives (held-at xs c.args.from c.in-Ok.found.0 n x fine c.from-number.ensures inside c.index_mut.ensures.value)) c.requires.unproved c.requires.seats).0
+
+pub returns-clause-seats : goal.returns-clause-seats
+returns-clause-seats c =
+    let xs = c.args.slots.now.items in
+    let x = c.index_mut.result.now in
+    let n = c.from-number.result in
+    let inside : n < length xs = (let within = c.in_default.ensures.within in let len = c.deref.ensures.len in let e = c.from-number.ensures in grind (arith, within, len, e)) in
+    let fine = refused-in xs c.deref.result.now c.args.from c.in-Ok.found.0 _ _ c.refused_by-refusal.ensures.stop c.deref.ensures.value c.in_default.is in
+    subst (KeepsSeats c.args.seats.now) (sym (set-shown xs n c.receive-answer.new.self))
+    (heard-noted c.args.start.now.clock c.args.start.now.config.generations n c.args.unproved.now c.args.seats.now (all_shown xs) (shown x) (shown c.receive-answer.new.self)
+    (record { now = c.args.start.now.clock; sent = c.in-Ok.found.0.sent; full = c.refuses_by-full.result }) c.in-Ok.found.1.now c.receive-answer.result
+    (get-shown xs n x inside c.index_mut.ensures.value) (c.receive-answer.ensures.receives (held-at xs c.args.from c.in-Ok.found.0 n x fine c.from-number.ensures inside c.index_mut.ensures.value)) c.requires.unproved c.requires.seats).1
 
 -- ---- what counts
 

@@ -9,6 +9,7 @@ use Rattle.enet_slot.specs.declared.all.Seat.TheVariants.{Known, At, Full}
 use Rattle.enet_slot.specs.declared.slot.Slot.{Slot}
 use Rattle.enet_slot.specs.Giving.{basis_of}
 use Rattle.enet_slot.specs.Slotted.{all_shown}
+use Rattle.enet_sleepers.specs.Seating.{KeepsSeats}
 use Rattle.enet_sleepers.specs.Sleeping.{KeepsSleepers}
 use Rattle.enet_slot.proofs.Shown.{length-shown}
 use Rattle.enet_host.proofs.Offering.{seat-in, answers-at, no-memory-at, credits-known}
@@ -16,6 +17,7 @@ use Rattle.enet_slot.specs.Slot.{SlotState}
 use Rattle.enet_slot.proofs.Shown.{same-shown}
 use Rattle.enet_sleepers.specs.Unproved.{KeepsUnproved}
 use Rattle.enet_host.proofs.Sleeping.{keeps-woken-at}
+use Rattle.enet_host.proofs.Seated.{seats-answered}
 use Rattle.enet_host.proofs.Yielding.{unproved-noted}
 use Rattle.enet_host.proofs.receiving.take_offer.Goals as goal
 
@@ -54,15 +56,13 @@ pub returns-in-Ok-clause-sleepers : goal.returns-in-Ok-clause-sleepers
 returns-in-Ok-clause-sleepers c =
     let now = c.args.start.now.clock in
     let slots = c.args.slots.now.items in
-    keeps-woken-at now c.in-At.place c.find_seat.new.sleepers c.wake.new.self slots c.answer.new.self
-    (subst (λ (xs : List Slot). KeepsSleepers now c.find_seat.new.sleepers (all_shown xs)) c.deref.ensures.value c.find_seat.ensures.sleepers) c.wake.ensures.kept c.wake.ensures.awake
+    keeps-woken-at now c.in-At.place c.args.sleepers.now c.wake.new.self slots c.answer.new.self c.requires.sleepers c.wake.ensures.kept c.wake.ensures.awake
 
 pub returns-in-Err-clause-sleepers : goal.returns-in-Err-clause-sleepers
 returns-in-Err-clause-sleepers c =
     let now = c.args.start.now.clock in
     let slots = c.args.slots.now.items in
-    keeps-woken-at now c.in-At.place c.find_seat.new.sleepers c.wake.new.self slots c.answer.new.self
-    (subst (λ (xs : List Slot). KeepsSleepers now c.find_seat.new.sleepers (all_shown xs)) c.deref.ensures.value c.find_seat.ensures.sleepers) c.wake.ensures.kept c.wake.ensures.awake
+    keeps-woken-at now c.in-At.place c.args.sleepers.now c.wake.new.self slots c.answer.new.self c.requires.sleepers c.wake.ensures.kept c.wake.ensures.awake
 
 pub find_seat-requires-clause-sleepers : goal.find_seat-requires-clause-sleepers
 find_seat-requires-clause-sleepers c = subst (λ (xs : List Slot). KeepsSleepers c.args.start.now.clock c.args.sleepers.now (all_shown xs)) (sym c.deref.ensures.value) c.requires.sleepers
@@ -71,11 +71,24 @@ pub find_seat-requires-clause-unproved : goal.find_seat-requires-clause-unproved
 find_seat-requires-clause-unproved c =
     subst (λ (xs : List Slot). KeepsUnproved c.args.start.now.clock c.args.start.now.config.generations c.args.unproved.now (all_shown xs)) (sym c.deref.ensures.value) c.requires.unproved
 
-pub returns-in-Known-clause-sleepers : goal.returns-in-Known-clause-sleepers
-returns-in-Known-clause-sleepers c = subst (λ (xs : List Slot). KeepsSleepers c.args.start.now.clock c.find_seat.new.sleepers (all_shown xs)) c.deref.ensures.value c.find_seat.ensures.sleepers
+-- ---- where connections are found
 
-pub returns-in-Full-clause-sleepers : goal.returns-in-Full-clause-sleepers
-returns-in-Full-clause-sleepers c = subst (λ (xs : List Slot). KeepsSleepers c.args.start.now.clock c.find_seat.new.sleepers (all_shown xs)) c.deref.ensures.value c.find_seat.ensures.sleepers
+pub find_seat-requires-clause-seats : goal.find_seat-requires-clause-seats
+find_seat-requires-clause-seats c = subst (λ (xs : List Slot). KeepsSeats c.args.seats.now (all_shown xs)) (sym c.deref.ensures.value) c.requires.seats
+
+pub enter-requires : goal.enter-requires
+enter-requires c =
+    let seat = seat-in c.args.slots.now.items c.deref.result.now (basis_of c.args.start.now) c.args.from c.args.offer.connect_id c.find_seat.result (At c.in-At.place)
+    c.find_seat.ensures.seat c.deref.ensures.value c.in-At.is in
+    omega (arith, seat.2, c.requires.seats.count)
+
+pub returns-in-Err-clause-seats : goal.returns-in-Err-clause-seats
+returns-in-Err-clause-seats c =
+    subst (KeepsSeats c.args.seats.now) (sym (same-shown c.args.slots.now.items c.in-At.place c.index_mut-slot.result.now c.answer.new.self c.index_mut-slot.ensures.value c.in-Err.ensures.unchanged)) c.requires.seats
+
+pub returns-in-Ok-clause-seats : goal.returns-in-Ok-clause-seats
+returns-in-Ok-clause-seats c =
+    seats-answered (basis_of c.args.start.now) c.args.slots.now.items c.args.from c.args.offer c.in-At.place c.index_mut-slot.result.now c.answer.new.self c.args.seats.now c.enter.new.self c.in-Ok.ensures.answers c.enter.ensures c.requires.seats
 
 -- ---- who waits for a client
 

@@ -12,8 +12,8 @@ pub invariant_of-self : goal.invariant_of-self
 invariant_of-self c =
     let inside = c.self.inside in
     subst (λ (g : Config). KeepsHost (record { peers = g.peers; clock = inside.start.clock; generations = g.generations; max_packet = g.max_packet; max_waiting = g.max_waiting; service_from = inside.service_from; event_from = inside.event_from })
-    inside.sleepers inside.unproved inside.slots.items) (sym c.admitting-self-inside.ensures)
-    (keeps-admitting inside.start.config c.args.admission inside.start.clock inside.service_from inside.event_from inside.sleepers inside.unproved inside.slots.items c.self.invariant)
+    inside.sleepers inside.seats inside.unproved inside.slots.items) (sym c.admitting-self-inside.ensures)
+    (keeps-admitting inside.start.config c.args.admission inside.start.clock inside.service_from inside.event_from inside.sleepers inside.seats inside.unproved inside.slots.items c.self.invariant)
 
 pub returns : goal.returns
 returns c =

@@ -21,7 +21,7 @@ returns c =
 pub invariant_of-self-2 : goal.invariant_of-self-2
 invariant_of-self-2 c =
     keeps-after c.self.inside.start.config.peers c.self.inside.start.clock c.self.inside.start.clock c.self.inside.start.config.generations c.self.inside.start.config.max_packet c.self.inside.start.config.max_waiting c.self.inside.service_from c.self.inside.event_from c.self.inside.service_from c.slot_after-self-inside.result c.self.inside.sleepers c.self.inside.sleepers
-    c.self.inside.unproved c.self.inside.unproved c.self.inside.slots.items c.take_from.new.slots.items c.self.invariant
+    c.self.inside.seats c.self.inside.seats c.self.inside.unproved c.self.inside.unproved c.self.inside.slots.items c.take_from.new.slots.items c.self.invariant
     c.take_from.ensures.count c.self.invariant.service c.slot_after-self-inside.ensures.within (
       gave-held (all_shown c.self.inside.slots.items) (all_shown c.take_from.new.slots.items) c.in_ok-slot.slot c.in_ok-event.event c.self.invariant.held c.in_ok-event.ensures.gives,
       keeps-gives-event c.self.inside.start.clock c.in_ok-slot.slot c.in_ok-event.event c.self.inside.sleepers (all_shown c.self.inside.slots.items) (all_shown c.take_from.new.slots.items)
@@ -29,4 +29,4 @@ invariant_of-self-2 c =
           (teller-awake _ c.in_ok-slot.slot c.self.inside.event_from _ _ c.self.invariant.sleeping (subst (λ (h : Host). IsFirst tells h.slots h.event_from c.in_ok-slot.slot) (sym c.self.view_is) c.in_ok-slot.ensures.first))
           c.in_ok-event.ensures.gives,
     )
-    (minded c.take_from.new.slots.items c.self.invariant c.take_from.ensures.count (gave-holds _ (minds-lasts _ _ _ _) (all_shown c.self.inside.slots.items) (all_shown c.take_from.new.slots.items) c.in_ok-slot.slot c.in_ok-event.event (all-minded c.self.invariant) c.in_ok-event.ensures.gives))
+    (minded c.take_from.new.slots.items c.self.invariant c.take_from.ensures.count (gave-holds _ (minds-lasts _ _ _ _ _) (all_shown c.self.inside.slots.items) (all_shown c.take_from.new.slots.items) c.in_ok-slot.slot c.in_ok-event.event (all-minded c.self.invariant) c.in_ok-event.ensures.gives))

@@ -12,18 +12,18 @@ use Rattle.enet_host.proofs.host.HostCore.service.Goals as goal
 pub invariant_of-self : goal.invariant_of-self
 invariant_of-self c =
     keeps-after c.self.inside.start.config.peers c.self.inside.start.clock c.self.inside.start.clock c.self.inside.start.config.generations c.self.inside.start.config.max_packet c.self.inside.start.config.max_waiting c.self.inside.service_from c.self.inside.event_from c.self.inside.service_from c.self.inside.event_from c.self.inside.sleepers c.emit.new.sleepers
-    c.self.inside.unproved c.self.inside.unproved c.self.inside.slots.items c.emit.new.slots.items c.self.invariant
+    c.self.inside.seats c.self.inside.seats c.self.inside.unproved c.self.inside.unproved c.self.inside.slots.items c.emit.new.slots.items c.self.invariant
     c.emit.ensures.count c.self.invariant.service c.self.invariant.event
     (passed-held _ (all_shown c.self.inside.slots.items) (all_shown c.emit.new.slots.items) c.self.invariant.held c.in_default.ensures.passes, c.emit.ensures.sleepers)
-    (minded c.emit.new.slots.items c.self.invariant c.emit.ensures.count (passed-holds _ (minds-lasts _ _ _ _) _ (all_shown c.self.inside.slots.items) (all_shown c.emit.new.slots.items) (all-minded c.self.invariant) c.in_default.ensures.passes))
+    (minded c.emit.new.slots.items c.self.invariant c.emit.ensures.count (passed-holds _ (minds-lasts _ _ _ _ _) _ (all_shown c.self.inside.slots.items) (all_shown c.emit.new.slots.items) (all-minded c.self.invariant) c.in_default.ensures.passes))
 
 pub invariant_of-self-2 : goal.invariant_of-self-2
 invariant_of-self-2 c =
     keeps-after c.self.inside.start.config.peers c.self.inside.start.clock c.self.inside.start.clock c.self.inside.start.config.generations c.self.inside.start.config.max_packet c.self.inside.start.config.max_waiting c.self.inside.service_from c.self.inside.event_from c.slot_after-self-inside.result c.self.inside.event_from c.self.inside.sleepers c.emit.new.sleepers
-    c.self.inside.unproved c.self.inside.unproved c.self.inside.slots.items c.emit.new.slots.items c.self.invariant
+    c.self.inside.seats c.self.inside.seats c.self.inside.unproved c.self.inside.unproved c.self.inside.slots.items c.emit.new.slots.items c.self.invariant
     c.emit.ensures.count c.slot_after-self-inside.ensures.within c.self.invariant.event
     (served-held _ _ (all_shown c.self.inside.slots.items) (all_shown c.emit.new.slots.items) _ c.self.invariant.held c.in-Some.ensures.gives, c.emit.ensures.sleepers)
-    (minded c.emit.new.slots.items c.self.invariant c.emit.ensures.count (served-holds _ (minds-lasts _ _ _ _) _ _ (all_shown c.self.inside.slots.items) (all_shown c.emit.new.slots.items) _ (all-minded c.self.invariant) c.in-Some.ensures.gives))
+    (minded c.emit.new.slots.items c.self.invariant c.emit.ensures.count (served-holds _ (minds-lasts _ _ _ _ _) _ _ (all_shown c.self.inside.slots.items) (all_shown c.emit.new.slots.items) _ (all-minded c.self.invariant) c.in-Some.ensures.gives))
 
 pub returns-clause-serves : goal.returns-clause-serves
 returns-clause-serves c =

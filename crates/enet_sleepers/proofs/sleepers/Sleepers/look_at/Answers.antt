@@ -1,4 +1,4 @@
-use Rattle.std.proofs.Common.{◌≡◌, ◌+◌, ◌%◌, ◌^◌, ◌<◌, ℕ, Bool, false, Some, Option, List, length, slice_get, slice_set, ap, sym, subst, ◌∙◌, arith}
+use Rattle.std.proofs.Common.{◌≡◌, ◌+◌, ◌%◌, ◌^◌, ◌<◌, ℕ, Bool, false, Option, List, length, slice_get, slice_set, sym, subst, ◌∙◌, arith}
 use Rattle.enet_deadlines.specs.Clock.{HappensAt}
 use Rattle.enet_deadlines.specs.Sets.{IsIn}
 use Rattle.enet_rtt.specs.Clock.{HappensIn}
@@ -32,34 +32,29 @@ returns-then-is_vacant c =
 pub returns-then-wait-lt4294967295 : goal.returns-then-wait-lt4294967295
 returns-then-wait-lt4294967295 c =
     let now = c.args.now in
-    let v = c.args.self.now in
-    let m = c.mark.new.self in
-    let u = the_view c.self-then-wait-lt4294967295.inside in
-    let is = c.self-then-wait-lt4294967295.view_is in
+    let v = the_view c.self.inside in
     let n = c.args.number in
     let slots = c.args.slots.now in
     let all = all_shown slots in
     let wait = c.due_in-wait.result in
-    let moment = u.clock + c.from.result in
-    let size : n < length v.awake = in-inside v.awake n c.requires.awake in
+    let moment = v.clock + c.from.result in
+    let size = in-inside c.args.self.now.awake n c.requires.awake in
     let within : n < length slots = omega (arith, size, c.requires.kept.count, length-shown slots) in
+    let inside : n < length v.awake = subst (λ (x : Noted). n < length x.awake) (sym c.self.view_is) size in
+    let awake = subst (λ (x : Noted). IsIn x.awake n) (sym c.self.view_is) c.requires.awake in
+    let kept = subst (λ (x : Noted). KeepsSleepers now x all) (sym c.self.view_is) c.requires.kept in
     let s = shown c.index-slots-number.result in
     let there = get-shown slots n c.index-slots-number.result within c.index-slots-number.is in
     let second = some-same (slice_get all n) (shown c.index-slots-number-2.result) s (get-shown slots n c.index-slots-number-2.result within c.index-slots-number-2.is) there in
     let third = some-same (slice_get all n) (shown c.index-slots-number-3.result) s (get-shown slots n c.index-slots-number-3.result within c.index-slots-number-3.is) there in
     let waits : Waits s = subst Waits second (c.only_waits.ensures c.if-not-only_waits.false) in
-    let clock : u.clock ≡ v.clock = ap (λ (x : Noted). x.clock) (is ∙ c.mark.ensures.others) in
     let due : HappensIn (λ (later : ℕ). is_due later s) (v.clock % 2 ^ 32) wait =
-    subst (λ (t : ℕ). HappensIn (λ (later : ℕ). is_due later s) t wait) (sym c.requires.kept.shown)
+    subst (λ (t : ℕ). HappensIn (λ (later : ℕ). is_due later s) t wait) (sym kept.shown)
     (subst (λ (x : SlotState). HappensIn (λ (later : ℕ). is_due later x) now wait) third c.due_in-wait.ensures) in
     let low : wait < 2 ^ 32 = omega (arith, c.if-wait-lt4294967295.true) in
-    let reach : v.clock + wait ≡ moment = omega (arith, clock, c.from.ensures) in
+    let reach : v.clock + wait ≡ moment = omega (arith, c.from.ensures) in
     let happens = subst (λ (t : ℕ). HappensAt (λ (later : ℕ). is_due later s) v.clock t) reach (c.moments_are_right.ensures.noted (λ (later : ℕ). is_due later s) v.clock wait low due) in
-    let sizes : length v.due ≡ length v.awake = subst (λ (x : Noted). length x.due ≡ length x.awake) c.self.view_is c.self.invariant.due in
-    let k = keeps-held now n moment v (record m { awake = slice_set m.awake n false; due = slice_set m.due n (Some moment) }) all s size sizes there
-    (ap (λ (x : Noted). record x { awake = slice_set x.awake n false; due = slice_set x.due n (Some moment) }) c.mark.ensures.others)
-    waits (sym c.is_vacant.ensures ∙ c.if-is_vacant.false) c.requires.awake (omega (arith, reach, c.if-wait-gt0.true)) (omega (arith, reach, c.if-wait-lt4294967295.true)) happens
-    (c.mark.ensures.named s there) c.mark.ensures.kept c.requires.kept in
-    let j = subst (λ (x : Noted). KeepsSleepers now (record x { awake = slice_set x.awake n false; due = slice_set x.due n (Some moment) }) all) (sym is) k in
-    subst (λ (a : List Bool). KeepsSleepers now (record u { awake = a; due = c.set.new.self }) all) (sym c.remove-then-wait-lt4294967295.ensures)
-    (subst (λ (d : List (Option ℕ)). KeepsSleepers now (record u { awake = slice_set u.awake n false; due = d }) all) (sym c.set.ensures) j)
+    let k = keeps-held now n moment v all s inside c.self.invariant.due there waits (sym c.is_vacant.ensures ∙ c.if-is_vacant.false) awake
+    (omega (arith, reach, c.if-wait-gt0.true)) (omega (arith, reach, c.if-wait-lt4294967295.true)) happens kept in
+    subst (λ (a : List Bool). KeepsSleepers now (record v { awake = a; due = c.set.new.self }) all) (sym c.remove-then-wait-lt4294967295.ensures)
+    (subst (λ (d : List (Option ℕ)). KeepsSleepers now (record v { awake = slice_set v.awake n false; due = d }) all) (sym c.set.ensures) k)
