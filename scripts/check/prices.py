@@ -135,12 +135,9 @@ def strangers(script):
     for number in range(300):
         script.do(f"at {5000 + number}", "raw " + connect(5000 + number))
     script.row("connect-full", kind="stranger")
-    for number in range(100):
+    for number in range(300):
         script.do(f"at {number}", "raw " + connect(number))
     script.row("connect-again", kind="stranger")
-    for number in range(280, 300):
-        script.do(f"at {number}", "raw " + connect(number))
-    script.row("connect-again-of-one-mark", kind="stranger")
     for number in range(PEERS):
         script.do(f"from {number}", "to " + ping(1))
     script.do("play never")
@@ -217,11 +214,6 @@ def give_way(script):
         for number in range(50):
             script.do(f"at {5000 + number}", "raw " + connect(5000 + number, channels))
         script.row(f"connect-gives-way{name}", kind="stranger")
-    script.open(PEERS, 1)
-    script.do("give-way", f"ask {PEERS} 1 0", "tick 1")
-    for number in range(9000, 9050):
-        script.do(f"at {number}", "raw " + connect(number))
-    script.row("connect-gives-way-of-one-mark", kind="stranger")
     script.open(PEERS, 1)
     script.do("give-way", f"ask {PEERS} 1 0", "tick 1")
     for number in range(400):
