@@ -58,7 +58,7 @@ impl TakerBell {
         self.wanted.store(true, SeqCst);
     }
 
-    // The service holds an event back for want of room, and takes no order until it is put.
+    // The service holds an event back for want of room. If it is a refusal, no order is taken until it is put.
     pub(crate) fn hold_back(&self) {
         if !self.held_back.swap(true, SeqCst) {
             self.parker.unpark();
@@ -69,7 +69,7 @@ impl TakerBell {
         self.held_back.store(false, SeqCst);
     }
 
-    /// Whether the service holds an event back, and so takes no orders. It is told once for each time.
+    /// Whether the service holds an event back; if that is a refusal, it takes no orders. It is told once for each time.
     pub fn hears_of_one_held_back(&self) -> bool {
         self.held_back.swap(false, SeqCst)
     }

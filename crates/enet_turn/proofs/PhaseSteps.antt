@@ -8,6 +8,7 @@ use Rattle.enet_submit.specs.declared.order.Submission.{Submission}
 use Rattle.enet_wire.specs.declared.told.Told.{Told}
 use Rattle.enet_wire.specs.declared.told.Told.TheVariants.{Came, Went, Lost}
 use Rattle.enet_turn.specs.declared.service.Service.{Service}
+use Rattle.enet_turn.specs.declared.waiting.Waiting.{Waiting}
 use Rattle.enet_turn.specs.Calls.{Calls}
 use Rattle.enet_turn.specs.Phases.{Chain, Ordered, Wired, ReceivesAll, EmitsAll, Orders, AppliesSubmission, TellsAll, left_over}
 use Rattle.enet_turn.specs.Turn.{AfterReceiving, AfterEmitting}
@@ -56,7 +57,7 @@ OrdersOn {H} calls turn initial gave so_far =
 
 pub orders_on : {H : Type 0} (calls : Calls H) (turn : ℕ) (initial old between : Service H)
     (gave : List (Option Submission)) (puts mine : List (Event × Bool)) (x : Submission)
-    → turn < 256 → old.waiting ≡ None → OrdersOn calls turn initial gave (record { service = old; puts = puts }) → AppliesSubmission calls old x mine between
+    → turn < 256 → old.waiting.refusal ≡ None → OrdersOn calls turn initial gave (record { service = old; puts = puts }) → AppliesSubmission calls old x mine between
     → OrdersOn calls (turn + 1) initial (gave ++ Some x ∷ []) (record { service = between; puts = puts ++ mine })
 orders_on {H} calls turn initial old between gave puts mine x l none k carried more others new rest =
     let step : Orders calls (256 - turn) old (Some x ∷ more) (record { service = new; puts = mine ++ others }) =
@@ -70,11 +71,11 @@ abbrev pub TellsOn : {H : Type 0} → Calls H → Service H → List (Event × B
 TellsOn {H} calls initial puts old = (more : List (Event × Bool)) (new : Service H) → TellsAll calls old more new → TellsAll calls initial (puts ++ more) new
 
 pub tells_on : {H : Type 0} (calls : Calls H) (initial old : Service H) (host : H) (waits : Option Event) (puts : List (Event × Bool)) (event : Event) (taken : Bool)
-    → old.waiting ≡ None → waits ≡ left_over event taken → TellsOn calls initial puts old → calls.gives_event old.host (Some event) host
-    → TellsOn calls initial (puts ++ (event, taken) ∷ []) (record { host = host; waiting = waits })
+    → old.waiting.event ≡ None → waits ≡ left_over event taken → TellsOn calls initial puts old → calls.gives_event old.host (Some event) host
+    → TellsOn calls initial (puts ++ (event, taken) ∷ []) (record { host = host; waiting = record { event = waits; refusal = old.waiting.refusal } })
 tells_on {H} calls initial old host waits puts event taken none left k told more new rest =
-    let rest_2 : TellsAll calls (record { host = host; waiting = left_over event taken }) more new =
-    subst (λ (w : Option Event). TellsAll calls (record { host = host; waiting = w }) more new) left rest in
+    let rest_2 : TellsAll calls (record { host = host; waiting = record { event = left_over event taken; refusal = old.waiting.refusal } }) more new =
+    subst (λ (w : Option Event). TellsAll calls (record { host = host; waiting = record { event = w; refusal = old.waiting.refusal } }) more new) left rest in
     let step : TellsAll calls old ((event, taken) ∷ more) new = (none, host, told, rest_2) in
     subst (λ (xs : List (Event × Bool)). TellsAll calls initial xs new) (sym (append_assoc puts ((event, taken) ∷ []) more)) (k ((event, taken) ∷ more) new step)
 
@@ -86,9 +87,9 @@ chain_more step s (x ∷ xs) t ys u c r = (c.0, c.1, chain_more step c.0 xs t ys
 pub chain_step : {S A : Type 0} (step : S → A → S → Type 0) (s : S) (xs : List A) (t : S) (y : A) (u : S) → Chain step s xs t → step t y u → Chain step s (xs ++ y ∷ []) u
 chain_step step s xs t y u c r = chain_more step s xs t (y ∷ []) u c (u, r, refl)
 
--- the orders end, for an event that waits or for the limit
+-- the orders end, for a refusal that waits or for the limit
 pub orders_end : {H : Type 0} (calls : Calls H) (turn : ℕ) (initial old : Service H) (gave : List (Option Submission)) (puts : List (Event × Bool))
-    → OrdersOn calls turn initial gave (record { service = old; puts = puts }) → IsSome old.waiting ⊎ (256 - turn ≡ 0)
+    → OrdersOn calls turn initial gave (record { service = old; puts = puts }) → IsSome old.waiting.refusal ⊎ (256 - turn ≡ 0)
     → Orders calls 256 initial gave (record { service = old; puts = puts })
 orders_end calls turn initial old gave puts k why =
     let ended : Orders calls 256 initial (gave ++ []) (record { service = old; puts = puts ++ [] }) = k [] [] old (why, refl, refl) in
@@ -98,7 +99,7 @@ orders_end calls turn initial old gave puts k why =
 
 -- the orders end where the source gives none
 pub orders_none : {H : Type 0} (calls : Calls H) (turn : ℕ) (initial old : Service H) (gave : List (Option Submission)) (puts : List (Event × Bool))
-    → turn < 256 → old.waiting ≡ None → OrdersOn calls turn initial gave (record { service = old; puts = puts })
+    → turn < 256 → old.waiting.refusal ≡ None → OrdersOn calls turn initial gave (record { service = old; puts = puts })
     → Orders calls 256 initial (gave ++ None ∷ []) (record { service = old; puts = puts })
 orders_none calls turn initial old gave puts l none k =
     let ended : Orders calls 256 initial (gave ++ None ∷ []) (record { service = old; puts = puts ++ [] }) = k (None ∷ []) [] old (none, omega arith, refl, refl, refl) in
@@ -106,14 +107,14 @@ orders_none calls turn initial old gave puts l none k =
 
 -- the telling ends: an event waits, or the host has none
 pub tells_end : {H : Type 0} (calls : Calls H) (initial old : Service H) (puts : List (Event × Bool))
-    → TellsOn calls initial puts old → IsSome old.waiting → TellsAll calls initial puts old
+    → TellsOn calls initial puts old → IsSome old.waiting.event → TellsAll calls initial puts old
 tells_end calls initial old puts k waits =
     subst (λ (xs : List (Event × Bool)). TellsAll calls initial xs old) (append-nil puts) (k [] old (inl (waits, refl)))
 
 pub tells_none : {H : Type 0} (calls : Calls H) (initial old new : Service H) (puts : List (Event × Bool))
-    → old.waiting ≡ None → new.waiting ≡ None → TellsOn calls initial puts old → calls.gives_event old.host None new.host → TellsAll calls initial puts new
-tells_none calls initial old new puts none none_2 k told =
-    subst (λ (xs : List (Event × Bool)). TellsAll calls initial xs new) (append-nil puts) (k [] new (inr (none, told, none_2)))
+    → old.waiting.event ≡ None → new.waiting ≡ old.waiting → TellsOn calls initial puts old → calls.gives_event old.host None new.host → TellsAll calls initial puts new
+tells_none calls initial old new puts none same k told =
+    subst (λ (xs : List (Event × Bool)). TellsAll calls initial xs new) (append-nil puts) (k [] new (inr (none, told, same)))
 
 -- what comes after the hearing, and after the sending
 pub sends_then : {H : Type 0} (calls : Calls H) (host : H) (told : List Told) (sent : Wired H)
@@ -123,10 +124,10 @@ sends_then calls host told sent h = record { sound = λ e. h; failed = λ e. abs
 pub sends_nothing : {H : Type 0} (calls : Calls H) (host : H) → AfterReceiving calls (record { host = host; failed = true }) [] (record { host = host; failed = true })
 sends_nothing calls host = record { sound = λ e. absurd (cc); failed = λ e. (refl, refl) }
 
-pub tells_then : {H : Type 0} (calls : Calls H) (host : H) (waiting : Option Event) (puts : List (Event × Bool)) (new : Service H)
+pub tells_then : {H : Type 0} (calls : Calls H) (host : H) (waiting : Waiting) (puts : List (Event × Bool)) (new : Service H)
     → TellsAll calls (record { host = host; waiting = waiting }) puts new → AfterEmitting calls (record { host = host; failed = false }) waiting puts new
 tells_then calls host waiting puts new h = record { sound = λ e. h; failed = λ e. absurd (cc) }
 
-pub tells_nothing : {H : Type 0} (calls : Calls H) (host : H) (waiting : Option Event)
+pub tells_nothing : {H : Type 0} (calls : Calls H) (host : H) (waiting : Waiting)
     → AfterEmitting calls (record { host = host; failed = true }) waiting [] (record { host = host; waiting = waiting })
 tells_nothing calls host waiting = record { sound = λ e. absurd (cc); failed = λ e. (refl, refl) }

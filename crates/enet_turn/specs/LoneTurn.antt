@@ -4,18 +4,19 @@ use Rattle.enet_codec.specs.declared.event.Event.{Event}
 use Rattle.enet_submit.specs.declared.order.Submission.{Submission}
 use Rattle.enet_wire.specs.declared.told.Told.{Told}
 use Rattle.enet_turn.specs.declared.service.Service.{Service}
+use Rattle.enet_turn.specs.declared.waiting.Waiting.{Waiting}
 use Rattle.enet_turn.specs.Calls.{Calls}
-use Rattle.enet_turn.specs.Phases.{Chain, Offers, Orders, ReceivesAll}
+use Rattle.enet_turn.specs.Phases.{Chain, OffersWaiting, Orders, ReceivesAll}
 use Rattle.enet_turn.specs.Counts.{given_in, came_in, went_in, lost_in, taken_in, count_of, stopped}
 use Rattle.enet_turn.specs.Turn.{Round, AfterReceiving, AfterEmitting, Turn}
 
--- how a turn begins, in order: the tick; the event that waits; datagrams in; events, unless the wire failed
+-- how a turn begins, in order: the tick; what waits; datagrams in; events, unless the wire failed
 pub record Begins {H : Type 0} (calls : Calls H) (old : Service H) (ms : ℕ) (came : List Told) (puts : List (Event × Bool)) (new : Service H) (failed : Bool) : Type 0 where
   pub ticked : H
   pub tick : calls.ticks old.host ms ticked
   pub again : List (Event × Bool)
-  pub waits : Option Event
-  pub offered : Offers old.waiting again waits
+  pub waits : Waiting
+  pub offered : OffersWaiting old.waiting again waits
   pub heard : H
   pub hearing : ReceivesAll calls 256 ticked came (record { host = heard; failed = failed })
   pub of_events : List (Event × Bool)

@@ -10,6 +10,7 @@ use Rattle.enet_submit.specs.declared.order.Submission.{Submission}
 use Rattle.enet_wire.specs.declared.told.Told.{Told}
 use Rattle.enet_wire.specs.declared.told.Told.TheVariants.{Came, NothingCame, Went, Lost, Blocked}
 use Rattle.enet_turn.specs.declared.service.Service.{Service}
+use Rattle.enet_turn.specs.declared.waiting.Waiting.{Waiting}
 use Rattle.enet_turn.specs.Calls.{Calls}
 
 -- steps one after another
@@ -37,23 +38,34 @@ abbrev pub Offers : Option Event → List (Event × Bool) → Option Event → T
 Offers None puts after = (puts ≡ []) × (after ≡ None)
 Offers (Some event) puts after = (taken : Bool) × (puts ≡ (event, taken) ∷ []) × (after ≡ left_over event taken)
 
+-- what waits is offered once: first the refusal, and then the host's event, whether or not that was taken
+abbrev pub OffersWaiting : Waiting → List (Event × Bool) → Waiting → Type 0
+OffersWaiting old puts new =
+    (first : List (Event × Bool)) × (second : List (Event × Bool)) × Offers old.refusal first new.refusal × Offers old.event second new.event × (puts ≡ first ++ second)
+
+-- no event and no refusal
+abbrev pub nothing_waits : Waiting
+nothing_waits = record { event = None; refusal = None }
+
 -- the event by which a refused order is told
 abbrev pub refusal_event : Submission → Option Refusal → Option Event
 refusal_event x None = None
 refusal_event x (Some why) = Some (Refused x.seat x.number why)
 
--- an order is one call of the host. A refused one becomes an event, which is offered at once
+-- an order is one call of the host. A refused one becomes an event, which is offered at once, whether or not an event of the host waits
 pub record AppliesSubmission {H : Type 0} (calls : Calls H) (old : Service H) (x : Submission) (puts : List (Event × Bool)) (new : Service H) : Type 0 where
   pub why : Option Refusal
   pub applied : calls.applies old.host x.order why new.host
-  pub told : Offers (refusal_event x why) puts new.waiting
+  pub told : Offers (refusal_event x why) puts new.waiting.refusal
+  pub stays : new.waiting.event ≡ old.waiting.event
 
--- orders one after another, while no event waits, until the source gives none
+-- orders one after another, until the source gives none; also while an event of the host waits, but not while a refusal does, which has the
+-- place that is kept for the next one
 abbrev pub Orders : {H : Type 0} → Calls H → ℕ → Service H → List (Option Submission) → Ordered H → Type 0
-Orders calls left old [] after = (IsSome old.waiting ⊎ (left ≡ 0)) × (after.puts ≡ []) × (after.service ≡ old)
-Orders calls left old (None ∷ rest) after = (old.waiting ≡ None) × (0 < left) × (rest ≡ []) × (after.puts ≡ []) × (after.service ≡ old)
+Orders calls left old [] after = (IsSome old.waiting.refusal ⊎ (left ≡ 0)) × (after.puts ≡ []) × (after.service ≡ old)
+Orders calls left old (None ∷ rest) after = (old.waiting.refusal ≡ None) × (0 < left) × (rest ≡ []) × (after.puts ≡ []) × (after.service ≡ old)
 Orders {H} calls left old (Some x ∷ rest) after =
-    (old.waiting ≡ None) × (0 < left) × (first : List (Event × Bool)) × (others : List (Event × Bool)) × (after.puts ≡ first ++ others)
+    (old.waiting.refusal ≡ None) × (0 < left) × (first : List (Event × Bool)) × (others : List (Event × Bool)) × (after.puts ≡ first ++ others)
     × (between : Service H) × AppliesSubmission calls old x first between × Orders calls (left - 1) between rest (record after { puts = others })
 
 -- datagrams in, one after another, until the wire gives none or fails
@@ -82,9 +94,9 @@ EmitsAll {H} calls left losses old (Blocked to bytes ∷ rest) after =
     (0 < left) × (0 < losses) × calls.emits old (Some (to, bytes)) after.host × (rest ≡ []) × (after.failed ≡ false)
 EmitsAll calls left losses old (_ ∷ rest) after = ⊥
 
--- events, each offered in its turn, until the host has none or one waits
+-- events of the host, each offered in its turn, until it has none or one waits
 abbrev pub TellsAll : {H : Type 0} → Calls H → Service H → List (Event × Bool) → Service H → Type 0
-TellsAll calls old [] new = (IsSome old.waiting × (new ≡ old)) ⊎ ((old.waiting ≡ None) × calls.gives_event old.host None new.host × (new.waiting ≡ None))
+TellsAll calls old [] new = (IsSome old.waiting.event × (new ≡ old)) ⊎ ((old.waiting.event ≡ None) × calls.gives_event old.host None new.host × (new.waiting ≡ old.waiting))
 TellsAll {H} calls old (x ∷ rest) new =
-    (old.waiting ≡ None) × (between : H) × calls.gives_event old.host (Some x.0) between
-    × TellsAll calls (record { host = between; waiting = left_over x.0 x.1 }) rest new
+    (old.waiting.event ≡ None) × (between : H) × calls.gives_event old.host (Some x.0) between
+    × TellsAll calls (record { host = between; waiting = record { event = left_over x.0 x.1; refusal = old.waiting.refusal } }) rest new

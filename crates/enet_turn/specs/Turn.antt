@@ -7,8 +7,9 @@ use Rattle.enet_wire.specs.declared.told.Told.{Told}
 use Rattle.enet_turn.specs.declared.report.Report.{Report}
 use Rattle.enet_turn.specs.declared.report.Fault.{Fault}
 use Rattle.enet_turn.specs.declared.service.Service.{Service}
+use Rattle.enet_turn.specs.declared.waiting.Waiting.{Waiting}
 use Rattle.enet_turn.specs.Calls.{Calls}
-use Rattle.enet_turn.specs.Phases.{Ordered, Wired, Offers, Orders, ReceivesAll, EmitsAll, TellsAll}
+use Rattle.enet_turn.specs.Phases.{Ordered, Wired, OffersWaiting, Orders, ReceivesAll, EmitsAll, TellsAll}
 use Rattle.enet_turn.specs.Counts.{given_in, came_in, went_in, lost_in, taken_in, count_of, stopped}
 
 -- what passes in a turn: the milliseconds of the wait before it, what the source answered, what the wire did, the events that were
@@ -26,18 +27,18 @@ pub record AfterReceiving {H : Type 0} (calls : Calls H) (heard : Wired H) (told
   pub sound : heard.failed ≡ false → EmitsAll calls 256 16 heard.host told sent
   pub failed : heard.failed ≡ true → (told ≡ []) × (sent ≡ heard)
 
--- events come last, unless the wire failed: then none is told, and the event that waits still waits
-pub record AfterEmitting {H : Type 0} (calls : Calls H) (sent : Wired H) (waiting : Option Event) (puts : List (Event × Bool)) (new : Service H) : Type 0 where
+-- events come last, unless the wire failed: then none is told, and what waits still waits
+pub record AfterEmitting {H : Type 0} (calls : Calls H) (sent : Wired H) (waiting : Waiting) (puts : List (Event × Bool)) (new : Service H) : Type 0 where
   pub sound : sent.failed ≡ false → TellsAll calls (record { host = sent.host; waiting = waiting }) puts new
   pub failed : sent.failed ≡ true → (puts ≡ []) × (new ≡ record { host = sent.host; waiting = waiting })
 
--- in order: the tick; the event that waits; orders; datagrams in; datagrams out; events
+-- in order: the tick; what waits; orders; datagrams in; datagrams out; events
 pub record Turn {H : Type 0} (calls : Calls H) (old : Service H) (round : Round) (new : Service H) : Type 0 where
   pub ticked : H
   pub tick : calls.ticks old.host round.ms ticked
   pub again : List (Event × Bool)
-  pub waits : Option Event
-  pub offered : Offers old.waiting again waits
+  pub waits : Waiting
+  pub offered : OffersWaiting old.waiting again waits
   pub ordered : Ordered H
   pub orders : Orders calls 256 (record { host = ticked; waiting = waits }) round.gave ordered
   pub came : List Told

@@ -10,7 +10,8 @@
 //!
 //! Of every host that says what its calls do ([`Core`]), as `HostCore` says it by its own definitions:
 //! - A turn ([`Service::turn`]) is the stated calls in the stated order, on what the source gave and the wire told, and what was sent and put
-//!   is what these calls answered. A refused order becomes one event. While an event waits no order is taken.
+//!   is what these calls answered. A refused order becomes one event. Orders are taken whether or not an event of the host waits for room; while
+//!   a refusal does, none is taken, so that there is a place for each refusal.
 //! - E14 comes exactly where the wire failed. Then the host is where the first part of the work left it, and the report counts that part.
 //! - A datagram that is lost at its sending doesn't keep the next one: a turn's sending ends where the host has none, at 256, where a send
 //!   would block, or after 16 losses.
@@ -36,8 +37,10 @@ mod report;
 mod running;
 mod service;
 mod telling;
+mod waiting;
 
 pub use host::Core;
 pub use report::{Fault, Report};
 pub use running::run;
 pub use service::Service;
+pub use waiting::Waiting;

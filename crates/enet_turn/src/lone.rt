@@ -21,10 +21,10 @@ use enet_wire::Wire;
 use std::sync::Wait;
 
 impl<H: Core> Service<H> {
-    /// The first part of such a turn, and more than a reception: the tick; one offer of the event that waits; at most 256 datagrams in, through
-    /// this buffer; and while no event waits, the host's events, of which this thread then makes the orders.
+    /// The first part of such a turn, and more than a reception: the tick; one offer of what waits, the refusal first; at most 256 datagrams in,
+    /// through this buffer; and while no event of it waits, the host's events, of which this thread then makes the orders.
     ///
-    /// E14 where the wire fails: no event is told then but the one that waited.
+    /// E14 where the wire fails: no event is told then but what waited.
     pub fn receive<W: Wire, K: Sink, R: Wait>(
         &mut self,
         rt: &R,
@@ -57,7 +57,7 @@ impl<H: Core> Service<H> {
         Ok(report_of(0, heard.received, 0, 0, events))
     }
 
-    /// The second part, once or more often: while no event waits, at most 256 orders.
+    /// The second part, once or more often: while no refusal waits, at most 256 orders.
     pub fn apply_orders<S: Source, K: Sink, R: Wait>(
         &mut self,
         rt: &R,

@@ -7,6 +7,7 @@ ghost use Rattle.enet_turn.specs.Counts.{taken_in, given_in};
 
 use crate::host::Core;
 use crate::telling::offer;
+use crate::waiting::Waiting;
 use enet_bridge::{Sink, Source};
 use enet_codec::Event;
 use enet_submit::Submission;
@@ -17,11 +18,11 @@ use std::sync::Wait;
 fn apply_submission<H: Core, K: Sink, R: Wait>(
     rt: &R,
     host: &mut H,
-    waiting: &mut Option<Event>,
+    waiting: &mut Waiting,
     sink: &mut K,
     submission: Submission,
 ) -> u32
-    requires { waiting.old ≡ None }
+    requires { waiting.old.refusal ≡ None }
     ensures { (puts : List (Told × Bool)) × Chain (λ s x t. K.puts s x.0 x.1 t) sink.old puts sink.new
         × AppliesSubmission H.calls (record { host = host.old; waiting = waiting.old }) submission puts (record { host = host.new; waiting = waiting.new })
         × (result ≡ taken_in puts) × (result ≤ 1) }
@@ -33,15 +34,20 @@ fn apply_submission<H: Core, K: Sink, R: Wait>(
     } = submission;
     match host.apply_order(order) {
         Ok(()) => 0,
-        Err(why) => offer(rt, sink, waiting, Event::Refused { seat, number, why }),
+        Err(why) => offer(
+            rt,
+            sink,
+            &mut waiting.refusal,
+            Event::Refused { seat, number, why },
+        ),
     }
 }
 
-/// Takes orders while no event waits, at most 256, and carries them out: how many orders, and how many events were taken.
+/// Takes orders while no refusal waits, at most 256, and carries them out: how many orders, and how many events were taken.
 pub(crate) fn take_orders<H: Core, S: Source, K: Sink, R: Wait>(
     rt: &R,
     host: &mut H,
-    waiting: &mut Option<Event>,
+    waiting: &mut Waiting,
     source: &mut S,
     sink: &mut K,
 ) -> (u32, u32)
@@ -54,7 +60,7 @@ pub(crate) fn take_orders<H: Core, S: Source, K: Sink, R: Wait>(
     let mut orders = 0u32;
     let mut events = 0u32;
     for _order in 0..MOST_PER_TURN {
-        if waiting.is_some() {
+        if waiting.refusal.is_some() {
             return (orders, events);
         }
         match source.next(rt) {

@@ -1,7 +1,7 @@
 //! The service and its turns.
-ghost use Rattle.std.specs.Prelude.{◌≡◌, ◌+◌, None, is_err};
+ghost use Rattle.std.specs.Prelude.{◌≡◌, ◌+◌, is_err};
 ghost use Rattle.enet_wire.specs.Wires.{also, unless_spent};
-ghost use Rattle.enet_turn.specs.Phases.{Chain};
+ghost use Rattle.enet_turn.specs.Phases.{Chain, nothing_waits};
 ghost use Rattle.enet_turn.specs.Turn.{Round, Turn, Reports};
 ghost use Rattle.enet_turn.specs.Counts.{count_of};
 
@@ -11,35 +11,36 @@ use crate::orders::take_orders;
 use crate::receiving::receive_all;
 use crate::report::{Fault, Report};
 use crate::telling::{offer_again, tell_all};
+use crate::waiting::Waiting;
 use enet_bridge::{Sink, Source};
-use enet_codec::{Event, Refusal};
+use enet_codec::Refusal;
 use enet_wire::Wire;
 use std::sync::Wait;
 
 /// Where events come as seldom as this, in milliseconds, whoever takes them has little else to do, and their orders are worth a wait.
 const SELDOM: u32 = 2;
 
-/// A host, and the event that waits for room in the sink, if there is one.
+/// A host, and what waits for room in the sink.
 #[derive(Drop)]
 pub struct Service<H> {
     pub host: H,
-    pub waiting: Option<Event>,
+    pub waiting: Waiting,
 }
 
 impl<H: Core> Service<H> {
-    /// A service of this host, with no event waiting.
+    /// A service of this host, with nothing waiting.
     pub fn new(host: H) -> Service<H>
-        ensures { (result.host ≡ host) × (result.waiting ≡ None) }
+        ensures { (result.host ≡ host) × (result.waiting ≡ nothing_waits) }
     {
         Service {
             host,
-            waiting: None,
+            waiting: Waiting::nothing(),
         }
     }
 
-    /// One turn: the tick; one offer of the event that waits; while none waits, at most 256 orders; at most 256 datagrams in; at
-    /// most 256 datagrams out, and none after 16 that were lost or one whose send would block; and while no event waits, the host's
-    /// events. Where it told some after 2 ms or more, it tells the source that orders are likely to come soon.
+    /// One turn: the tick; one offer of what waits, the refusal first; while no refusal waits, at most 256 orders; at most 256 datagrams
+    /// in; at most 256 datagrams out, and none after 16 that were lost or one whose send would block; and while no event of it waits,
+    /// the host's events. Where it told some after 2 ms or more, it tells the source that orders are likely to come soon.
     ///
     /// E14 where the wire fails: the turn ends there, and the report says what was done before.
     pub fn turn<W: Wire, S: Source, K: Sink, R: Wait>(

@@ -9,7 +9,7 @@ returns-in-Err g c =
     let counted : c.offer.result ≡ count_of taken = c.offer.ensures.3 in (
       (_, taken) ∷ [],
       (c.offer.new.sink, c.offer.ensures.1, refl),
-      record { why = Some c.in-Err.why; applied = c.in-Err.ensures; told = (taken, refl, c.offer.ensures.2) },
+      record { why = Some c.in-Err.why; applied = c.in-Err.ensures; told = (taken, refl, c.offer.ensures.2); stays = refl },
       omega (arith, counted),
       omega (arith, counted, count_small taken),
     )

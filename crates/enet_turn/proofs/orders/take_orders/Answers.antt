@@ -13,7 +13,7 @@ loop-order-init g c = ([], refl, [], refl, refl, refl, refl, omega arith, λ mor
 pub returns-then-is_some : goal.returns-then-is_some
 returns-then-is_some g c =
     let inv = c.loop-order.invariant in
-    let waits = some_is c.loop-order.waiting (sym c.is_some.ensures ∙ c.if-is_some.true) in
+    let waits = some_is c.loop-order.waiting.refusal (sym c.is_some.ensures ∙ c.if-is_some.true) in
     (inv.0, inv.1, inv.2, inv.3, orders_end _ _ _ _ inv.0 inv.2 inv.8 (inl waits), inv.4, inv.5)
 
 pub returns : goal.returns
@@ -24,7 +24,7 @@ returns g c =
 pub returns-in-None : goal.returns-in-None
 returns-in-None g c =
     let inv = c.loop-order.invariant in
-    let none = none_is c.loop-order.waiting (sym c.is_some.ensures ∙ c.if-is_some.false) in
+    let none = none_is c.loop-order.waiting.refusal (sym c.is_some.ensures ∙ c.if-is_some.false) in
     let puts : List (Event × Bool) = inv.2 in
     let gave : List (Option Submission) = inv.0 in (
       gave ++ None ∷ [],
@@ -39,7 +39,7 @@ returns-in-None g c =
 pub loop-order-preserved : goal.loop-order-preserved
 loop-order-preserved g c =
     let inv = c.loop-order.invariant in
-    let none = none_is c.loop-order.waiting (sym c.is_some.ensures ∙ c.if-is_some.false) in
+    let none = none_is c.loop-order.waiting.refusal (sym c.is_some.ensures ∙ c.if-is_some.false) in
     let puts : List (Event × Bool) = inv.2 in
     let gave : List (Option Submission) = inv.0 in
     let mine : List (Event × Bool) = c.apply_submission-events.ensures.0 in

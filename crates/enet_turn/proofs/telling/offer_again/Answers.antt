@@ -1,15 +1,18 @@
-use Rattle.std.proofs.Common.{◌≡◌, [], ◌∷◌, Bool, Option, refl, subst, ◌∙◌, sym, arith}
+use Rattle.std.proofs.Common.{◌≡◌, List, ◌++◌, Bool, refl, arith}
 use Rattle.enet_codec.specs.declared.event.Event.{Event}
-use Rattle.enet_turn.specs.Counts.{count_of}
-use Rattle.enet_turn.specs.Phases.{Offers}
+use Rattle.enet_turn.specs.Counts.{taken_in}
+use Rattle.enet_turn.proofs.PhaseSteps.{chain_more}
+use Rattle.enet_turn.proofs.Tellings.{taken_more}
 use Rattle.enet_turn.proofs.telling.offer_again.Goals as goal
 
-pub returns-in-Some : goal.returns-in-Some
-returns-in-Some g c =
-    let taken : Bool = c.offer.ensures.0 in
-    let counted : c.offer.result ≡ count_of taken = c.offer.ensures.3 in (
-      (c.in-Some.event, taken) ∷ [],
-      (c.offer.new.sink, c.offer.ensures.1, refl),
-      subst (λ (w : Option Event). Offers w ((c.in-Some.event, taken) ∷ []) c.offer.new.waiting) (sym c.in-Some.is ∙ c.take.ensures.value) (taken, refl, c.offer.ensures.2),
-      omega (arith, counted),
+pub returns : goal.returns
+returns g c =
+    let first : List (Event × Bool) = c.offer_in-refusals.ensures.offers.0 in
+    let second : List (Event × Bool) = c.offer_in-events.ensures.offers.0 in
+    let refusals : c.offer_in-refusals.result ≡ taken_in first = c.offer_in-refusals.ensures.offers.3 in
+    let events : c.offer_in-events.result ≡ taken_in second = c.offer_in-events.ensures.offers.3 in (
+      first ++ second,
+      chain_more _ _ _ _ _ _ c.offer_in-refusals.ensures.offers.1 c.offer_in-events.ensures.offers.1,
+      (first, second, c.offer_in-refusals.ensures.offers.2, c.offer_in-events.ensures.offers.2, refl),
+      omega (arith, taken_more first second, refusals, events),
     )
