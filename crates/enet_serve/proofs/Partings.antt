@@ -2,7 +2,6 @@
 use Rattle.std.proofs.Common.{◌≡◌, ◌≤◌, List, [], ◌∷◌, ◌++◌, length, Option, Some, None, refl, sym, ◌∙◌, ap, subst, append-nil, arith}
 use Rattle.std.proofs.lemmas.Grind.{flat_map-append}
 use Rattle.std.proofs.lemmas.List.{length-append}
-use Rattle.enet_codec.specs.declared.event.Event.{Event}
 use Rattle.enet_codec.specs.declared.event.DisconnectMode.{DisconnectMode}
 use Rattle.enet_codec.specs.declared.event.DisconnectMode.TheVariants.{Later, Now}
 use Rattle.enet_codec.specs.declared.event.PeerRef.{PeerRef}
@@ -10,6 +9,7 @@ use Rattle.enet_submit.specs.declared.order.Submission.{Submission}
 use Rattle.enet_host.specs.Host.{Host, all_names}
 use Rattle.enet_bridge.specs.Memory.{FirstIs}
 use Rattle.enet_turn.specs.declared.service.Service.{Service}
+use Rattle.enet_turn.specs.declared.waiting.Waiting.{Waiting}
 use Rattle.enet_turn.specs.Hosting.{host_calls}
 use Rattle.enet_turn.specs.LoneTurn.{beside}
 use Rattle.enet_turn.specs.Phases.{Chain}
@@ -43,7 +43,7 @@ no-turn a = record { rounds = []; turns = refl; no_orders = refl }
 abbrev span : List Round → DisconnectMode → List PeerRef → Span
 span rounds how peers = record { kind = beside; rounds = rounds; how = how; parted = peers }
 
-parts-of : (how : DisconnectMode) (w : Option Event) (old : Host) (peers : List PeerRef) (new : Host) → PartsFrom how old peers new
+parts-of : (how : DisconnectMode) (w : Waiting) (old : Host) (peers : List PeerRef) (new : Host) → PartsFrom how old peers new
     → Parts host_calls how (record { host = old; waiting = w }) peers (record { host = new; waiting = w })
 parts-of how w old [] new same = ap (λ (h : Host). record { host = h; waiting = w }) same
 parts-of how w old (p ∷ peers) new r = (record { host = r.0; waiting = w }, (r.1.0, r.1.1, refl), parts-of how w r.0 peers new r.2)

@@ -19,6 +19,8 @@ use Rattle.enet_guard.specs.Guarding.{Guarding, new_guard}
 use Rattle.enet_guard.specs.Journals.{told_of as told_at}
 use Rattle.enet_turn.specs.declared.report.Report.{Report}
 use Rattle.enet_turn.specs.declared.service.Service.{Service}
+use Rattle.enet_turn.specs.declared.waiting.Waiting.{Waiting}
+use Rattle.enet_turn.specs.Phases.{nothing_waits}
 use Rattle.enet_turn.specs.Hosting.{host_calls}
 use Rattle.enet_turn.specs.LoneTurn.{Kind, beside, lone, RoundsOf}
 use Rattle.enet_service.specs.Queues.{given, accepted}
@@ -46,8 +48,8 @@ told_of server = told_at server.bound.wire
 abbrev pub guard_of : ChatServer → Guarding
 guard_of server = server.bound.wire.guard
 
--- the event that waits for room in the queue, if there is one
-abbrev pub waiting_of : ChatServer → Option Event
+-- what waits for room in the queue
+abbrev pub waiting_of : ChatServer → Waiting
 waiting_of server = server.bound.service.waiting
 
 -- its service
@@ -94,7 +96,7 @@ is_in_range settings = configs.is_in_range (config_of settings)
 pub record IsOpened (settings : Settings) (server : ChatServer) : Type 0 where
   pub host : host_of server ≡ opened (config_of settings)
   pub guard : guard_of server ≡ new_guard settings.rules (slots_of settings)
-  pub waiting : waiting_of server ≡ None
+  pub waiting : waiting_of server ≡ nothing_waits
   pub faults : faults_of server ≡ 0
   pub told : told_of server ≡ []
   pub queue_capacity : queue_capacity_of server ≡ settings.queue_capacity

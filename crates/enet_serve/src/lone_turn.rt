@@ -102,8 +102,8 @@ fn apply_all<H: Core, R: Wait>(
     Ok(report)
 }
 
-// Expands what was told. An event that the list refused ends the run: while it waited no order would be taken, and so, with many orders, no
-// event expanded that makes room for it.
+// Expands what was told. An event that the list refused ends the run, since memory is wanting: while a refusal waited no order would be taken,
+// and so, with many orders, no event expanded that makes room for it.
 fn expand<H: Core>(service: &Service<H>, relay: &mut LoneRelay) -> Result<(), Refusal>
     ensures expands { OnOk result (Expands relay.old relay.new) }
     ensures behind { OnOk result (AreBehind relay.new.events relay.new.orders) }

@@ -1,5 +1,5 @@
 -- What a service's thread does in a run.
-use Rattle.std.specs.Prelude.{◌≡◌, ◌⊎◌, ℕ, ◌+◌, ◌*◌, ◌≤◌, ◌<◌, nat_lt, if◌then◌else◌, min, List, [], ◌∷◌, ◌++◌, Option, length, None}
+use Rattle.std.specs.Prelude.{◌≡◌, ◌⊎◌, ℕ, ◌+◌, ◌*◌, ◌≤◌, ◌<◌, nat_lt, if◌then◌else◌, min, List, [], ◌∷◌, ◌++◌, Option, length}
 use Rattle.std.specs.List.{All}
 use Rattle.enet_codec.specs.declared.config.Config.{Config}
 use Rattle.enet_codec.specs.declared.event.DisconnectMode.{DisconnectMode}
@@ -24,7 +24,7 @@ use Rattle.enet_host.specs.Host.{Host}
 use Rattle.enet_host.specs.Opening.{opened}
 use Rattle.enet_turn.specs.declared.report.Report.{Report}
 use Rattle.enet_turn.specs.Hosting.{host_calls, AppliesOrder}
-use Rattle.enet_turn.specs.Phases.{Chain}
+use Rattle.enet_turn.specs.Phases.{Chain, nothing_waits}
 use Rattle.enet_service.specs.Queues.{given, accepted, DrainsOn, PostsOn}
 use Rattle.enet_turn.specs.Turn.{Round}
 use Rattle.enet_turn.specs.Run.{Rounds, IsSound, AreCut, all_gave, all_told, all_puts, total}
@@ -55,9 +55,9 @@ pub record AreNew (queue : SubmitQueue) (events : Queue) (ends : Ends) : Type 0 
   pub taker : (ends.taker.queue ≡ events.id) × (ends.taker.taken ≡ [])
   pub one_taker : events.id.takers ≡ 1
 
--- a service that did nothing yet: its host as opened, and no event waits
+-- a service that did nothing yet: its host as opened, and nothing waits
 abbrev pub beginning : Config → Service Host
-beginning config = record { host = opened config; waiting = None }
+beginning config = record { host = opened config; waiting = nothing_waits }
 
 -- so few orders were taken and events told that a run for a time may go on
 abbrev pub AreFew : Report → Type 0

@@ -49,7 +49,7 @@ pub use enet_bridge::{
     Source, TakerBell,
 };
 pub use enet_host::HostCore;
-pub use enet_turn::{Core, Fault, Report, Service, run};
+pub use enet_turn::{Core, Fault, Report, Service, Waiting, run};
 pub use enet_wire::{
     Bell, MOST_LOST_PER_TURN, MOST_PER_TURN, MemoryWire, MioWire, SendOutcome, Step, Told,
     Unopened, Wire, system_secret, system_word,

@@ -90,7 +90,7 @@ impl<'a> Game<'a> {
     }
 
     // Hands the service what was asked for, and wakes it. What finds no room waits, and events are taken on: a thread that waited for room
-    // here could wait for ever, since the service takes no orders while it has no room for an event.
+    // here could wait for ever, since the service takes no orders while it has no room for a refusal.
     fn submit<R: Wait>(&mut self, rt: &R) -> Result<(), Refusal> {
         if self.sender.is_empty() && self.news.is_empty() {
             return Ok(());
