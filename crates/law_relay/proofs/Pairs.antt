@@ -17,7 +17,7 @@ use Rattle.law_network.specs.Network.{is_same_name}
 use Rattle.enet_bridge.specs.Ends.{orders}
 use Rattle.enet_service.specs.Queues.{given, accepted}
 use Rattle.enet_turn.specs.Run.{all_gave, all_puts}
-use Rattle.law_service.specs.Told.{packet_in, told}
+use Rattle.law_service.specs.Told.{packet_in, held_in, told}
 use Rattle.law_headline.specs.Page.{User, IsHeadline, Follows, came, AreLast, IsOneLife, submitted_if, taken_if, is_of}
 use Rattle.law_headline.proofs.Page.{longer, shorter, came-append, life-first}
 use Rattle.law_service.specs.EndToEnd.{rounds_of, Running, user_of}
@@ -356,7 +356,7 @@ pub record Told (r : Running) (l : Relaying r) : Type 0 where
   pub all : told (rounds_of r) r.left.waiting ≡ l.expanded ++ more
 
 pub told-is : (r : Running) (l : Relaying r) → Told r l
-told-is r l = record { more = l.backlog ++ option_to_list r.left.waiting; all = ap (λ (es : List Event). es ++ option_to_list r.left.waiting) l.events ∙ append_assoc l.expanded l.backlog (option_to_list r.left.waiting) }
+told-is r l = record { more = l.backlog ++ held_in r.left.waiting; all = ap (λ (es : List Event). es ++ held_in r.left.waiting) l.events ∙ append_assoc l.expanded l.backlog (held_in r.left.waiting) }
 
 -- for each other client
 pub each-other : (hosts : Addr → Bool) (server : Running) (l : Relaying server) (cu : ℕ → User) (asked : List (ℕ × PeerRef)) (h : IsHeadline (user_of hosts server) cu asked)

@@ -16,7 +16,7 @@ use Rattle.enet_turn.specs.Run.{all_gave, all_puts}
 use Rattle.enet_service.specs.ServiceRuns.{beginning}
 use Rattle.law_service.specs.Told.{told, packet_in, submitted_in, Answered, refusal, is_refused, unless_refused, settled}
 use Rattle.law_service.specs.Law.{noted}
-use Rattle.law_service.proofs.Telling.{Ledger, spans-ledger}
+use Rattle.law_service.proofs.Telling.{Ledger, nothing-sorted, told-refusals, spans-ledger}
 use Rattle.law_headline.specs.Page.{User, IsHeadline, Follows, came, submitted_if, is_of}
 use Rattle.law_service.specs.EndToEnd.{rounds_of, Running, user_of}
 use Rattle.law_relay.specs.Relay.{Relaying, heard, as_chat, chat_for}
@@ -30,7 +30,7 @@ has-answers r = record {
   answered = l.answered;
   given_is = l.given_are;
   accepted_is = λ name channel. ap (λ (c : List Call). submitted_in c name channel) l.calls_are ∙ l.packets name channel;
-  refused_is = ap (filter is_refused) (sym l.put) ∙ l.refusals;
+  refused_is = told-refusals (noted (beginning r.config) []) (noted r.left r.calls) (all_gave (rounds_of r)) (all_puts (rounds_of r)) l nothing-sorted;
 }
   where
     l : Ledger (noted (beginning r.config) []) (noted r.left r.calls) (all_gave (rounds_of r)) (all_puts (rounds_of r))

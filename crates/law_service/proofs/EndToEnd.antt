@@ -43,7 +43,7 @@ use Rattle.law_service.specs.Told.{told, submitted_in, taken_in}
 use Rattle.law_service.specs.Law.{noted}
 use Rattle.law_service.specs.EndToEnd.{rounds_of, Running, brings_guest, user_of, user_in, user_of_calls, user_if, HoldsThroughout, AtEachMoment, configs, IsCall, Makes, AllMake, is_node, call_at, calls_at, asks, asked, EndToEnd, Part, Threads, ThreadsAt, user_by, user_at, BetweenThreads}
 use Rattle.law_service.proofs.Lives.{Behind, all-behind}
-use Rattle.law_service.proofs.Telling.{life-tells}
+use Rattle.law_service.proofs.Telling.{nothing-sorted, life-tells}
 
 push : {X Y : Type 0} (g : X → List Y) (hs : List X) (h : X) → flat_map g (hs ++ h ∷ []) ≡ flat_map g hs ++ g h
 push g hs h = flat_map-append g hs (h ∷ []) ∙ ap (λ (l : List _). flat_map g hs ++ l) (append-nil (g h))
@@ -575,7 +575,7 @@ behind hosts r t = record {
 }
   where
     k : Behind (noted (beginning r.config) []) t.parts (noted r.left r.calls)
-    k = all-behind (noted (beginning r.config) []) t.parts (noted r.left r.calls) t.in_order t.over
+    k = all-behind (noted (beginning r.config) []) t.parts (noted r.left r.calls) nothing-sorted t.in_order t.over
 
 pub behind-at : (hosts : Addr → Bool) (o : Option Running) (t : ThreadsAt o) → IsBehind (user_in hosts o) (user_at hosts o t)
 behind-at hosts None t = record { more = λ p channel. ([], refl); fewer = λ p. ([], refl); same = refl }

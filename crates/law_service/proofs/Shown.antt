@@ -1,6 +1,5 @@
 -- What runs between two queues show, once these were settled.
 use Rattle.std.proofs.Common.{◌≡◌, inl, inr, ℕ, List, [], ◌∷◌, ◌++◌, map, refl, sym, ap, subst, ◌∙◌, append-nil, Option}
-use Rattle.std.specs.Prelude.{option_to_list}
 use Rattle.enet_codec.specs.declared.config.Config.{Config}
 use Rattle.enet_codec.specs.declared.event.Event.{Event}
 use Rattle.enet_submit.specs.declared.order.Order.{Order}
@@ -20,6 +19,7 @@ use Rattle.enet_service.specs.ServiceRuns.{Advances, Standing, TakesTurns, begin
 use Rattle.enet_turn.specs.Spans.{Span, Parts, Spans, rounds_in}
 use Rattle.enet_turn.specs.Turn.{Round}
 use Rattle.enet_bridge.specs.Ends.{orders}
+use Rattle.law_service.specs.Told.{held_in}
 use Rattle.law_service.specs.EndToEnd.{Running, Part, AreRuns, AreOver, Threads}
 use Rattle.law_service.specs.Queues.{AtQueues, TakesRounds, RunsBetween, Shows, EachRunShows, IsPart, Run, span_of, HasRun, IsThreadOf, AreThreadsOf, EachLifeShows}
 use Rattle.law_service.proofs.Queues.{each-thread}
@@ -94,7 +94,7 @@ pub record HasPart (old : Service Host) (run : Run) (new : Service Host) : Type 
   pub spans : Spans host_calls old part.spans new
   pub after : new.waiting ≡ part.after
   pub thread : IsThreadOf run part
-  pub over : part.left ≡ option_to_list part.after
+  pub over : part.left ≡ held_in part.after
 
 has-part : (old : Service Host) (run : Run) (new : Service Host) → HasRun old run new → HasPart old run new
 has-part old run new h =
@@ -111,7 +111,7 @@ has-part old run new h =
         rest = ap orders t.1.unsent ∙ s.rest_is;
         got = t.1.got ∙ ap (λ (k : Rattle.enet_events.specs.Words.TakerState). map (λ (x : Numbered). x.event) k.taken) s.taker;
       };
-      over = t.1.left ∙ ap (λ (xs : List Numbered). map (λ (x : Numbered). x.event) xs ++ option_to_list new.waiting) s.none_waits ∙ ap option_to_list (sym t.1.waits.1);
+      over = t.1.left ∙ ap (λ (xs : List Numbered). map (λ (x : Numbered). x.event) xs ++ held_in new.waiting) s.none_waits ∙ ap held_in (sym t.1.waits.1);
     }
 
 pub record HaveParts (old : Service Host) (runs : List Run) (new : Service Host) : Type 0 where
@@ -120,7 +120,7 @@ pub record HaveParts (old : Service Host) (runs : List Run) (new : Service Host)
   pub over : AreOver parts
   pub threads : AreThreadsOf runs parts
 
-and-over : (a : Part) (parts : List Part) → a.left ≡ option_to_list a.after → AreOver parts → AreOver (a ∷ parts)
+and-over : (a : Part) (parts : List Part) → a.left ≡ held_in a.after → AreOver parts → AreOver (a ∷ parts)
 and-over a [] left over = tt
 and-over a (b ∷ parts) left over = (left, over)
 

@@ -30,7 +30,8 @@ use Rattle.law_network.specs.Network.{is_same_name}
 use Rattle.law_network.specs.Steps.{Calls}
 use Rattle.law_network.proofs.Lists.{same-or}
 use Rattle.enet_turn.specs.declared.service.Service.{Service}
-use Rattle.enet_turn.specs.Phases.{Ordered, Wired, Offers, AppliesSubmission, refusal_event, left_over, Orders, ReceivesAll, EndsEmitting, at_limit, has_none, fails, EmitsAll, TellsAll}
+use Rattle.enet_turn.specs.declared.waiting.Waiting.{Waiting}
+use Rattle.enet_turn.specs.Phases.{Ordered, Wired, Offers, OffersWaiting, nothing_waits, AppliesSubmission, refusal_event, left_over, Orders, ReceivesAll, EndsEmitting, at_limit, has_none, fails, EmitsAll, TellsAll}
 use Rattle.enet_service.specs.Queues.{given, accepted}
 use Rattle.enet_turn.specs.LoneTurn.{Kind, beside, lone, either, Applied, AppliesAll, Begins, LoneTurn, TurnOf, RoundsOf, gave_in, puts_in}
 use Rattle.enet_turn.specs.Run.{all_gave, all_puts}
@@ -38,26 +39,37 @@ use Rattle.enet_turn.specs.Turn.{Round, AfterReceiving, AfterEmitting, Turn}
 use Rattle.law_headline.specs.Kept.{submitted_by, taken_by}
 use Rattle.law_headline.specs.Page.{is_of}
 use Rattle.law_service.specs.Noting.{Noted, Notes, IsOrder, noting, why_submitted}
-use Rattle.law_service.specs.Told.{told as told_by, is_refusal_of, packet_in, packet_unless, packets_of, submitted, taken, submitted_in, taken_in, Answered, refusal, is_refused, unless_refused, settled}
+use Rattle.law_service.specs.Told.{told as told_by, held_in, is_refusal_of, packet_in, packet_unless, packets_of, submitted, taken, submitted_in, taken_in, Answered, refusal, is_refused, unless_refused, settled}
 use Rattle.law_service.specs.Law.{noted, AreNumbered, EachRunTells}
 use Rattle.enet_turn.specs.Spans.{Span, Parts, Spans, rounds_in}
+use Rattle.law_service.proofs.Merging.{AreMerged, merged-left, merged-right, merged-append, both-none, first-of, second-of}
 use Rattle.law_service.proofs.Simulation.{over}
 use Rattle.enet_codec.specs.declared.event.DisconnectMode.{DisconnectMode}
 
--- from one state of a service to a later one: its calls, the events that it made, and the orders with what was answered
+-- from one state of a service to a later one: its calls, the events that these made, and the orders with what was answered. What was put is the
+-- host's events and refusals, those of each kind in order: with what waits then, what waited before and what was made
 pub record Ledger (old new : Service Noted) (gave : List (Option Submission)) (puts : List (Event × Bool)) : Type 0 where
   pub calls : List Call
   pub made : List Event
   pub answered : List Answered
   pub calls_are : new.host.calls ≡ old.host.calls ++ calls
-  pub put : option_to_list old.waiting ++ made ≡ accepted puts ++ option_to_list new.waiting
+  pub of_host : List Event
+  pub of_orders : List Event
+  pub puts_are : AreMerged of_host of_orders (accepted puts)
+  pub host_put : option_to_list old.waiting.event ++ made ≡ of_host ++ option_to_list new.waiting.event
+  pub orders_put : option_to_list old.waiting.refusal ++ flat_map refusal answered ≡ of_orders ++ option_to_list new.waiting.refusal
   pub given_are : given gave ≡ map (λ (w : Answered). w.0) answered
   pub packets : (name : PeerRef) (channel : ℕ) → submitted_in calls name channel ≡ flat_map (settled name channel) answered
   pub taken_are : (name : PeerRef) → filter (is_of name) made ≡ taken_in calls name
-  pub refusals : filter is_refused made ≡ flat_map refusal answered
+  pub plain : filter is_refused made ≡ []
 
 pub accepted-append : (p q : List (Event × Bool)) → accepted (p ++ q) ≡ accepted p ++ accepted q
 accepted-append p q = ap (map (λ (x : Event × Bool). x.0)) (filter-append (λ (x : Event × Bool). x.1) p q) ∙ map-append (λ (x : Event × Bool). x.0) (filter (λ (x : Event × Bool). x.1) p) (filter (λ (x : Event × Bool). x.1) q)
+
+-- what is put, and then more
+put-on : (o m p n m_2 p_2 n_2 : List Event) → o ++ m ≡ p ++ n → n ++ m_2 ≡ p_2 ++ n_2 → o ++ (m ++ m_2) ≡ (p ++ p_2) ++ n_2
+put-on o m p n m_2 p_2 n_2 e f =
+    sym (append_assoc o m m_2) ∙ ap (λ (x : List Event). x ++ m_2) e ∙ append_assoc p n m_2 ∙ ap (λ (x : List Event). p ++ x) f ∙ sym (append_assoc p p_2 n_2)
 
 join : (a b c : Service Noted) (g h : List (Option Submission)) (p q : List (Event × Bool)) → Ledger a b g p → Ledger b c h q → Ledger a c (g ++ h) (p ++ q)
 join a b c g h p q k l = record {
@@ -65,13 +77,19 @@ join a b c g h p q k l = record {
   made = k.made ++ l.made;
   answered = k.answered ++ l.answered;
   calls_are = l.calls_are ∙ ap (λ (x : List Call). x ++ l.calls) k.calls_are ∙ append_assoc a.host.calls k.calls l.calls;
-  put = sym (append_assoc (option_to_list a.waiting) k.made l.made) ∙ ap (λ (x : List Event). x ++ l.made) k.put ∙ append_assoc (accepted p) (option_to_list b.waiting) l.made
-      ∙ ap (λ (x : List Event). accepted p ++ x) l.put ∙ sym (append_assoc (accepted p) (accepted q) (option_to_list c.waiting)) ∙ ap (λ (x : List Event). x ++ option_to_list c.waiting) (sym (accepted-append p q));
+  of_host = k.of_host ++ l.of_host;
+  of_orders = k.of_orders ++ l.of_orders;
+  puts_are = subst (λ (x : List Event). AreMerged (k.of_host ++ l.of_host) (k.of_orders ++ l.of_orders) x) (sym (accepted-append p q))
+      (merged-append k.of_host k.of_orders (accepted p) l.of_host l.of_orders (accepted q) k.puts_are l.puts_are);
+  host_put = put-on (option_to_list a.waiting.event) k.made k.of_host (option_to_list b.waiting.event) l.made l.of_host (option_to_list c.waiting.event) k.host_put l.host_put;
+  orders_put = ap (λ (x : List Event). option_to_list a.waiting.refusal ++ x) (flat_map-append refusal k.answered l.answered)
+      ∙ put-on (option_to_list a.waiting.refusal) (flat_map refusal k.answered) k.of_orders (option_to_list b.waiting.refusal) (flat_map refusal l.answered) l.of_orders (option_to_list c.waiting.refusal)
+      k.orders_put l.orders_put;
   given_are = filter_map-append (λ (x : Option Submission). x) g h ∙ (λ i. k.given_are i ++ l.given_are i) ∙ sym (map-append (λ (w : Answered). w.0) k.answered l.answered);
   packets = λ name channel. flat_map-append (λ (c : Call). submitted_by name channel (Calls c)) k.calls l.calls ∙ (λ i. k.packets name channel i ++ l.packets name channel i)
       ∙ sym (flat_map-append (settled name channel) k.answered l.answered);
   taken_are = λ name. filter-append (is_of name) k.made l.made ∙ (λ i. k.taken_are name i ++ l.taken_are name i) ∙ sym (flat_map-append (λ (c : Call). taken_by name (Calls c)) k.calls l.calls);
-  refusals = filter-append is_refused k.made l.made ∙ (λ i. k.refusals i ++ l.refusals i) ∙ sym (flat_map-append refusal k.answered l.answered);
+  plain = filter-append is_refused k.made l.made ∙ (λ i. k.plain i ++ l.plain i);
 }
 
 -- nothing happened
@@ -81,26 +99,39 @@ nothing s gave none = record {
   made = [];
   answered = [];
   calls_are = sym (append-nil s.host.calls);
-  put = append-nil (option_to_list s.waiting);
+  of_host = [];
+  of_orders = [];
+  puts_are = (refl, refl);
+  host_put = append-nil (option_to_list s.waiting.event);
+  orders_put = append-nil (option_to_list s.waiting.refusal);
   given_are = none;
   packets = λ name channel. refl;
   taken_are = λ name. refl;
-  refusals = refl;
+  plain = refl;
 }
 
 -- a call that is no order and tells nothing
-quiet : (k l : Noted) (waiting : Option Event) (c : Call) → Notes k c l → ((name : PeerRef) (channel : ℕ) → submitted_by name channel (Calls c) ≡ []) → ((name : PeerRef) → taken_by name (Calls c) ≡ []) → Ledger (over k waiting) (over l waiting) [] []
+quiet : (k l : Noted) (waiting : Waiting) (c : Call) → Notes k c l → ((name : PeerRef) (channel : ℕ) → submitted_by name channel (Calls c) ≡ []) → ((name : PeerRef) → taken_by name (Calls c) ≡ []) → Ledger (over k waiting) (over l waiting) [] []
 quiet k l waiting c n none none' = record {
   calls = c ∷ [];
   made = [];
   answered = [];
   calls_are = n.1;
-  put = append-nil (option_to_list waiting);
+  of_host = [];
+  of_orders = [];
+  puts_are = (refl, refl);
+  host_put = append-nil (option_to_list waiting.event);
+  orders_put = append-nil (option_to_list waiting.refusal);
   given_are = refl;
   packets = λ name channel. ap (λ (x : List Packet). x ++ []) (none name channel);
   taken_are = λ name. sym (ap (λ (x : List Event). x ++ []) (none' name));
-  refusals = refl;
+  plain = refl;
 }
+
+-- no refusal
+abbrev is_plain : Event → Bool
+is_plain (events.Refused seat number why) = false
+is_plain e = true
 
 -- an event, if there is one, is offered
 offered : (o : Option Event) (puts : List (Event × Bool)) (after : Option Event) → Offers o puts after → accepted puts ++ option_to_list after ≡ option_to_list o
@@ -111,18 +142,26 @@ offered (Some e) puts after h = (λ i. accepted (h.1 i) ++ option_to_list (h.2 i
     by true = refl
     by false = refl
 
-offers-again : (k : Noted) (waiting after : Option Event) (puts : List (Event × Bool)) → Offers waiting puts after → Ledger (over k waiting) (over k after) [] puts
-offers-again k waiting after puts h = record {
-  calls = [];
-  made = [];
-  answered = [];
-  calls_are = sym (append-nil k.calls);
-  put = append-nil (option_to_list waiting) ∙ sym (offered waiting puts after h);
-  given_are = refl;
-  packets = λ name channel. refl;
-  taken_are = λ name. refl;
-  refusals = refl;
-}
+offers-again : (k : Noted) (waiting after : Waiting) (puts : List (Event × Bool)) → OffersWaiting waiting puts after → Ledger (over k waiting) (over k after) [] puts
+offers-again k waiting after puts h =
+    let offers : Ledger (over k waiting) (over k after) [] (h.0 ++ h.1) = record {
+      calls = [];
+      made = [];
+      answered = [];
+      calls_are = sym (append-nil k.calls);
+      of_host = accepted h.1;
+      of_orders = accepted h.0 ++ [];
+      puts_are = subst (λ (x : List Event). AreMerged (accepted h.1) (accepted h.0 ++ []) x) (sym (accepted-append h.0 h.1))
+          (merged-append [] (accepted h.0) (accepted h.0) (accepted h.1) [] (accepted h.1) (merged-right (accepted h.0)) (merged-left (accepted h.1)));
+      host_put = append-nil (option_to_list waiting.event) ∙ sym (offered waiting.event h.1 after.event h.3);
+      orders_put = append-nil (option_to_list waiting.refusal) ∙ sym (offered waiting.refusal h.0 after.refusal h.2)
+          ∙ ap (λ (x : List Event). x ++ option_to_list after.refusal) (sym (append-nil (accepted h.0)));
+      given_are = refl;
+      packets = λ name channel. refl;
+      taken_are = λ name. refl;
+      plain = refl;
+    } in
+    subst (λ (p : List (Event × Bool)). Ledger (over k waiting) (over k after) [] p) (sym h.4) offers
 
 -- an order
 
@@ -153,21 +192,22 @@ refused-of : (x : Submission) (why : Option Refusal) (name : PeerRef) → filter
 refused-of x None name = refl
 refused-of x (Some w) name = refl
 
-refused-all : (x : Submission) (why : Option Refusal) → filter is_refused (option_to_list (refusal_event x why)) ≡ refusal (x, why) ++ []
-refused-all x None = refl
-refused-all x (Some w) = refl
-
-carries : (old : Service Noted) (x : Submission) (puts : List (Event × Bool)) (new : Service Noted) → old.waiting ≡ None → AppliesSubmission noting old x puts new → Ledger old new (Some x ∷ []) puts
+carries : (old : Service Noted) (x : Submission) (puts : List (Event × Bool)) (new : Service Noted) → old.waiting.refusal ≡ None → AppliesSubmission noting old x puts new → Ledger old new (Some x ∷ []) puts
 carries old x puts new none h = record {
   calls = c ∷ [];
-  made = option_to_list (refusal_event x h.why);
+  made = [];
   answered = (x, h.why) ∷ [];
   calls_are = h.applied.2.1;
-  put = ap (λ (o : Option Event). option_to_list o ++ option_to_list (refusal_event x h.why)) none ∙ sym (offered (refusal_event x h.why) puts new.waiting h.told);
+  of_host = [];
+  of_orders = accepted puts;
+  puts_are = merged-right (accepted puts);
+  host_put = append-nil (option_to_list old.waiting.event) ∙ ap option_to_list (sym h.stays);
+  orders_put = ap (λ (o : Option Event). option_to_list o ++ (option_to_list (refusal_event x h.why) ++ [])) none ∙ append-nil (option_to_list (refusal_event x h.why))
+      ∙ sym (offered (refusal_event x h.why) puts new.waiting.refusal h.told);
   given_are = refl;
   packets = λ name channel. ap (λ (l : List Packet). l ++ []) (order-packets x.order h.why c h.applied.1 name channel);
-  taken_are = λ name. refused-of x h.why name ∙ sym (ap (λ (l : List Event). l ++ []) (order-taken x.order h.why c h.applied.1 name));
-  refusals = refused-all x h.why;
+  taken_are = λ name. sym (ap (λ (l : List Event). l ++ []) (order-taken x.order h.why c h.applied.1 name));
+  plain = refl;
 }
   where
     c : Call
@@ -183,7 +223,7 @@ orders-ledger left old (Some x ∷ rest) after h =
 
 -- datagrams
 
-hears-ledger : (waiting : Option Event) (left : ℕ) (old : Noted) (came : List Told) (after : Wired Noted) → ReceivesAll noting left old came after → Ledger (over old waiting) (over after.host waiting) [] []
+hears-ledger : (waiting : Waiting) (left : ℕ) (old : Noted) (came : List Told) (after : Wired Noted) → ReceivesAll noting left old came after → Ledger (over old waiting) (over after.host waiting) [] []
 hears-ledger waiting left old [] after h = subst (λ (k : Noted). Ledger (over old waiting) (over k waiting) [] []) (sym h.1) (nothing (over old waiting) [] refl)
 hears-ledger waiting left old (NothingCame ∷ rest) after h = subst (λ (k : Noted). Ledger (over old waiting) (over k waiting) [] []) (sym h.3) (nothing (over old waiting) [] refl)
 hears-ledger waiting left old (Came from bytes ∷ rest) after h =
@@ -191,10 +231,10 @@ hears-ledger waiting left old (Came from bytes ∷ rest) after h =
     (quiet old h.1 waiting (call.Receive from bytes h.2.0) h.2.1 (λ name channel. refl) (λ name. refl)) (hears-ledger waiting (left - 1) h.1 rest after h.3)
 hears-ledger waiting left old (x ∷ rest) after h = absurd h
 
-gives-ledger : (waiting : Option Event) (old : Noted) (given : Option (Rattle.enet_codec.specs.declared.address.Addr.Addr × List ℕ)) (new : Noted) → Rattle.law_service.specs.Noting.EmitsDatagram old given new → Ledger (over old waiting) (over new waiting) [] []
+gives-ledger : (waiting : Waiting) (old : Noted) (given : Option (Rattle.enet_codec.specs.declared.address.Addr.Addr × List ℕ)) (new : Noted) → Rattle.law_service.specs.Noting.EmitsDatagram old given new → Ledger (over old waiting) (over new waiting) [] []
 gives-ledger waiting old given new h = quiet old new waiting (call.Service h.0 h.1) h.3 (λ name channel. refl) (λ name. refl)
 
-sends-ledger : (waiting : Option Event) (left losses : ℕ) (old : Noted) (went : List Told) (after : Wired Noted) → EmitsAll noting left losses old went after → Ledger (over old waiting) (over after.host waiting) [] []
+sends-ledger : (waiting : Waiting) (left losses : ℕ) (old : Noted) (went : List Told) (after : Wired Noted) → EmitsAll noting left losses old went after → Ledger (over old waiting) (over after.host waiting) [] []
 sends-ledger waiting left losses old [] after (at_limit none sound same) = subst (λ (k : Noted). Ledger (over old waiting) (over k waiting) [] []) (sym same) (nothing (over old waiting) [] refl)
 sends-ledger waiting left losses old [] after (has_none some few sound gives) = gives-ledger waiting old None after.host gives
 sends-ledger waiting left losses old [] after (fails some few failed to bytes gives) = gives-ledger waiting old (Some (to, bytes)) after.host gives
@@ -205,29 +245,34 @@ sends-ledger waiting left losses old (Lost to bytes ∷ rest) after h =
 sends-ledger waiting left losses old (Blocked to bytes ∷ rest) after h = gives-ledger waiting old (Some (to, bytes)) after.host h.2
 sends-ledger waiting left losses old (x ∷ rest) after h = absurd h
 
-sending-ledger : (waiting : Option Event) (heard : Wired Noted) (went : List Told) (sent : Wired Noted) (b : Bool) → heard.failed ≡ b → AfterReceiving noting heard went sent → Ledger (over heard.host waiting) (over sent.host waiting) [] []
+sending-ledger : (waiting : Waiting) (heard : Wired Noted) (went : List Told) (sent : Wired Noted) (b : Bool) → heard.failed ≡ b → AfterReceiving noting heard went sent → Ledger (over heard.host waiting) (over sent.host waiting) [] []
 sending-ledger waiting heard went sent false is h = sends-ledger waiting 256 16 heard.host went sent (h.sound is)
 sending-ledger waiting heard went sent true is h =
     subst (λ (w : Wired Noted). Ledger (over heard.host waiting) (over w.host waiting) [] []) (sym (h.failed is).1) (nothing (over heard.host waiting) [] refl)
 
 -- events
 
-plain : (name : PeerRef) (t : PeerEvent) → is_refused (event_of name t) ≡ false
-plain name (told.Connect info) = refl
-plain name (told.Receive q) = refl
-plain name (told.Disconnect info) = refl
+told-plain : (name : PeerRef) (t : PeerEvent) → is_refused (event_of name t) ≡ false
+told-plain name (told.Connect info) = refl
+told-plain name (told.Receive q) = refl
+told-plain name (told.Disconnect info) = refl
 
-one-told : (k l : Noted) (e : Event) (t : Bool) → Notes k (call.NextEvent (Some e)) l → Ledger (over k None) (over l (left_over e t)) [] ((e, t) ∷ [])
-one-told k l e t n = record {
+one-told : (k l : Noted) (e : Event) (t : Bool) (refused : Option Event) → Notes k (call.NextEvent (Some e)) l
+    → Ledger (over k (record { event = None; refusal = refused })) (over l (record { event = left_over e t; refusal = refused })) [] ((e, t) ∷ [])
+one-told k l e t refused n = record {
   calls = call.NextEvent (Some e) ∷ [];
   made = e ∷ [];
   answered = [];
   calls_are = n.1;
-  put = by t;
+  of_host = accepted ((e, t) ∷ []);
+  of_orders = [];
+  puts_are = merged-left (accepted ((e, t) ∷ []));
+  host_put = by t;
+  orders_put = append-nil (option_to_list refused);
   given_are = refl;
   packets = λ name channel. refl;
   taken_are = λ name. sym (append-nil (cond (is_of name e) (e ∷ []) []));
-  refusals = ap (λ (b : Bool). cond b (e ∷ []) []) (ap is_refused a.gives.told ∙ plain (name_of a.from a.first.slot) a.gives.taken.event);
+  plain = ap (λ (b : Bool). cond b (e ∷ []) []) (ap is_refused a.gives.told ∙ told-plain (name_of a.from a.first.slot) a.gives.taken.event);
 }
   where
     a : TakesOne k.host e l.host
@@ -240,13 +285,14 @@ one-told k l e t n = record {
 tells-ledger : (old : Service Noted) (puts : List (Event × Bool)) (new : Service Noted) → TellsAll noting old puts new → Ledger old new [] puts
 tells-ledger old [] new (inl waits) = subst (λ (s : Service Noted). Ledger old s [] []) (sym waits.1) (nothing old [] refl)
 tells-ledger old [] new (inr none) =
-    subst (λ (w : Option Event). Ledger (over old.host w) new [] []) (sym none.0) (subst (λ (w : Option Event). Ledger (over old.host None) (over new.host w) [] []) (sym none.2)
-    (quiet old.host new.host None (call.NextEvent None) none.1 (λ name channel. refl) (λ name. refl)))
+    subst (λ (w : Waiting). Ledger old (over new.host w) [] []) (sym none.2) (quiet old.host new.host old.waiting (call.NextEvent None) none.1 (λ name channel. refl) (λ name. refl))
 tells-ledger old (x ∷ rest) new h =
-    subst (λ (w : Option Event). Ledger (over old.host w) new [] (x ∷ rest)) (sym h.0)
-    (join (over old.host None) (over h.1 (left_over x.0 x.1)) new [] [] (x ∷ []) rest (one-told old.host h.1 x.0 x.1 h.2) (tells-ledger (over h.1 (left_over x.0 x.1)) rest new h.3))
+    let refused : Option Event = old.waiting.refusal in
+    let after : Service Noted = over h.1 (record { event = left_over x.0 x.1; refusal = refused }) in
+    subst (λ (o : Option Event). Ledger (over old.host (record { event = o; refusal = refused })) new [] (x ∷ rest)) (sym h.0)
+    (join (over old.host (record { event = None; refusal = refused })) after new [] [] (x ∷ []) rest (one-told old.host h.1 x.0 x.1 refused h.2) (tells-ledger after rest new h.3))
 
-telling-ledger : (sent : Wired Noted) (waiting : Option Event) (puts : List (Event × Bool)) (new : Service Noted) (b : Bool) → sent.failed ≡ b → AfterEmitting noting sent waiting puts new → Ledger (over sent.host waiting) new [] puts
+telling-ledger : (sent : Wired Noted) (waiting : Waiting) (puts : List (Event × Bool)) (new : Service Noted) (b : Bool) → sent.failed ≡ b → AfterEmitting noting sent waiting puts new → Ledger (over sent.host waiting) new [] puts
 telling-ledger sent waiting puts new false is h = tells-ledger (over sent.host waiting) puts new (h.sound is)
 telling-ledger sent waiting puts new true is h =
     subst (λ (p : List (Event × Bool)). Ledger (over sent.host waiting) new [] p) (sym (h.failed is).0)
@@ -288,7 +334,7 @@ obeys-ledger old (o ∷ applied) new r =
 lone-ledger : (old : Service Noted) (round : Round) (new : Service Noted) → LoneTurn noting old round new → Ledger old new round.gave round.puts
 lone-ledger old round new t =
     let c : Ledger t.ordered new [] [] =
-    subst (λ (w : Option Event). Ledger t.ordered (over new.host w) [] []) (sym t.waits)
+    subst (λ (w : Waiting). Ledger t.ordered (over new.host w) [] []) (sym t.waits)
     (sending-ledger t.ordered.waiting (record { host = t.ordered.host; failed = t.early }) t.went (record { host = new.host; failed = round.failed }) t.early refl t.sends) in
     let b : Ledger t.begun new (gave_in t.applied ++ []) (puts_in t.applied ++ []) = join t.begun t.ordered new (gave_in t.applied) [] (puts_in t.applied) [] (obeys-ledger t.begun t.applied t.ordered t.applies) c in
     let a : Ledger old new (gave_in t.applied ++ []) (t.told_first ++ (puts_in t.applied ++ [])) =
@@ -309,7 +355,7 @@ rounds-ledger kind old (x ∷ rounds) new r = join old r.0 new x.gave (all_gave 
 
 -- partings, which submit nothing and tell nothing
 parted : (how : DisconnectMode) (old : Service Noted) (peer : PeerRef) (new : Service Noted) (why : Option Refusal) → noting.applies old.host (orders.Disconnect peer how 0) why new.host → new.waiting ≡ old.waiting → Ledger old new [] []
-parted how old peer new why h same = subst (λ (w : Option Event). Ledger old (over new.host w) [] []) (sym same)
+parted how old peer new why h same = subst (λ (w : Waiting). Ledger old (over new.host w) [] []) (sym same)
     (quiet old.host new.host old.waiting h.0 h.2 (λ name channel. ap (λ (d : Call). submitted_by name channel (Calls d)) h.1.1) (λ name. ap (λ (d : Call). taken_by name (Calls d)) h.1.1))
 
 parts-ledger : (how : DisconnectMode) (old : Service Noted) (peers : List PeerRef) (new : Service Noted) → Parts noting how old peers new → Ledger old new [] []
@@ -447,8 +493,9 @@ settled-is es name channel w h = ap (λ (b : Bool). cond b [] (packet_in name ch
     by None = refl
     by (Some r) = refl
 
--- which packets were accepted, by the events that were made
-pub sent-by : (old new : Service Noted) (gave : List (Option Submission)) (puts : List (Event × Bool)) (l : Ledger old new gave puts) (es : List Event) → es ≡ l.made → AreNumbered (given gave)
+-- which packets were accepted, by events that refuse the others
+pub sent-by : (old new : Service Noted) (gave : List (Option Submission)) (puts : List (Event × Bool)) (l : Ledger old new gave puts) (es : List Event)
+    → ((x : Submission) → list_any (is_refusal_of x) es ≡ list_any (is_refusal_of x) (flat_map refusal l.answered)) → AreNumbered (given gave)
     → (name : PeerRef) (channel : ℕ) → packets_of es name channel (given gave) ≡ submitted_in l.calls name channel
 sent-by old new gave puts l es told-is numbered name channel =
     ap (flat_map (packet_unless es name channel)) l.given_are
@@ -457,7 +504,7 @@ sent-by old new gave puts l es told-is numbered name channel =
   where
     refused : (w : Answered) → Has l.answered w → list_any (is_refusal_of w.0) es ≡ is_refused_for w.1
     refused w h =
-        ap (list_any (is_refusal_of w.0)) told-is ∙ any-filtered w.0 l.made ∙ ap (list_any (is_refusal_of w.0)) l.refusals
+        told-is w.0
         ∙ only-own l.answered (λ seat. 0) (λ seat. subst (λ (xs : List Submission). CountsFrom 0 (of seat xs)) l.given_are (numbered seat)) w h
 
 -- so much is told by the calls
@@ -466,23 +513,86 @@ AreTold rounds new calls =
     (AreNumbered (given (all_gave rounds)) → (name : PeerRef) (channel : ℕ) → submitted rounds new.waiting name channel ≡ submitted_in calls name channel)
     × ((name : PeerRef) → taken rounds new.waiting name ≡ taken_in calls name)
 
-tells-by : (old : Service Host) (rounds : List Round) (new : Service Host) (calls : List Call) → old.waiting ≡ None → Ledger (noted old []) (noted new calls) (all_gave rounds) (all_puts rounds) → AreTold rounds new calls
+-- ---- kinds of events
+
+-- what waits is where its kind waits
+pub record Sorted (w : Waiting) : Type 0 where
+  pub plain : filter is_refused (option_to_list w.event) ≡ []
+  pub refused : filter is_plain (option_to_list w.refusal) ≡ []
+
+pub nothing-sorted : Sorted nothing_waits
+nothing-sorted = record { plain = refl; refused = refl }
+
+-- refusals are of no peer, and of no other kind
+none-of-peer : (name : PeerRef) (ws : List Answered) → filter (is_of name) (flat_map refusal ws) ≡ []
+none-of-peer name [] = refl
+none-of-peer name (w ∷ ws) = filter-append (is_of name) (refusal w) (flat_map refusal ws) ∙ (λ i. refused-of w.0 w.1 name i ++ none-of-peer name ws i)
+
+none-plain : (ws : List Answered) → filter is_plain (flat_map refusal ws) ≡ []
+none-plain [] = refl
+none-plain (w ∷ ws) = filter-append is_plain (refusal w) (flat_map refusal ws) ∙ (λ i. by w.1 i ++ none-plain ws i)
+  where
+    by : (why : Option Refusal) → filter is_plain (option_to_list (refusal_event w.0 why)) ≡ []
+    by None = refl
+    by (Some why) = refl
+
+all-refused : (es : List Event) → filter is_plain es ≡ [] → filter is_refused es ≡ es
+all-refused [] none = refl
+all-refused (events.Refused seat number why ∷ es) none = ap (λ (l : List Event). events.Refused seat number why ∷ l) (all-refused es none)
+all-refused (events.Connect p info ∷ es) none = absurd (let y : ◌≡◌ {A = List Event} (events.Connect p info ∷ filter is_plain es) [] = none in cc)
+all-refused (events.Receive p q ∷ es) none = absurd (let y : ◌≡◌ {A = List Event} (events.Receive p q ∷ filter is_plain es) [] = none in cc)
+all-refused (events.Disconnect p info ∷ es) none = absurd (let y : ◌≡◌ {A = List Event} (events.Disconnect p info ∷ filter is_plain es) [] = none in cc)
+
+module _ (old new : Service Noted) (gave : List (Option Submission)) (puts : List (Event × Bool)) (l : Ledger old new gave puts) where
+  -- of the host's events none is a refusal, and each refusal is one
+  host-plain : Sorted old.waiting → filter is_refused (l.of_host ++ option_to_list new.waiting.event) ≡ []
+  host-plain s = ap (filter is_refused) (sym l.host_put) ∙ filter-append is_refused (option_to_list old.waiting.event) l.made ∙ (λ i. s.plain i ++ l.plain i)
+
+  orders-refused : Sorted old.waiting → filter is_plain (option_to_list old.waiting.refusal ++ flat_map refusal l.answered) ≡ []
+  orders-refused s = filter-append is_plain (option_to_list old.waiting.refusal) (flat_map refusal l.answered) ∙ (λ i. s.refused i ++ none-plain l.answered i)
+
+  pub sorted-on : Sorted old.waiting → Sorted new.waiting
+  sorted-on s = record {
+    plain = (both-none (filter is_refused l.of_host) (filter is_refused (option_to_list new.waiting.event)) (sym (filter-append is_refused l.of_host (option_to_list new.waiting.event)) ∙ host-plain s)).1;
+    refused = (both-none (filter is_plain l.of_orders) (filter is_plain (option_to_list new.waiting.refusal))
+        (sym (filter-append is_plain l.of_orders (option_to_list new.waiting.refusal)) ∙ ap (filter is_plain) (sym l.orders_put) ∙ orders-refused s)).1;
+  }
+
+  -- the refusals that were put, or wait, are those that waited and those of the orders
+  pub told-refusals : Sorted old.waiting → filter is_refused (accepted puts ++ held_in new.waiting) ≡ option_to_list old.waiting.refusal ++ flat_map refusal l.answered
+  told-refusals s =
+      second-of is_refused l.of_host l.of_orders (accepted puts) (option_to_list new.waiting.event) (option_to_list new.waiting.refusal) l.puts_are (host-plain s)
+      ∙ ap (filter is_refused) (sym l.orders_put) ∙ all-refused (option_to_list old.waiting.refusal ++ flat_map refusal l.answered) (orders-refused s)
+
+  -- a peer's events that were put, or wait, are those that were made, where no refusal waited
+  pub told-of : (name : PeerRef) → old.waiting.refusal ≡ None → filter (is_of name) (accepted puts ++ held_in new.waiting) ≡ filter (is_of name) (option_to_list old.waiting.event ++ l.made)
+  told-of name none =
+      first-of (is_of name) l.of_host l.of_orders (accepted puts) (option_to_list new.waiting.event) (option_to_list new.waiting.refusal) l.puts_are
+      (ap (filter (is_of name)) (sym l.orders_put ∙ ap (λ (o : Option Event). option_to_list o ++ flat_map refusal l.answered) none) ∙ none-of-peer name l.answered)
+      ∙ ap (filter (is_of name)) (sym l.host_put)
+
+tells-by : (old : Service Host) (rounds : List Round) (new : Service Host) (calls : List Call) → old.waiting ≡ nothing_waits → Ledger (noted old []) (noted new calls) (all_gave rounds) (all_puts rounds) → AreTold rounds new calls
 tells-by old rounds new calls none l = (sends, takes)
   where
-    told-is : told_by rounds new.waiting ≡ l.made
-    told-is = sym l.put ∙ ap (λ (o : Option Event). option_to_list o ++ l.made) none
+    sorted : Sorted old.waiting
+    sorted = subst Sorted (sym none) nothing-sorted
+
+    refusals : filter is_refused (told_by rounds new.waiting) ≡ flat_map refusal l.answered
+    refusals = told-refusals (noted old []) (noted new calls) (all_gave rounds) (all_puts rounds) l sorted ∙ ap (λ (w : Waiting). option_to_list w.refusal ++ flat_map refusal l.answered) none
 
     takes : (name : PeerRef) → taken rounds new.waiting name ≡ taken_in calls name
-    takes name = ap (filter (is_of name)) told-is ∙ l.taken_are name ∙ ap (λ (c : List Call). taken_in c name) (sym l.calls_are)
+    takes name =
+        told-of (noted old []) (noted new calls) (all_gave rounds) (all_puts rounds) l name (ap (λ (w : Waiting). w.refusal) none)
+        ∙ ap (λ (w : Waiting). filter (is_of name) (option_to_list w.event ++ l.made)) none ∙ l.taken_are name ∙ ap (λ (c : List Call). taken_in c name) (sym l.calls_are)
 
     sends : AreNumbered (given (all_gave rounds)) → (name : PeerRef) (channel : ℕ) → submitted rounds new.waiting name channel ≡ submitted_in calls name channel
     sends numbered name channel =
-        sent-by (noted old []) (noted new calls) (all_gave rounds) (all_puts rounds) l (told_by rounds new.waiting) told-is numbered name channel ∙ ap (λ (c : List Call). submitted_in c name channel) (sym l.calls_are)
+        sent-by (noted old []) (noted new calls) (all_gave rounds) (all_puts rounds) l (told_by rounds new.waiting) (λ x. any-filtered x (told_by rounds new.waiting) ∙ ap (list_any (is_refusal_of x)) refusals) numbered name channel ∙ ap (λ (c : List Call). submitted_in c name channel) (sym l.calls_are)
 
 pub each-tells : EachRunTells
 each-tells kind old rounds new calls none r = tells-by old rounds new calls none (rounds-ledger kind (noted old []) rounds (noted new calls) r)
 
-pub life-tells : (old : Service Host) (spans : List Span) (new : Service Host) (calls : List Call) → old.waiting ≡ None → Spans noting (noted old []) spans (noted new calls)
+pub life-tells : (old : Service Host) (spans : List Span) (new : Service Host) (calls : List Call) → old.waiting ≡ nothing_waits → Spans noting (noted old []) spans (noted new calls)
     → (AreNumbered (given (all_gave (rounds_in spans))) → (name : PeerRef) (channel : ℕ) → submitted (rounds_in spans) new.waiting name channel ≡ submitted_in calls name channel)
     × ((name : PeerRef) → taken (rounds_in spans) new.waiting name ≡ taken_in calls name)
 life-tells old spans new calls none r = tells-by old (rounds_in spans) new calls none (spans-ledger (noted old []) spans (noted new calls) r)

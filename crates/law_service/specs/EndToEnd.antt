@@ -20,6 +20,7 @@ use Rattle.enet_site.specs.Places.{Place}
 use Rattle.law_headline.specs.Nets.{Net, place_of, AreApart, is_host, HappensAt, IsAllowed, open_net}
 use Rattle.law_headline.specs.Page.{User, IsHeadline, is_of}
 use Rattle.enet_turn.specs.declared.service.Service.{Service}
+use Rattle.enet_turn.specs.declared.waiting.Waiting.{Waiting}
 use Rattle.enet_turn.specs.Calls.{Calls as HostCalls}
 use Rattle.enet_turn.specs.Phases.{Chain}
 use Rattle.enet_service.specs.Queues.{given}
@@ -28,7 +29,7 @@ use Rattle.enet_service.specs.ServiceRuns.{beginning}
 use Rattle.enet_turn.specs.Turn.{Round}
 use Rattle.law_service.specs.Noting.{Noted, noting}
 use Rattle.enet_turn.specs.Spans.{Span, Spans, rounds_in}
-use Rattle.law_service.specs.Told.{told, packets_of, submitted_in, taken, taken_in}
+use Rattle.law_service.specs.Told.{held_in, told, is_refused, packets_of, submitted_in, taken, taken_in}
 use Rattle.law_service.specs.Law.{noted, AreNumbered}
 
 -- a host's service and what it did: its settings, its turns and partings, what they left, and the calls of its host that they made
@@ -128,12 +129,12 @@ EndToEnd = (at : Node → Addr) → AreApart at → (server : Running) (clients 
     → (h : IsHeadline (user_of (is_host at (length clients)) server) (λ i. user_in (is_host at (length clients)) (slice_get clients i)) (asked ms)) × HasNames at (configs clients) ms h.here
 
 -- ---- game threads
--- A run of a service as its one game thread sees it: which event waited for room when it began, and which when it was over. What the thread
+-- A run of a service as its one game thread sees it: what waited for room when it began, and what when it was over. What the thread
 -- submitted begins with what the service was given, under the numbers of its seat, and what it took begins what the service told
 pub record Part : Type 0 where
   pub spans : List Span
-  pub before : Option Event
-  pub after : Option Event
+  pub before : Waiting
+  pub after : Waiting
   pub sent : List Submission
   pub unsent : List Submission
   pub sent_is : sent ≡ given (all_gave (rounds_in spans)) ++ unsent
@@ -150,7 +151,7 @@ AreRuns calls old parts new = Chain (λ s part t. (s.waiting ≡ part.before) ×
 abbrev pub AreOver : List Part → Type 0
 AreOver [] = Unit {0}
 AreOver (a ∷ []) = Unit {0}
-AreOver (a ∷ b ∷ parts) = (a.left ≡ option_to_list a.after) × AreOver (b ∷ parts)
+AreOver (a ∷ b ∷ parts) = (a.left ≡ held_in a.after) × AreOver (b ∷ parts)
 
 -- the game threads of a service, one in each of its runs
 pub record Threads (r : Running) : Type 0 where
@@ -159,16 +160,16 @@ pub record Threads (r : Running) : Type 0 where
   pub spans_are : r.spans ≡ flat_map (λ part. part.spans) parts
   pub over : AreOver parts
 
--- the events of a run: those that the service told in it, but for the one that waited before
-abbrev pub events_of : Part → List Event
-events_of part = drop (length (option_to_list part.before)) (told (rounds_in part.spans) part.after)
+-- the events that refuse orders of a run: those that the service told in it, but for the one that waited before, which comes first
+abbrev pub refusals_of : Part → List Event
+refusals_of part = drop (length (option_to_list part.before.refusal)) (filter is_refused (told (rounds_in part.spans) part.after))
 
 -- their packets: those of the orders that the service was given, and in the last run of all, but for those that an event of their run refuses. Where a
 -- run is over, its other orders came back
 abbrev pub packets_in : PeerRef → ℕ → List Part → List Packet
 packets_in name channel [] = []
-packets_in name channel (a ∷ []) = packets_of (events_of a) name channel a.sent
-packets_in name channel (a ∷ b ∷ parts) = packets_of (events_of a) name channel (given (all_gave (rounds_in a.spans))) ++ packets_in name channel (b ∷ parts)
+packets_in name channel (a ∷ []) = packets_of (refusals_of a) name channel a.sent
+packets_in name channel (a ∷ b ∷ parts) = packets_of (refusals_of a) name channel (given (all_gave (rounds_in a.spans))) ++ packets_in name channel (b ∷ parts)
 
 abbrev pub user_by : (Addr → Bool) → (r : Running) → Threads r → User
 user_by hosts r t = record {

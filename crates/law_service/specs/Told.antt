@@ -12,6 +12,7 @@ use Rattle.enet_submit.specs.declared.order.Submission.{Submission}
 use Rattle.law_network.specs.Calls.{Call}
 use Rattle.law_network.specs.Network.{is_same_name}
 use Rattle.law_network.specs.Steps.{Calls}
+use Rattle.enet_turn.specs.declared.waiting.Waiting.{Waiting}
 use Rattle.enet_turn.specs.Phases.{refusal_event}
 use Rattle.enet_service.specs.Queues.{given, accepted}
 use Rattle.enet_turn.specs.Run.{all_gave, all_puts}
@@ -19,9 +20,13 @@ use Rattle.enet_turn.specs.Turn.{Round}
 use Rattle.law_headline.specs.Kept.{submitted_by, taken_by}
 use Rattle.law_headline.specs.Page.{is_of}
 
--- the events that a service put for its game threads, and the one that waits for room
-abbrev pub told : List Round → Option Event → List Event
-told rounds waiting = accepted (all_puts rounds) ++ option_to_list waiting
+-- what waits for room: a refusal, and an event of the host
+abbrev pub held_in : Waiting → List Event
+held_in waiting = option_to_list waiting.refusal ++ option_to_list waiting.event
+
+-- the events that a service put for its game threads, and those that wait for room
+abbrev pub told : List Round → Waiting → List Event
+told rounds waiting = accepted (all_puts rounds) ++ held_in waiting
 
 -- whether an event says that this order was refused
 abbrev pub is_refusal_of : Submission → Event → Bool
@@ -41,10 +46,10 @@ abbrev pub packets_of : List Event → PeerRef → ℕ → List Submission → L
 packets_of es name channel xs = flat_map (packet_unless es name channel) xs
 
 -- what a game thread submitted at a service, and took of it, by peer: the orders and events of its rounds
-abbrev pub submitted : List Round → Option Event → PeerRef → ℕ → List Packet
+abbrev pub submitted : List Round → Waiting → PeerRef → ℕ → List Packet
 submitted rounds waiting name channel = packets_of (told rounds waiting) name channel (given (all_gave rounds))
 
-abbrev pub taken : List Round → Option Event → PeerRef → List Event
+abbrev pub taken : List Round → Waiting → PeerRef → List Event
 taken rounds waiting name = filter (is_of name) (told rounds waiting)
 
 -- the same of the calls

@@ -36,7 +36,7 @@ pub fn each_call_happens()
 ///
 /// `at_each_moment`: it holds of what each host accepted by its calls until then, and of the events that these told, whether its service goes
 /// on, ended or was killed; and a connection keeps the name that the server has for its peer. `services`: after whole turns, that is what
-/// each host accepted of the orders that its service was given, and the events that its service told, the one that waits for room included,
+/// each host accepted of the orders that its service was given, and the events that its service told, those that wait for room included,
 /// by the names of that moment. `threads`: so it holds of the game threads of each service, one in each of its runs, of the orders that they
 /// submitted, in the last run given yet or not, but for those that an event of their run refuses, and of the events that they took.
 /// `queues`: the thread of a run is what a moment of the run's queues shows. `lives`: runs with such threads, from the beginning of a service
