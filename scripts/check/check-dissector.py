@@ -97,12 +97,22 @@ class Datagram:
 # Reading by both -------------------------------------------------------------------------------------------------------------------------
 
 
-def told_command(words):
+def in_hex(payload):
+    """A payload in hex, also one that is told in quotes."""
+    if not payload.startswith('"'):
+        return payload
+    letters = {'t': '\t', 'n': '\n', 'r': '\r', '0': '\0'}
+    return re.sub(r'\\(.)', lambda found: letters.get(found[1], found[1]), payload[1:-1]).encode().hex()
+
+
+def told_command(line):
+    line, has_payload, payload = line.partition(' payload ')
+    words = line.split()
     found = {}
     rest = iter(words[1:])
     for word in rest:
         found[word] = '1' if word in FLAGS else next(rest)
-    return Command(KINDS[words[0]], found)
+    return Command(KINDS[words[0]], found | ({'payload': in_hex(payload)} if has_payload else {}))
 
 
 def told_header(words):
@@ -125,8 +135,12 @@ def told(program, capture):
         elif words[0] == 'peer':
             datagrams[-1].header = told_header(words)
         elif words[0] in KINDS:
-            datagrams[-1].commands.append(told_command(words))
-        elif words[1:2] != ['other']:
+            datagrams[-1].commands.append(told_command(line))
+        elif words[1:2] == ['other']:
+            begun = [int(part) for part in words[-1].split('.')] if words[-2] == 'at' else [0, 0]
+            for datagram in datagrams:
+                datagram.at += begun[0] * 1000000 + begun[1]
+        else:
             stop, place, rest = re.fullmatch(r' *(S\d+ \w+) at byte (\d+): (.*)', line).groups()
             datagrams[-1].stop = (stop, int(place), rest)
     return datagrams

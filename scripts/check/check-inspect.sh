@@ -48,6 +48,13 @@ lines() {
     input "$1" "$room/lines" "$room/wanted" "$room/wanted.err" "$5"
 }
 
+# The bytes of a packet in hex, and how they are told.
+body() {
+    local len=$((${#2} / 2))
+    lines "body: $1" "$(printf '0000860000040%03x' $len)$2\n" \
+        "datagram 0 length $((8 + len))\n  peer 0 session 0\n  SEND_RELIABLE channel 0 number 4 acknowledge length $len payload $3\n" '' 0
+}
+
 rows() {
     local ping='datagram 0 length 8\n  peer 1 session 2 sent 100\n  PING channel 255 number 3 acknowledge\n'
     lines nothing '' '' '' 0
@@ -65,6 +72,17 @@ rows() {
         'datagram 0 length 15\n  peer 1 session 2 sent 100\n  PING channel 255 number 3 acknowledge\n  S6 BadCommand at byte 8: 86000004000568\n' '' 0
     lines empty-packet '0000860000040000\n' \
         'datagram 0 length 8\n  peer 0 session 0\n  SEND_RELIABLE channel 0 number 4 acknowledge length 0 payload -\n' '' 0
+    # hello, with a zero behind it; a quote, a backslash, a tab, a line feed and a carriage return; a zero alone; two zeros behind a letter
+    body text 68656c6c6f '"hello"'
+    body text-of-c 68656c6c6f00 '"hello\\0"'
+    body escapes 22 '"\\""'
+    body more-escapes 5c090a0d '"\\\\\\t\\n\\r"'
+    body zero 00 00
+    body two-zeros 680000 680000
+    body no-letter 6807 6807
+    body no-ascii c3a4 c3a4
+    body 33-letters "$(printf '61%.0s' {1..33})" "\"$(printf 'a%.0s' {1..33})\""
+    body 33-bytes "$(printf '80%.0s' {1..33})" "$(printf '80%.0s' {1..33})"
     lines bad-line '#\na001006485ff0003\na00\n' "$ping" 'E15 BadScript line 3\n' 2
     lines two-words 'a0 01\n' '' 'E15 BadScript line 1\n' 2
 }
@@ -110,29 +128,32 @@ captures() {
     local tcp=4500002400010000400600000a0000010a000002$udp
     local piece=4500002400012000401100000a0000010a000002$udp
     local ethernet=0202020202020101010101010800
-    local way='datagram %d length 8 from 10.0.0.1:4660 to 10.0.0.2:47001 at 7.'
+    local way='datagram %d length 8 from 10.0.0.1:4660 to 10.0.0.2:47001 at '
     local ping='\n  peer 1 session 2 sent 100\n  PING channel 255 number 3 acknowledge\n'
     local first second order
     first=$(printf "$way" 0)
     second=$(printf "$way" 1)
     for order in big little; do
         capture "ethernet $order" "$(beginning $order 0xa1b2c3d4 1)$(packet $order 7 8 "$ethernet$ip")" \
-            "${first}000008$ping""0 other packets\n" '' 0
-        capture "nanoseconds $order" "$(beginning $order 0xa1b23c4d 101)$(packet $order 7 8 "$ip")" \
-            "${first}000000008$ping""0 other packets\n" '' 0
+            "${first}0.000000$ping""0 other packets, begun at 7.000008\n" '' 0
+        capture "nanoseconds $order" "$(beginning $order 0xa1b23c4d 101)$(packet $order 7 999999999 "$ip")$(packet $order 9 1 "$ip")" \
+            "${first}0.000000000$ping${second}1.000000002$ping""0 other packets, begun at 7.999999999\n" '' 0
         capture "cut short $order" "$(beginning $order 0xa1b2c3d4 12)$(packet $order 7 8 "$ip")$(packet $order 7 9 "$ip" | head -c 60)" \
-            "${first}000008$ping" 'capture cut short after 1 packets\n' 2
+            "${first}0.000000$ping" 'capture cut short after 1 packets\n' 2
         capture "link type $order" "$(beginning $order 0xa1b2c3d4 105)" '' "link type 105 can't be read\n" 2
         capture "loopback $order" "$(beginning $order 0xa1b2c3d4 0)$(packet $order 7 8 "$(word $order 2)$ip")" \
-            "${first}000008$ping""0 other packets\n" '' 0
+            "${first}0.000000$ping""0 other packets, begun at 7.000008\n" '' 0
     done
     capture "cooked, padded, and others" \
         "$(beginning big 0xa1b2c3d4 113)$(packet big 7 8 "00000304000600000000000000000800${ip}0000")$(packet big 7 8 \
         "000003040006000000000000000086dd$ip")$(packet big 7 9 "00000304000600000000000000000800$ip")" \
-        "${first}000008$ping${second}000009$ping""1 other packets\n" '' 0
+        "${first}0.000000$ping${second}0.000001$ping""1 other packets, begun at 7.000008\n" '' 0
     capture "others alone" \
         "$(beginning little 0xa1b2c3d4 228)$(packet little 7 8 "$tcp")$(packet little 7 8 "$piece")$(packet little 7 8 "${ip:0:70}")$(packet \
-        little 7 8 '')" '4 other packets\n' '' 0
+        little 7 8 '')" '4 other packets, begun at 7.000008\n' '' 0
+    capture "no packets" "$(beginning little 0xa1b2c3d4 1)" '0 other packets\n' '' 0
+    capture "earlier than the first" "$(beginning big 0xa1b2c3d4 12)$(packet big 7 8 "$ip")$(packet big 6 9 "$ip")" \
+        "${first}0.000000$ping${second}0.000000$ping""0 other packets, begun at 7.000008\n" '' 0
     capture "no beginning" a1b2c3d4 '' 'capture cut short after 0 packets\n' 2
 }
 
@@ -213,7 +234,7 @@ pcapng() {
         python3 scripts/lib/pcapng.py same "$room/made" "$room/blocks"
         inspected "$room/made" "$room/of-made"
         inspected "$room/blocks" "$room/of-blocks"
-        sed -i -E 's/^(datagram .* at [0-9]+\.[0-9]{6})$/\1000/' "$room/of-made"
+        sed -i -E 's/^(datagram .* at [0-9]+\.[0-9]{6}|.* begun at [0-9]+\.[0-9]{6})$/\1000/' "$room/of-made"
         cmp -s "$room/of-made" "$room/of-blocks" && cmp -s "$room/of-made.err" "$room/of-blocks.err" && passed=$((passed + 1)) \
             || differ "pcapng: $file" 'what is told' "$room/of-made" "$room/of-blocks"
         timeout 60 "$program" inspect "$room/made" --timeline "$room/picture" > "$room/of-made"
@@ -230,7 +251,7 @@ pcapng() {
     done
     python3 scripts/lib/pcapng.py long 1000000 "$room/blocks"
     inspected "$room/blocks" "$room/of-blocks"
-    [ "$(<"$room/of-blocks")$(<"$room/of-blocks.err")" = '1000000 other packetsstatus 0' ] && passed=$((passed + 1)) \
+    [ "$(<"$room/of-blocks")$(<"$room/of-blocks.err")" = '1000000 other packets, begun at 0.000000000status 0' ] && passed=$((passed + 1)) \
         || fail 'pcapng: a million blocks' "$(head -c 200 "$room/of-blocks" "$room/of-blocks.err")"
 }
 

@@ -11,6 +11,26 @@ function bytes_from(place, count) {
     return count == 0 ? "-" : substr(datagram, 2 * place + 1, 2 * count)
 }
 
+# The bytes of a packet: in quotes if they are text, letters with a zero behind them or none.
+function body(hex,    i, byte, text, letters) {
+    letters = hex
+    sub(/00$/, "", letters)
+    if (hex == "-" || length(hex) % 2 || letters == "") return hex
+    for (i = 1; i < length(letters); i += 2) {
+        byte = number_of(substr(letters, i, 2))
+        if ((byte < 32 || byte > 126) && byte != 9 && byte != 10 && byte != 13) return hex
+    }
+    for (i = 1; i < length(hex); i += 2) {
+        byte = number_of(substr(hex, i, 2))
+        if (byte == 0) text = text "\\0"
+        else if (byte == 9) text = text "\\t"
+        else if (byte == 10) text = text "\\n"
+        else if (byte == 13) text = text "\\r"
+        else text = text (byte == 34 || byte == 92 ? "\\" : "") sprintf("%c", byte)
+    }
+    return "\"" text "\""
+}
+
 function word_behind(name,    i) {
     for (i = 2; i < words; i++) if (word[i] == name) return word[i + 1]
     print "the remark has no word " name ": " $0
@@ -33,7 +53,7 @@ function terms() {
 function payload(    count) {
     count = word_behind("len")
     at += count
-    return " length " count " payload " bytes_from(at - count, count)
+    return " length " count " payload " body(bytes_from(at - count, count))
 }
 
 function fragment() {

@@ -6,7 +6,7 @@ ghost use Rattle.enet_codec.specs.Message.{payload_of, view};
 use anyhow::{Result, bail};
 use enet_codec::{Command, Fragment, Head, Header, write_command, write_header};
 use enet_testbed::{Digest, Draw};
-use enet_text::inspect;
+use enet_text::{Bodies, inspect};
 use std::alloc::Global;
 
 /// The bytes of a capture, about.
@@ -30,7 +30,7 @@ pub fn tell(alloc: Global, seed: u64, captures: u32) -> Result<Digest> {
     for _ in 0..captures {
         let capture = capture(alloc, &mut draw)?;
         let mut bytes = capture.as_slice();
-        inspect(alloc, &mut bytes, &mut digest)?;
+        inspect(alloc, Bodies::Whole, &mut bytes, &mut digest)?;
     }
     Ok(digest)
 }

@@ -2,7 +2,7 @@
 
 use crate::failure::Failure;
 use crate::reading::read_input;
-use enet_text::inspect;
+use enet_text::{Bodies, inspect};
 use std::io;
 use std::rt::Files;
 
@@ -13,5 +13,5 @@ where
 {
     let input = read_input(rt, file)?;
     let mut rest = input.as_slice();
-    inspect(rt.alloc(), &mut rest, &mut io::writer(rt)).map_err(Failure::Inspect)
+    inspect(rt.alloc(), Bodies::Whole, &mut rest, &mut io::writer(rt)).map_err(Failure::Inspect)
 }

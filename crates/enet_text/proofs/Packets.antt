@@ -1,12 +1,13 @@
 -- Bytes that stand in others, and packets one after another.
 use Rattle.std.proofs.Common.{◌≡◌, ◌≤◌, ◌<◌, ◌+◌, ◌++◌, ℕ, min, List, [], ◌∷◌, length, take, drop, Option, Some, None, IfSome, refl, sym, ap, subst, ◌∙◌, append_assoc, append-nil, length-append, take-append-drop, unwrap_or, arith}
 use Rattle.std.specs.Prelude.{MatchOption}
+use Rattle.enet_text.specs.declared.body.Bodies.{Bodies}
 use Rattle.enet_text.specs.declared.pcap.Order.{Order}
 use Rattle.enet_text.specs.declared.pcap.Format.{Format}
 use Rattle.enet_text.specs.declared.pcap.Captured.{Captured}
 use Rattle.enet_text.specs.declared.pcap.Datagram.{Datagram}
 use Rattle.enet_text.specs.Inspected.{TellsOne}
-use Rattle.enet_text.specs.Captures.{number_of, IsPacket, IsWithin, TellsPackets, told, passed_over, found_of}
+use Rattle.enet_text.specs.Captures.{number_of, IsPacket, IsWithin, TellsPackets, told, passed_over, found_of, begun_of, moment, since_begun, way_text}
 
 pub itself : (xs : List ℕ) → IsWithin xs xs
 itself xs = record { front = []; behind = []; whole_is = sym (append-nil xs) }
@@ -52,28 +53,41 @@ fewer order bytes captured behind p =
     omega (arith, all, length-append (p.head ++ captured.bytes.now) behind, length-append p.head captured.bytes.now, p.head_len)
 
 -- the packet that comes next is told
-pub one_told : (format : Format) (packets left behind text more : List ℕ) (datagrams others count : ℕ) (captured : Captured) (datagram : Datagram)
-    → datagrams + others + length left ≤ length packets → length packets < 9223372036854775808 → TellsPackets format packets left text datagrams others
+pub one_told : (bodies : Bodies) (format : Format) (packets left behind text more : List ℕ) (datagrams others count : ℕ) (captured : Captured) (datagram : Datagram)
+    → datagrams + others + length left ≤ length packets → length packets < 9223372036854775808 → TellsPackets bodies format packets left text datagrams others
     → IsPacket format.order left captured behind → IsWithin datagram.payload.now captured.bytes.now
-    → TellsOne datagrams (found_of format captured datagram) more → count ≡ min (datagrams + 1) 18446744073709551615
-    → (count + others + length behind ≤ length packets) × TellsPackets format packets behind (text ++ more) count others
-one_told format packets left behind text more datagrams others count captured datagram within short past packet inside tells is =
+    → TellsOne bodies datagrams (found_of format (begun_of format packets) captured datagram) more → count ≡ min (datagrams + 1) 18446744073709551615
+    → (count + others + length behind ≤ length packets) × TellsPackets bodies format packets behind (text ++ more) count others
+one_told bodies format packets left behind text more datagrams others count captured datagram within short past packet inside tells is =
     let next : count ≡ datagrams + 1 = omega (arith, within, short, is) in (
       omega (arith, within, next, fewer format.order left captured behind packet),
-      subst (λ n. TellsPackets format packets behind (text ++ more) n others) (sym next)
+      subst (λ n. TellsPackets bodies format packets behind (text ++ more) n others) (sym next)
           (told left text more datagrams others captured datagram behind past packet inside tells),
     )
 
 -- it is passed over
-pub one_passed_over : (format : Format) (packets left behind text : List ℕ) (datagrams others count : ℕ) (captured : Captured)
-    → datagrams + others + length left ≤ length packets → length packets < 9223372036854775808 → TellsPackets format packets left text datagrams others
+pub one_passed_over : (bodies : Bodies) (format : Format) (packets left behind text : List ℕ) (datagrams others count : ℕ) (captured : Captured)
+    → datagrams + others + length left ≤ length packets → length packets < 9223372036854775808 → TellsPackets bodies format packets left text datagrams others
     → IsPacket format.order left captured behind → count ≡ min (others + 1) 18446744073709551615
-    → (datagrams + count + length behind ≤ length packets) × TellsPackets format packets behind text datagrams count
-one_passed_over format packets left behind text datagrams others count captured within short past packet is =
+    → (datagrams + count + length behind ≤ length packets) × TellsPackets bodies format packets behind text datagrams count
+one_passed_over bodies format packets left behind text datagrams others count captured within short past packet is =
     let next : count ≡ others + 1 = omega (arith, within, short, is) in (
       omega (arith, within, next, fewer format.order left captured behind packet),
-      subst (λ n. TellsPackets format packets behind text datagrams n) (sym next) (passed_over left text datagrams others captured behind past packet),
+      subst (λ n. TellsPackets bodies format packets behind text datagrams n) (sym next) (passed_over left text datagrams others captured behind past packet),
     )
+
+-- a datagram is told with the time since the first packet
+pub told_since : (bodies : Bodies) (number : ℕ) (format : Format) (captured : Captured) (datagram : Datagram) (begun : Option ℕ) (since : ℕ) (more : List ℕ)
+    → since ≡ since_begun begun (moment captured.seconds captured.parts format.nanoseconds)
+    → TellsOne bodies number (record { way = way_text datagram since format.nanoseconds; bytes = datagram.payload.now }) more
+    → TellsOne bodies number (found_of format begun captured datagram) more
+told_since bodies number format captured datagram begun since more is tells =
+    subst (λ n. TellsOne bodies number (record { way = way_text datagram n format.nanoseconds; bytes = datagram.payload.now }) more) is tells
+
+-- the last line behind what was told
+pub in_parts : (a b c d e : List ℕ) → a ++ (((b ++ c) ++ d) ++ e) ≡ (((a ++ b) ++ c) ++ d) ++ e
+in_parts a b c d e =
+    sym (append_assoc a ((b ++ c) ++ d) e) ∙ ap (λ l. l ++ e) (sym (append_assoc a (b ++ c) d) ∙ ap (λ l. l ++ d) (sym (append_assoc a b c)))
 
 pub none_left : (xs : List ℕ) → length xs ≡ 0 → xs ≡ []
 none_left [] h = refl

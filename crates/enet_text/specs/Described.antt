@@ -6,6 +6,7 @@ use Rattle.enet_codec.specs.declared.header.Header.{Header}
 use Rattle.enet_codec.specs.Header.{SpellsHeader}
 use Rattle.enet_codec.specs.Message.{Message, Spells}
 use Rattle.enet_codec.specs.Datagram.{SpellsAll}
+use Rattle.enet_text.specs.declared.body.Bodies.{Bodies}
 use Rattle.enet_text.specs.InspectTexts.{command_line, header_line, stop_line}
 
 -- No header stands at the front of the bytes.
@@ -23,14 +24,14 @@ rest_line place (byte ∷ bytes) = stop_line stop.BadCommand place (byte ∷ byt
 
 -- The text of bytes behind a header, which begin at this place of the datagram: a line for each command that a front of them spells, one
 -- after another, and one for what stands behind the last, where anything does.
-pub record Tells (place : ℕ) (bytes text : List ℕ) : Type 0 where
+pub record Tells (b : Bodies) (place : ℕ) (bytes text : List ℕ) : Type 0 where
   pub messages : List Message
   pub front : List ℕ
   pub rest : List ℕ
   pub split : bytes ≡ front ++ rest
   pub spelled : SpellsAll front messages
   pub no_more : SpellsNone rest
-  pub told : text ≡ flat_map command_line messages ++ rest_line (place + length front) rest
+  pub told : text ≡ flat_map (command_line b) messages ++ rest_line (place + length front) rest
 
 -- The bit of the first byte that says that the datagram is compressed.
 abbrev pub is_compressed : List ℕ → Bool
@@ -40,10 +41,10 @@ is_compressed bytes = not (bit_and (slice_index bytes 0) 64 == 0)
 abbrev pub why_unread : List ℕ → Stop
 why_unread bytes = if nat_lt (length bytes) 2 then stop.Short else (if is_compressed bytes then stop.Compressed else stop.Short)
 
--- The text of a datagram.
-pub data Describes (bytes : List ℕ) : List ℕ → Type 0 where
-  unread : SpellsNoHeader bytes → Describes bytes (stop_line (why_unread bytes) 0 bytes)
+-- The text of a datagram, with its packets' bytes whole or in short.
+pub data Describes (b : Bodies) (bytes : List ℕ) : List ℕ → Type 0 where
+  unread : SpellsNoHeader bytes → Describes b bytes (stop_line (why_unread bytes) 0 bytes)
   compressed : (h : Header) (front rest : List ℕ) → bytes ≡ front ++ rest → SpellsHeader front h → h.compressed ≡ true
-      → Describes bytes (header_line h ++ stop_line stop.Compressed (length front) rest)
+      → Describes b bytes (header_line h ++ stop_line stop.Compressed (length front) rest)
   plain : (h : Header) (front rest text : List ℕ) → bytes ≡ front ++ rest → SpellsHeader front h → h.compressed ≡ false
-      → Tells (length front) rest text → Describes bytes (header_line h ++ text)
+      → Tells b (length front) rest text → Describes b bytes (header_line h ++ text)

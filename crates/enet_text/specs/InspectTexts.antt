@@ -10,6 +10,8 @@ use Rattle.enet_codec.specs.declared.command.Offer.{Offer}
 use Rattle.enet_codec.specs.declared.command.Verify.{Verify}
 use Rattle.enet_codec.specs.declared.command.Fragment.{Fragment}
 use Rattle.enet_codec.specs.Message.{Body, acknowledge, connect, verify_connect, disconnect, ping, send_reliable, send_unreliable, send_fragment, send_unsequenced, bandwidth_limit, throttle_configure, send_unreliable_fragment, Message}
+use Rattle.enet_text.specs.declared.body.Bodies.{Bodies}
+use Rattle.enet_text.specs.Bodies.{body_text}
 use Rattle.enet_text.specs.Texts.{bytes_text}
 
 -- A word that stands there where a flag is set.
@@ -56,13 +58,13 @@ head_text h =
     ++ flag_text (codes " unsequenced") h.unsequenced
 
 -- A packet's bytes, or a fragment's.
-abbrev pub payload_text : List ℕ → List ℕ
-payload_text payload = codes " length " ++ decimal (length payload) ++ codes " payload " ++ bytes_text payload
+abbrev pub payload_text : Bodies → List ℕ → List ℕ
+payload_text b payload = codes " length " ++ decimal (length payload) ++ codes " payload " ++ body_text b payload
 
-abbrev pub fragment_text : Fragment → List ℕ → List ℕ
-fragment_text f payload =
+abbrev pub fragment_text : Bodies → Fragment → List ℕ → List ℕ
+fragment_text b f payload =
     codes " start " ++ decimal f.start ++ codes " fragment " ++ decimal f.number ++ codes " count " ++ decimal f.count ++ codes " offset "
-    ++ decimal f.offset ++ codes " total " ++ decimal f.total ++ payload_text payload
+    ++ decimal f.offset ++ codes " total " ++ decimal f.total ++ payload_text b payload
 
 abbrev pub sessions_text : ℕ → ℕ → ℕ → List ℕ
 sessions_text peer incoming outgoing =
@@ -95,20 +97,20 @@ verify_text v =
     ++ id_text v.connect_id
 
 -- What a command says behind its head.
-abbrev pub fields_text : Body → List ℕ
-fields_text (acknowledge n t) = codes " received_number " ++ decimal n ++ codes " received_time " ++ decimal t
-fields_text (connect o) = offer_text o
-fields_text (verify_connect v) = verify_text v
-fields_text (disconnect i) = codes " info " ++ decimal i
-fields_text ping = []
-fields_text (send_reliable p) = payload_text p
-fields_text (send_unreliable n p) = codes " unreliable " ++ decimal n ++ payload_text p
-fields_text (send_fragment f p) = fragment_text f p
-fields_text (send_unsequenced g p) = codes " group " ++ decimal g ++ payload_text p
-fields_text (bandwidth_limit i o) = limits_text i o
-fields_text (throttle_configure i a d) = throttle_text i a d
-fields_text (send_unreliable_fragment f p) = fragment_text f p
+abbrev pub fields_text : Bodies → Body → List ℕ
+fields_text b (acknowledge n t) = codes " received_number " ++ decimal n ++ codes " received_time " ++ decimal t
+fields_text b (connect o) = offer_text o
+fields_text b (verify_connect v) = verify_text v
+fields_text b (disconnect i) = codes " info " ++ decimal i
+fields_text b ping = []
+fields_text b (send_reliable p) = payload_text b p
+fields_text b (send_unreliable n p) = codes " unreliable " ++ decimal n ++ payload_text b p
+fields_text b (send_fragment f p) = fragment_text b f p
+fields_text b (send_unsequenced g p) = codes " group " ++ decimal g ++ payload_text b p
+fields_text b (bandwidth_limit i o) = limits_text i o
+fields_text b (throttle_configure i a d) = throttle_text i a d
+fields_text b (send_unreliable_fragment f p) = fragment_text b f p
 
 -- What a command says.
-abbrev pub command_line : Message → List ℕ
-command_line m = codes "  " ++ name_of m.body ++ head_text m.head ++ fields_text m.body ++ codes "\n"
+abbrev pub command_line : Bodies → Message → List ℕ
+command_line b m = codes "  " ++ name_of m.body ++ head_text m.head ++ fields_text b m.body ++ codes "\n"

@@ -1,5 +1,6 @@
 pub mod Texts
 pub mod Words
+pub mod Bodies
 pub mod InspectTexts
 pub mod Described
 pub mod Lines

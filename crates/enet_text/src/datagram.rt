@@ -4,6 +4,7 @@ ghost use Rattle.std.specs.Prelude.{◌≡◌, ◌≤◌, ◌++◌, drop, length
 ghost use Rattle.std.specs.String.{string_bytes};
 ghost use Rattle.enet_text.specs.Described.{Describes, Tells, is_compressed, why_unread};
 
+use crate::body::Bodies;
 use crate::texts::{push_command_line, push_header_line, push_stop_line};
 use enet_codec::{Stop, read_command, read_header};
 use std::alloc::{AllocError, Global};
@@ -14,17 +15,21 @@ const COMPRESSED: u8 = 0x40;
 /// What a datagram says, a line for its header and one for each command, each ended by a line feed. Where the rest can't be read, the
 /// last line says why: `S1 Short`, `S2 Compressed` or `S6 BadCommand`, from which byte on, and these bytes in hex. An error where there
 /// is no memory for the text.
-pub fn describe(alloc: Global, datagram: &[u8]) -> Result<String, AllocError>
-    ensures { IfOk result (λ text. Describes datagram.now (string_bytes text)) }
+pub fn describe(alloc: Global, bodies: Bodies, datagram: &[u8]) -> Result<String, AllocError>
+    ensures { IfOk result (λ text. Describes bodies datagram.now (string_bytes text)) }
 {
     let mut text = String::with_capacity(alloc, datagram.len().saturating_mul(2))?;
-    push_description(&mut text, datagram)?;
+    push_description(&mut text, bodies, datagram)?;
     Ok(text)
 }
 
 /// What `describe` gives, put behind the text that is there. An error where there is no memory for it.
-pub(crate) fn push_description(text: &mut String, datagram: &[u8]) -> Result<(), AllocError>
-    ensures { OnOk result ((told : List ℕ) × (string_bytes text.new ≡ string_bytes text.old ++ told) × Describes datagram.now told) }
+pub(crate) fn push_description(
+    text: &mut String,
+    bodies: Bodies,
+    datagram: &[u8],
+) -> Result<(), AllocError>
+    ensures { OnOk result ((told : List ℕ) × (string_bytes text.new ≡ string_bytes text.old ++ told) × Describes bodies datagram.now told) }
 {
     let Some((header, len)) = read_header(datagram) else {
         return push_stop_line(text, why_unread(datagram), 0, datagram);
@@ -33,7 +38,7 @@ pub(crate) fn push_description(text: &mut String, datagram: &[u8]) -> Result<(),
     if header.compressed {
         return push_stop_line(text, Stop::Compressed, len, bytes_after(datagram, len));
     }
-    push_commands(text, datagram, len)
+    push_commands(text, bodies, datagram, len)
 }
 
 /// Why a datagram can't be read at whose front no header stands: `S2 Compressed` where it says that it is compressed, else `S1 Short`.
@@ -58,10 +63,15 @@ fn is_compressed(datagram: &[u8]) -> bool
 }
 
 // The lines of all that stands behind the header, which ends at a place.
-fn push_commands(text: &mut String, datagram: &[u8], header: usize) -> Result<(), AllocError>
+fn push_commands(
+    text: &mut String,
+    bodies: Bodies,
+    datagram: &[u8],
+    header: usize,
+) -> Result<(), AllocError>
     requires { header ≤ length datagram.now }
     ensures { OnOk result ((told : List ℕ) × (string_bytes text.new ≡ string_bytes text.old ++ told)
-        × Tells header (drop header datagram.now) told) }
+        × Tells bodies header (drop header datagram.now) told) }
 {
     let mut place = header;
     while place < datagram.len() {
@@ -69,7 +79,7 @@ fn push_commands(text: &mut String, datagram: &[u8], header: usize) -> Result<()
         let Some((command, len)) = read_command(rest) else {
             return push_stop_line(text, Stop::BadCommand, place, rest);
         };
-        push_command_line(text, &command)?;
+        push_command_line(text, bodies, &command)?;
         place += len;
     }
     Ok(())

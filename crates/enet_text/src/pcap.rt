@@ -1,7 +1,7 @@
 //! Captures in the classic pcap format: its packets, and the UDP datagrams over IPv4 in them.
 
 ghost use Rattle.std.specs.Prelude.{◌≡◌, ◌⊎◌, ◌≤◌, ◌<◌, ◌+◌, ℕ, length, drop, is_some, IfOk, IfErr, IfSome, IfNone, MatchOption};
-ghost use Rattle.enet_text.specs.Captures.{IsCapture, IsCutShort, IsPacket, IsWithin, link_of, magic_of, number_of};
+ghost use Rattle.enet_text.specs.Captures.{IsCapture, IsCutShort, IsPacket, IsWithin, begun_of, link_of, magic_of, moment, number_of, parts_of_second};
 
 use crate::fault::InspectFault;
 use enet_codec::Addr;
@@ -91,6 +91,35 @@ pub fn read_format(input: &[u8]) -> Result<(Format, &[u8]), InspectFault>
         link,
     };
     Ok((format, rest))
+}
+
+/// When the first of a capture's packets was captured, in billionths or millionths of a second. None where there is none.
+pub(crate) fn begun_at(format: Format, packets: &[u8]) -> Option<u64>
+    ensures { result ≡ begun_of format packets.now }
+{
+    let parts = u32_at(packets, 4, format.order)?;
+    let seconds = u32_at(packets, 0, format.order)?;
+    Some(moment(seconds, parts, format.nanoseconds))
+}
+
+/// A time in billionths or millionths of a second.
+pub(crate) fn moment(seconds: u32, parts: u32, nanoseconds: bool) -> u64
+    ensures { result ≡ moment seconds parts nanoseconds }
+{
+    u64::from(seconds) * parts_of_second(nanoseconds) + u64::from(parts)
+}
+
+/// How many of these are a second.
+pub(crate) fn parts_of_second(nanoseconds: bool) -> u64
+    ensures parts { result ≡ parts_of_second nanoseconds }
+    ensures most { result ≤ 1000000000 }
+    ensures some { 0 < result }
+{
+    if nanoseconds {
+        1_000_000_000
+    } else {
+        1_000_000
+    }
 }
 
 fn link_of(number: u32) -> Option<Link>

@@ -6,6 +6,7 @@ ghost use Rattle.std.specs.String.{string_bytes};
 ghost use Rattle.enet_codec.specs.Message.{view};
 ghost use Rattle.enet_text.specs.InspectTexts.{command_line, fields_text, flag_text, fragment_text, head_text, header_line, id_text, limits_text, name_of, offer_text, payload_text, peer_text, sent_text, sessions_text, sizes_text, stop_line, throttle_text, verify_text};
 
+use crate::body::{Bodies, push_body};
 use crate::pushing::{push_bytes, push_number};
 use enet_codec::{Command, Fragment, Head, Header, NO_PEER, Offer, Stop, Verify};
 use std::alloc::AllocError;
@@ -63,14 +64,18 @@ pub(crate) fn push_stop_line(
 }
 
 /// The line of a command. An error where there is no memory for it.
-pub(crate) fn push_command_line(text: &mut String, command: &Command<'_>) -> Result<(), AllocError>
-    ensures { OnOk result (string_bytes text.new ≡ string_bytes text.old ++ command_line (view command.now)) }
+pub(crate) fn push_command_line(
+    text: &mut String,
+    bodies: Bodies,
+    command: &Command<'_>,
+) -> Result<(), AllocError>
+    ensures { OnOk result (string_bytes text.new ≡ string_bytes text.old ++ command_line bodies (view command.now)) }
 {
     let (name, head) = named(command);
     text.push_str("  ")?;
     text.push_str(name)?;
     push_head(text, head)?;
-    push_fields(text, command)?;
+    push_fields(text, bodies, command)?;
     text.push_str("\n")?;
     Ok(())
 }
@@ -116,8 +121,8 @@ fn push_head(text: &mut String, head: Head) -> Result<(), AllocError>
 }
 
 // The fields of a command, its payload among them.
-fn push_fields(text: &mut String, command: &Command<'_>) -> Result<(), AllocError>
-    ensures { OnOk result (string_bytes text.new ≡ string_bytes text.old ++ fields_text (view command.now).body) }
+fn push_fields(text: &mut String, bodies: Bodies, command: &Command<'_>) -> Result<(), AllocError>
+    ensures { OnOk result (string_bytes text.new ≡ string_bytes text.old ++ fields_text bodies (view command.now).body) }
 {
     match *command {
         Command::Acknowledge {
@@ -129,19 +134,19 @@ fn push_fields(text: &mut String, command: &Command<'_>) -> Result<(), AllocErro
         Command::VerifyConnect { verify, .. } => push_verify(text, verify),
         Command::Disconnect { info, .. } => push_number(text, " info ", info),
         Command::Ping { .. } => Ok(()),
-        Command::SendReliable { payload, .. } => push_payload(text, payload),
+        Command::SendReliable { payload, .. } => push_payload(text, bodies, payload),
         Command::SendUnreliable {
             unreliable,
             payload,
             ..
-        } => push_numbered(text, " unreliable ", unreliable, payload),
+        } => push_numbered(text, bodies, " unreliable ", unreliable, payload),
         Command::SendFragment {
             fragment,
             payload,
             ..
-        } => push_fragment(text, fragment, payload),
+        } => push_fragment(text, bodies, fragment, payload),
         Command::SendUnsequenced { group, payload, .. } => {
-            push_numbered(text, " group ", group, payload)
+            push_numbered(text, bodies, " group ", group, payload)
         }
         Command::BandwidthLimit {
             incoming,
@@ -158,7 +163,7 @@ fn push_fields(text: &mut String, command: &Command<'_>) -> Result<(), AllocErro
             fragment,
             payload,
             ..
-        } => push_fragment(text, fragment, payload),
+        } => push_fragment(text, bodies, fragment, payload),
     }
 }
 
@@ -172,39 +177,45 @@ fn push_received(text: &mut String, number: u16, time: u16) -> Result<(), AllocE
     Ok(())
 }
 
-fn push_payload(text: &mut String, payload: &[u8]) -> Result<(), AllocError>
-    ensures { OnOk result (string_bytes text.new ≡ string_bytes text.old ++ payload_text payload.now) }
+fn push_payload(text: &mut String, bodies: Bodies, payload: &[u8]) -> Result<(), AllocError>
+    ensures { OnOk result (string_bytes text.new ≡ string_bytes text.old ++ payload_text bodies payload.now) }
 {
     push_number(text, " length ", payload.len())?;
     text.push_str(" payload ")?;
-    push_bytes(text, payload)?;
+    push_body(text, bodies, payload)?;
     Ok(())
 }
 
 // A number of the packet, by its name, and the payload.
 fn push_numbered(
     text: &mut String,
+    bodies: Bodies,
     name: &str,
     number: u16,
     payload: &[u8],
 ) -> Result<(), AllocError>
     ensures { OnOk result (string_bytes text.new
-        ≡ string_bytes text.old ++ (name.now ++ decimal number ++ payload_text payload.now)) }
+        ≡ string_bytes text.old ++ (name.now ++ decimal number ++ payload_text bodies payload.now)) }
 {
     push_number(text, name, number)?;
-    push_payload(text, payload)?;
+    push_payload(text, bodies, payload)?;
     Ok(())
 }
 
-fn push_fragment(text: &mut String, fragment: Fragment, payload: &[u8]) -> Result<(), AllocError>
-    ensures { OnOk result (string_bytes text.new ≡ string_bytes text.old ++ fragment_text fragment payload.now) }
+fn push_fragment(
+    text: &mut String,
+    bodies: Bodies,
+    fragment: Fragment,
+    payload: &[u8],
+) -> Result<(), AllocError>
+    ensures { OnOk result (string_bytes text.new ≡ string_bytes text.old ++ fragment_text bodies fragment payload.now) }
 {
     push_number(text, " start ", fragment.start)?;
     push_number(text, " fragment ", fragment.number)?;
     push_number(text, " count ", fragment.count)?;
     push_number(text, " offset ", fragment.offset)?;
     push_number(text, " total ", fragment.total)?;
-    push_payload(text, payload)?;
+    push_payload(text, bodies, payload)?;
     Ok(())
 }
 

@@ -18,23 +18,23 @@ returns-in_default c =
     if_ok c.push_stop_line.result (λ is. (
       l.invariant.1.0 ++ line,
       behind (string_bytes c.args.text.now) l.invariant.1.0 line (string_bytes l.text) (string_bytes c.push_stop_line.new.text) l.invariant.1.1 is,
-      l.invariant.1.2 line (stops_at l.place c.args.datagram.now _ c.bytes_after-rest.ensures c.loop-place-test.true c.in_default.ensures.none),
+      l.invariant.1.2 line (stops_at c.args.bodies l.place c.args.datagram.now _ c.bytes_after-rest.ensures c.loop-place-test.true c.in_default.ensures.none),
     )) c.push_stop_line.ensures
 
 pub loop-place-preserved : goal.loop-place-preserved
 loop-place-preserved c =
     let l = c.loop-place in
     let from = c.bytes_after-rest.ensures in
-    let line : List ℕ = command_line (view c.in-Some.command) in (
+    let line : List ℕ = command_line c.args.bodies (view c.in-Some.command) in (
       omega (arith, c.in-Some.ensures.length.1, length-drop l.place c.args.datagram.now, ap length from, c.loop-place-test.true),
       (
         l.invariant.1.0 ++ line,
         behind (string_bytes c.args.text.now) l.invariant.1.0 line (string_bytes l.text) (string_bytes c.push_command_line.new.text) l.invariant.1.1
             c.in_ok-push_command_line.ensures,
-        λ more later. subst (λ (told : List ℕ). Tells c.args.header (drop c.args.header c.args.datagram.now) told)
+        λ more later. subst (λ (told : List ℕ). Tells c.args.bodies c.args.header (drop c.args.header c.args.datagram.now) told)
             (sym (append_assoc l.invariant.1.0 line more))
             (l.invariant.1.2 _
-            (goes_on_at l.place c.in-Some.len _ c.args.datagram.now c.bytes_after-rest.result.now more (view c.in-Some.command) from c.in-Some.ensures.found
+            (goes_on_at c.args.bodies l.place c.in-Some.len _ c.args.datagram.now c.bytes_after-rest.result.now more (view c.in-Some.command) from c.in-Some.ensures.found
             c.in-Some.ensures.length.1 refl later)),
       ),
     )
@@ -45,6 +45,6 @@ returns c =
     let past : length c.args.datagram.now ≤ l.place = search rules in (
       l.invariant.1.0,
       l.invariant.1.1,
-      subst (λ (told : List ℕ). Tells c.args.header (drop c.args.header c.args.datagram.now) told) (append-nil l.invariant.1.0)
-          (l.invariant.1.2 [] (ends_at l.place c.args.datagram.now past)),
+      subst (λ (told : List ℕ). Tells c.args.bodies c.args.header (drop c.args.header c.args.datagram.now) told) (append-nil l.invariant.1.0)
+          (l.invariant.1.2 [] (ends_at c.args.bodies l.place c.args.datagram.now past)),
     )

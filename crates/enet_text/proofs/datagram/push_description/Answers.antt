@@ -25,7 +25,7 @@ returns-then-header c =
       line ++ text,
       behind (string_bytes c.args.text.now) line text (string_bytes c.push_header_line.new.text) (string_bytes c.push_stop_line-then-header.new.text)
           c.in_ok-push_header_line.ensures is,
-      is_compressed d c.bytes_after.result.now line text c.in-Some.header c.in-Some.len c.in-Some.ensures.found c.in-Some.ensures.length
+      is_compressed c.args.bodies d c.bytes_after.result.now line text c.in-Some.header c.in-Some.len c.in-Some.ensures.found c.in-Some.ensures.length
           c.bytes_after.ensures c.if-header.true refl refl,
     )) c.push_stop_line-then-header.ensures
 
@@ -37,5 +37,5 @@ returns c =
       line ++ told.0,
       behind (string_bytes c.args.text.now) line told.0 (string_bytes c.push_header_line.new.text) (string_bytes c.push_commands.new.text)
           c.in_ok-push_header_line.ensures told.1,
-      is_plain d line told.0 c.in-Some.header c.in-Some.len c.in-Some.ensures.found c.in-Some.ensures.length c.if-header.false refl told.2,
+      is_plain c.args.bodies d line told.0 c.in-Some.header c.in-Some.len c.in-Some.ensures.found c.in-Some.ensures.length c.if-header.false refl told.2,
     )) c.push_commands.ensures

@@ -8,7 +8,7 @@ abbrev pub invariant-lines : goal.invariant-lines
 invariant-lines g l =
     (before : List (List ℕ)) × (lines_of l.input ≡ before ++ lines_left l.left) × (length before + bytes_left l.left ≤ length l.input + 1)
     × (l.lines ≡ length before) × (l.told ≡ length (found_in_lines before))
-    × Wrote (g.W.Write.contents l.fn.writer) (g.W.Write.contents l.writer) (TellsLines before)
+    × Wrote (g.W.Write.contents l.fn.writer) (g.W.Write.contents l.writer) (TellsLines l.bodies before)
 
 abbrev pub decreases-lines : goal.decreases-lines
 decreases-lines g l = bytes_left l.left

@@ -23,5 +23,5 @@ returns c =
     (string_bytes c.push_number-4.new.text) e3 c.in_ok-push_number-4.ensures in
     let e5 = named_behind start four (codes " total ") (decimal f.total) (string_bytes c.push_number-4.new.text)
     (string_bytes c.push_number-5.new.text) e4 c.in_ok-push_number-5.ensures in
-    behind start five (payload_text c.args.payload.now) (string_bytes c.push_number-5.new.text) (string_bytes c.push_payload.new.text) e5
+    behind start five (payload_text c.args.bodies c.args.payload.now) (string_bytes c.push_number-5.new.text) (string_bytes c.push_payload.new.text) e5
     c.in_ok-push_payload.ensures
