@@ -11,7 +11,7 @@ use Rattle.law_network.specs.Alone.{call_by}
 use Rattle.law_network.specs.Steps.{Happening}
 use Rattle.law_network.proofs.Alone.{by-call, steps-append, alone}
 use Rattle.law_network.proofs.Submitting.{same-some}
-use Rattle.enet_site.specs.Places.{Place}
+use Rattle.law_network.specs.Places.{Place}
 use Rattle.enet_fleet.specs.declared.event.FleetEvent.{FleetEvent}
 use Rattle.enet_fleet.specs.declared.event.FleetEvent.TheVariants as happen
 use Rattle.law_headline.specs.declared.node.Node.{Node}

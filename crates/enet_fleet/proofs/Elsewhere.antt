@@ -21,7 +21,7 @@ use Rattle.law_network.proofs.Growing.{Grows, grows, more_of, from-before}
 use Rattle.law_network.proofs.Names.{IsThere, named-there}
 use Rattle.law_network.proofs.Submitting.{same-some}
 use Rattle.law_network.proofs.Worlds.{IsFresh, fresh-more, some-acts}
-use Rattle.enet_site.specs.Places.{Place}
+use Rattle.law_network.specs.Places.{Place}
 use Rattle.law_headline.specs.declared.node.Node.{Node}
 use Rattle.law_headline.specs.declared.node.Node.TheVariants.{Server, Client}
 use Rattle.law_headline.specs.Kept.{IsUnborn}

@@ -12,7 +12,7 @@ use Rattle.law_network.proofs.Beginning.{each-beginning}
 use Rattle.law_network.proofs.IsolationKeeping.{each-keeps}
 use Rattle.law_network.proofs.Submitting.{same-some}
 use Rattle.law_one_end.proofs.Hosts.{are-ends}
-use Rattle.enet_site.specs.Places.{Place, opened_at}
+use Rattle.law_network.specs.Places.{Place, opened_at}
 use Rattle.law_headline.specs.declared.node.Node.{Node}
 use Rattle.law_headline.specs.declared.node.Node.TheVariants.{Server, Client}
 use Rattle.law_headline.proofs.Net as net

@@ -21,9 +21,9 @@ use Rattle.law_network.specs.Numbers.{Stands}
 use Rattle.law_network.specs.World as world
 use Rattle.law_network.proofs.LoneSites.{Lone, site, end_of, submits, takes, PutsOne, after_putting, puts-out, text_of, header_of, logged, spells, Brings, after_hearing, Obeys, hears, after_nothing, hears-nothing, free_site, asks-first, answers-first}
 use Rattle.law_network.proofs.ExampleWorlds.{content, submitting, sending, sent, hearing, taking, offer, reliable, asking_message, verifying_message, confirming_message, asking, asked, ask, answering, verified, verify, welcomed, confirmed, confirm, standing, told_asker, told_answerer, puts-ask, brings-ask, puts-verify, brings-verify, puts-confirm, brings-confirm, crosses-told}
-use Rattle.enet_site.specs.Places.{Place, opened_at}
-use Rattle.enet_site.specs.declared.put_out.Sent.{Sent}
-use Rattle.enet_site.specs.declared.put_out.Sent.TheVariants.{Of}
+use Rattle.law_network.specs.Places.{Place, opened_at}
+use Rattle.law_network.specs.declared.put_out.Sent.{Sent}
+use Rattle.law_network.specs.declared.put_out.Sent.TheVariants.{Of}
 use Rattle.enet_fleet.specs.declared.event.FleetEvent.TheVariants as happen
 use Rattle.law_headline.specs.declared.node.Node.TheVariants.{Server, Client}
 use Rattle.law_headline.specs.Delivered.{HasNothingLeft}

@@ -9,7 +9,7 @@ use Rattle.enet_codec.specs.Config.{is_in_range}
 use Rattle.law_connection.specs.LinkSteps.{Has}
 use Rattle.law_network.specs.Network.{HostEnd, end_of}
 use Rattle.law_network.proofs.Submitting.{same-some}
-use Rattle.enet_site.specs.Places.{Place}
+use Rattle.law_network.specs.Places.{Place}
 use Rattle.law_headline.specs.declared.node.Node.TheVariants.{Server}
 use Rattle.law_headline.proofs.Page.{called, called-some, has-end}
 use Rattle.law_headline.proofs.Telling.{zip-take, front-run, front-keeps}

@@ -48,7 +48,7 @@ use Rattle.law_network.proofs.Lists.{same-or}
 use Rattle.law_network.proofs.OneThing.{one-thing}
 use Rattle.law_network.proofs.Submitting.{same-some}
 use Rattle.law_network.proofs.Worlds.{IsHost, AreAllOf, far-shown, nothing-of}
-use Rattle.enet_site.specs.Places.{Place}
+use Rattle.law_network.specs.Places.{Place}
 use Rattle.law_headline.specs.declared.node.Node.{Node}
 use Rattle.law_headline.specs.declared.node.Node.TheVariants.{Server, Client}
 use Rattle.law_headline.specs.Nets.{client_in, numbers_at}

@@ -8,7 +8,7 @@ use Rattle.law_network.specs.Headline.{HasHeadlineBetween}
 use Rattle.law_network.specs.Network.{HostEnd, Site, end_of}
 use Rattle.law_network.proofs.Lists.{get-map}
 use Rattle.law_network.proofs.Submitting.{same-some}
-use Rattle.enet_site.specs.Places.{Place}
+use Rattle.law_network.specs.Places.{Place}
 use Rattle.enet_fleet.specs.declared.event.End.TheVariants as end
 use Rattle.law_headline.specs.declared.node.Node.{Node}
 use Rattle.law_headline.specs.declared.node.Node.TheVariants.{Server, Client}

@@ -18,9 +18,9 @@ use Rattle.law_network.specs.World.{IsRefusedFor}
 use Rattle.law_network.proofs.Addresses.{equal-address}
 use Rattle.law_network.proofs.Running.{runs-keep, runs-push}
 use Rattle.law_network.proofs.Runs.{both}
-use Rattle.enet_site.specs.declared.put_out.Sent.{Sent}
-use Rattle.enet_site.specs.declared.put_out.Sent.TheVariants.{Of, Away}
-use Rattle.enet_site.specs.Places.{Place, all_opened}
+use Rattle.law_network.specs.declared.put_out.Sent.{Sent}
+use Rattle.law_network.specs.declared.put_out.Sent.TheVariants.{Of, Away}
+use Rattle.law_network.specs.Places.{Place, all_opened}
 use Rattle.enet_fleet.specs.declared.event.FleetEvent.{FleetEvent}
 use Rattle.enet_fleet.specs.declared.event.FleetEvent.TheVariants as happen
 use Rattle.law_headline.specs.declared.node.Node.{Node}

@@ -15,9 +15,9 @@ use Rattle.law_network.specs.Steps.{Happening, Calls, Delivers}
 use Rattle.law_network.proofs.Addresses.{equal-address}
 use Rattle.law_network.proofs.Submitting.{same-some}
 use Rattle.law_network.proofs.Running.{runs-keep}
-use Rattle.enet_site.specs.declared.put_out.Sent.{Sent}
-use Rattle.enet_site.specs.declared.put_out.Sent.TheVariants.{Of, Away}
-use Rattle.enet_site.specs.Places.{Place}
+use Rattle.law_network.specs.declared.put_out.Sent.{Sent}
+use Rattle.law_network.specs.declared.put_out.Sent.TheVariants.{Of, Away}
+use Rattle.law_network.specs.Places.{Place}
 use Rattle.law_headline.specs.declared.node.Node.{Node}
 use Rattle.law_headline.specs.declared.node.Node.TheVariants.{Server, Client}
 use Rattle.enet_fleet.specs.declared.event.FleetEvent.{FleetEvent}

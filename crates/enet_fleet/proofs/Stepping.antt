@@ -28,10 +28,10 @@ use Rattle.law_network.specs.Network.{Site}
 use Rattle.law_network.specs.Steps.{Happening, Calls, Delivers, Happens, HappensAmong, Called}
 use Rattle.law_network.specs.World.{IsRefusedFor, RefusesCall, RefusesTake}
 use Rattle.law_network.proofs.Names.{there-slot}
-use Rattle.enet_site.specs.declared.put_out.Sent.TheVariants.{Of, Away}
+use Rattle.law_network.specs.declared.put_out.Sent.TheVariants.{Of, Away}
 use Rattle.enet_site.specs.declared.put_out.Turned.{Turned}
 use Rattle.enet_site.specs.declared.put_out.Turned.TheVariants as turn
-use Rattle.enet_site.specs.Places.{Place}
+use Rattle.law_network.specs.Places.{Place}
 use Rattle.enet_site.specs.Sites.{CallsAt}
 use Rattle.enet_site.specs.Turning.{CallsAround, TurnsAmong}
 use Rattle.enet_fleet.specs.declared.event.FleetEvent.{FleetEvent}

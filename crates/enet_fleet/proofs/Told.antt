@@ -23,7 +23,7 @@ use Rattle.law_network.proofs.Lists.{same-or, get-set, get-set_other, get-within
 use Rattle.law_network.proofs.Owned.{are-ends, none-held}
 use Rattle.law_network.proofs.Runs.{few-of}
 use Rattle.law_network.proofs.Submitting.{same-some}
-use Rattle.enet_site.specs.Places.{Place, opened_at}
+use Rattle.law_network.specs.Places.{Place, opened_at}
 use Rattle.law_headline.specs.declared.node.Node.{Node}
 use Rattle.law_headline.specs.declared.node.Node.TheVariants.{Server, Client}
 use Rattle.enet_fleet.specs.declared.event.FleetEvent.{FleetEvent}

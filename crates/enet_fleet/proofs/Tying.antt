@@ -19,7 +19,7 @@ use Rattle.law_network.specs.Steps.{Happening, Calls}
 use Rattle.law_network.proofs.Growing.{Grows, grows, more_of, stays-there}
 use Rattle.law_network.proofs.Lists.{same-or, get-set, get-set_other, get-map}
 use Rattle.law_network.proofs.Submitting.{same-some}
-use Rattle.enet_site.specs.Places.{Place, all_opened}
+use Rattle.law_network.specs.Places.{Place, all_opened}
 use Rattle.law_headline.specs.declared.node.Node.{Node}
 use Rattle.law_headline.specs.declared.node.Node.TheVariants.{Server, Client}
 use Rattle.law_headline.specs.Page.{IsHeadline, is_of}

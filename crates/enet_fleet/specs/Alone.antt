@@ -5,7 +5,7 @@ use Rattle.law_network.specs.Calls.{Call}
 use Rattle.law_network.specs.Calls as call
 use Rattle.enet_fleet.specs.declared.answer.Answer.{Answer}
 use Rattle.law_network.specs.Alone.{LiveAlone, call_by}
-use Rattle.enet_site.specs.Places.{Place}
+use Rattle.law_network.specs.Places.{Place}
 use Rattle.enet_fleet.specs.declared.event.FleetEvent.{FleetEvent}
 use Rattle.enet_fleet.specs.declared.event.FleetEvent.TheVariants as happen
 use Rattle.law_headline.specs.declared.node.Node.{Node}

@@ -14,7 +14,7 @@ use Rattle.enet_fleet.specs.declared.answer.Answer.TheVariants as answers
 use Rattle.law_network.specs.Examples.{example_config, first_name}
 use Rattle.law_network.specs.Headline.{submitted_at, taken_at}
 use Rattle.law_network.specs.Numbers.{Stands}
-use Rattle.enet_site.specs.Places.{Place}
+use Rattle.law_network.specs.Places.{Place}
 use Rattle.enet_fleet.specs.declared.event.End.TheVariants as end
 use Rattle.enet_fleet.specs.declared.event.FleetEvent.{FleetEvent}
 use Rattle.enet_fleet.specs.declared.event.FleetEvent.TheVariants as happen

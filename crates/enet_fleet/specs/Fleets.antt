@@ -19,9 +19,9 @@ use Rattle.law_network.specs.Network.{Site, delivery_refusal}
 use Rattle.law_network.specs.Running.{RunsBy}
 use Rattle.law_network.specs.Steps.{Happening, Calls, Delivers}
 use Rattle.law_network.specs.World.{IsRefusedFor, RefusesCall, RefusesTake}
-use Rattle.enet_site.specs.declared.put_out.Sent.{Sent}
-use Rattle.enet_site.specs.declared.put_out.Sent.TheVariants.{Of, Away}
-use Rattle.enet_site.specs.Places.{Place}
+use Rattle.law_network.specs.declared.put_out.Sent.{Sent}
+use Rattle.law_network.specs.declared.put_out.Sent.TheVariants.{Of, Away}
+use Rattle.law_network.specs.Places.{Place}
 use Rattle.law_headline.specs.declared.node.Node.{Node}
 use Rattle.law_headline.specs.declared.node.Node.TheVariants.{Server, Client}
 use Rattle.law_headline.specs.Nets as nets

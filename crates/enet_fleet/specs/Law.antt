@@ -8,7 +8,7 @@ use Rattle.enet_fleet.specs.declared.answer.Answer.{Answer}
 use Rattle.law_connection.specs.LinkSteps.{Has}
 use Rattle.law_network.specs.Law.{IsPaired}
 use Rattle.law_network.specs.Log.{Logged}
-use Rattle.enet_site.specs.Places.{Place}
+use Rattle.law_network.specs.Places.{Place}
 use Rattle.enet_fleet.specs.declared.event.FleetEvent.{FleetEvent}
 use Rattle.law_headline.specs.declared.node.Node.{Node}
 use Rattle.enet_fleet.specs.Fleets.{Fleet, place_of, far_address, Runs, open_fleet}

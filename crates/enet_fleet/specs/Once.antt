@@ -14,7 +14,7 @@ use Rattle.law_unsequenced.specs.Law.{AreDistinct}
 use Rattle.law_network.specs.Headline.{received}
 use Rattle.law_network.specs.Log.{Logged}
 use Rattle.law_network.specs.Network.{HostEnd, is_same_name}
-use Rattle.enet_site.specs.Places.{Place}
+use Rattle.law_network.specs.Places.{Place}
 use Rattle.law_headline.specs.declared.node.Node.{Node}
 use Rattle.enet_fleet.specs.declared.answer.Answer.{Answer}
 use Rattle.enet_fleet.specs.declared.answer.Answer.TheVariants as answers

@@ -8,7 +8,7 @@ use Rattle.enet_codec.specs.Config.{is_in_range}
 use Rattle.law_connection.specs.LinkSteps.{Has}
 use Rattle.enet_fleet.specs.declared.answer.Answer.{Answer}
 use Rattle.law_network.specs.Network.{HostEnd}
-use Rattle.enet_site.specs.Places.{Place}
+use Rattle.law_network.specs.Places.{Place}
 use Rattle.law_headline.specs.declared.node.Node.{Node}
 use Rattle.enet_fleet.specs.declared.event.FleetEvent.{FleetEvent}
 use Rattle.enet_fleet.specs.Fleets.{Fleet, place_of, is_host, Runs, open_fleet}

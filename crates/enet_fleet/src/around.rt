@@ -4,8 +4,7 @@ ghost use Rattle.std.specs.Prelude.{◌≡◌};
 
 use crate::hosts::{client_of, is_host};
 use enet_codec::Addr;
-use enet_records::Around;
-use enet_site::{Place, Site};
+use enet_site::{Around, Place, Site};
 
 /// Around a client there are so many clients, itself among them, and the server, which has the other end of its connections.
 #[derive(Clone, Copy)]

@@ -12,8 +12,7 @@ use crate::answer::Answer;
 use crate::around::{AroundClient, AroundServer};
 use crate::hosts::Hosts;
 use enet_codec::Refusal;
-use enet_records::Around;
-use enet_site::{Place, Sent, Turned};
+use enet_site::{Around, Place, Sent, Turned};
 use law_headline::Node;
 use std::alloc::Global;
 

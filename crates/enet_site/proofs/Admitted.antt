@@ -8,7 +8,7 @@ use Rattle.law_network.specs.Calls as call
 use Rattle.law_network.specs.Network.{Site}
 use Rattle.law_network.specs.Steps.{Calls, beside}
 use Rattle.law_network.specs.World.{RefusesCall}
-use Rattle.enet_records.specs.Records.{Records}
+use Rattle.enet_site.specs.Records.{Records}
 use Rattle.enet_site.specs.Sites.{site, CallsAt}
 use Rattle.enet_site.specs.Private.Sites.{IsWhole}
 use Rattle.enet_site.proofs.Going.{whole-goes}

@@ -13,7 +13,7 @@ use Rattle.law_network.specs.Calls as call
 use Rattle.law_network.specs.Network.{Site, delivery_refusal}
 use Rattle.law_network.specs.Steps.{Calls, Delivers, beside, Happens, Called, BringsOne}
 use Rattle.law_network.specs.World.{IsRefusedFor, RefusesCall}
-use Rattle.enet_records.specs.Records.{Records}
+use Rattle.enet_site.specs.Records.{Records}
 use Rattle.enet_site.specs.Sites.{site, CallsAt}
 use Rattle.enet_site.specs.Private.Sites.{IsWhole, CallsOn}
 use Rattle.enet_site.proofs.Going.{whole-goes, whole-after}

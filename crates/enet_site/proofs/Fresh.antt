@@ -15,7 +15,7 @@ use Rattle.law_network.specs.Network.{HostEnd}
 use Rattle.law_network.specs.Shown.{ShowsPeer}
 use Rattle.law_network.specs.World.{joined_end}
 use Rattle.law_network.proofs.Peers.{shows-held}
-use Rattle.enet_records.specs.Records.{Records}
+use Rattle.enet_site.specs.Records.{Records}
 use Rattle.enet_site.specs.Private.Sites.{AreShown, IsWhole}
 
 first : (c : Config) (far : Addr) → SlotState

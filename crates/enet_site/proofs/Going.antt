@@ -19,7 +19,7 @@ use Rattle.law_network.proofs.Growing.{more_of, more_in, Grows, grows, from-befo
 use Rattle.law_network.proofs.Guests.{guest}
 use Rattle.law_network.proofs.Peers.{shows-held, is_gone, goes, Moved, moved}
 use Rattle.law_network.proofs.Worlds.{some-acts}
-use Rattle.enet_records.specs.Records.{Records}
+use Rattle.enet_site.specs.Records.{Records}
 use Rattle.enet_site.specs.Sites.{site}
 use Rattle.enet_site.specs.Private.Sites.{AreShown, IsWhole}
 

@@ -16,7 +16,7 @@ use Rattle.law_network.specs.Calls as call
 use Rattle.law_network.specs.Log.{Logged}
 use Rattle.law_network.specs.Network.{HostEnd, delivery_refusal}
 use Rattle.law_network.specs.Steps.{BringsOne, Brought, begun}
-use Rattle.enet_records.specs.Records.{Records}
+use Rattle.enet_site.specs.Records.{Records}
 use Rattle.enet_site.specs.Sites.{site}
 use Rattle.enet_site.proofs.Beginning.{begun-none}
 

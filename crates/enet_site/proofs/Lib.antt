@@ -12,3 +12,9 @@ pub mod AtSite
 pub mod Opens
 pub mod Ended
 pub mod Admitted
+pub mod MarkLemmas
+pub mod Bounds
+pub mod RecordPlaces
+pub mod Ends
+pub mod RecordsFresh
+pub mod Keeps

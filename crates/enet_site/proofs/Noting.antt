@@ -10,7 +10,7 @@ use Rattle.law_network.specs.Calls as call
 use Rattle.law_network.specs.Log.{Logged}
 use Rattle.law_network.specs.Network.{Site}
 use Rattle.law_network.specs.Steps.{Around, Calls, LogsIf}
-use Rattle.enet_records.specs.Records.{Records, Notes}
+use Rattle.enet_site.specs.Records.{Records, Notes}
 use Rattle.enet_site.specs.declared.put_out.Turned.{Turned}
 use Rattle.enet_site.specs.declared.put_out.Turned.TheVariants.{Sent, Away}
 use Rattle.enet_site.specs.Sites.{site}

@@ -3,7 +3,7 @@ use Rattle.std.proofs.Common.{◌≡◌, ◌<◌, ℕ, ◌+◌, List, [], ◌∷
 use Rattle.std.proofs.lemmas.List.{take_more, length-take}
 use Rattle.enet_codec.specs.declared.address.Addr.{Addr}
 use Rattle.enet_codec.specs.declared.config.Config.{Config}
-use Rattle.enet_site.specs.Places.{Place, opened_at, all_opened}
+use Rattle.law_network.specs.Places.{Place, opened_at, all_opened}
 
 opened-last : (address : ℕ → Addr) (i : ℕ) (configs : List Config) (c : Config) → all_opened address i (configs ++ c ∷ []) ≡ all_opened address i configs ++ opened_at (address (i + length configs)) c ∷ []
 opened-last address i [] c = ap (λ (n : ℕ). opened_at (address n) c ∷ []) (let same : i ≡ i + 0 = omega arith in same)

@@ -13,10 +13,10 @@ use Rattle.law_network.specs.Calls as call
 use Rattle.law_network.specs.Log.{Logged}
 use Rattle.law_network.specs.Network.{HostEnd, is_same_name, with_end}
 use Rattle.law_network.specs.Steps.{with_packet}
-use Rattle.enet_records.specs.Records.{Records, AreApart}
-use Rattle.enet_records.specs.Private.Records.{IsKept, AreKept}
-use Rattle.enet_records.proofs.Ends.{Placed, placed-some, with-one, with-none}
-use Rattle.enet_records.proofs.Keeps.{kept-set, packet-kept}
+use Rattle.enet_site.specs.Records.{Records, AreApart}
+use Rattle.enet_site.specs.RecordsPrivate.Records.{IsKept, AreKept}
+use Rattle.enet_site.proofs.Ends.{Placed, placed-some, with-one, with-none}
+use Rattle.enet_site.proofs.Keeps.{kept-set, packet-kept}
 use Rattle.enet_site.specs.Private.Sites.{CallsOn}
 
 -- where the end stands that has a name

@@ -20,10 +20,10 @@ use Rattle.law_network.specs.Log.{Logged}
 use Rattle.law_network.specs.Network.{HostEnd, is_same_name, with_end}
 use Rattle.law_network.specs.Steps.{with_event, after_event}
 use Rattle.law_network.specs.World.{RefusesTake}
-use Rattle.enet_records.specs.Records.{Records, AreApart}
-use Rattle.enet_records.specs.Private.Records.{IsKept, AreKept}
-use Rattle.enet_records.proofs.Ends.{Placed, with-one, with-none}
-use Rattle.enet_records.proofs.Keeps.{kept-set, event-kept}
+use Rattle.enet_site.specs.Records.{Records, AreApart}
+use Rattle.enet_site.specs.RecordsPrivate.Records.{IsKept, AreKept}
+use Rattle.enet_site.proofs.Ends.{Placed, with-one, with-none}
+use Rattle.enet_site.proofs.Keeps.{kept-set, event-kept}
 use Rattle.enet_site.specs.Private.Sites.{CallsOn, told}
 use Rattle.enet_site.proofs.Submits.{none-of}
 

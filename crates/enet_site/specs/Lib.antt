@@ -1,5 +1,6 @@
 pub mod Sites
 pub mod Turning
-pub mod Places
 pub mod Standing
 pub mod Private
+pub mod Records
+pub mod RecordsPrivate

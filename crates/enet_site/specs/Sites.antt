@@ -5,7 +5,7 @@ use Rattle.enet_host.specs.Host.{Host}
 use Rattle.law_network.specs.Calls.{Call}
 use Rattle.law_network.specs.Network.{Site}
 use Rattle.law_network.specs.Steps.{Calls, Happens}
-use Rattle.enet_records.specs.Records.{Records}
+use Rattle.enet_site.specs.Records.{Records}
 
 abbrev pub site : Addr → Host → Records → Site
 site address host r = record { address = address; host = host; log = r.log; ends = r.ends }

@@ -18,10 +18,10 @@ ghost use Rattle.enet_site.specs.Sites.{site};
 ghost use Rattle.enet_site.specs.Private.Sites.{IsWhole, begun_if};
 
 use crate::delivery::refused_delivery;
+use crate::{Datagram, Records, fresh_end};
 use enet_codec::{Addr, NO_PEER, PeerRef, Received, Refusal};
 use enet_host::HostCore;
 use enet_peer::read_heading;
-use enet_records::{Datagram, Records, fresh_end};
 use std::alloc::Global;
 
 /// Whether the header of a datagram names no peer, as that of a CONNECT alone does.

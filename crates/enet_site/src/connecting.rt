@@ -7,9 +7,9 @@ ghost use Rattle.law_network.specs.Calls.{Acts};
 ghost use Rattle.law_network.specs.Calls as call;
 ghost use Rattle.enet_site.specs.Private.Sites.{IsWhole, CallsOn};
 
+use crate::{Records, fresh_end};
 use enet_codec::{Addr, PeerRef, Refusal};
 use enet_host::HostCore;
-use enet_records::{Records, fresh_end};
 use std::alloc::Global;
 
 /// Whom a host asks for a connection, and for what.

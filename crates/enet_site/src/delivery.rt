@@ -8,9 +8,9 @@ ghost use Rattle.law_network.specs.Network.{is_at, is_over, has_ended, holds_ano
 ghost use Rattle.enet_site.specs.Sites.{site};
 ghost use Rattle.enet_site.specs.Private.Sites.{with_ends, unread};
 
+use crate::{End, Records, comes_late};
 use enet_codec::{Addr, NO_PEER, PeerRef, Refusal};
 use enet_host::{HostCore, PeerState};
-use enet_records::{End, Records, comes_late};
 
 /// Whether a peer in this state takes no datagram in.
 fn is_deaf(state: PeerState) -> bool

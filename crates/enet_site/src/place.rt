@@ -2,11 +2,11 @@
 
 ghost use Rattle.std.specs.Prelude.{◌≡◌, true, false, Err, IfOk, IfErr};
 ghost use Rattle.enet_codec.specs.Config.{is_in_range};
-ghost use Rattle.enet_site.specs.Places.{opened_at};
+ghost use Rattle.law_network.specs.Places.{opened_at};
 
-use crate::put_out::Sent;
 use crate::site::Site;
 use enet_codec::{Addr, Config, Refusal};
+use law_network::Sent;
 use std::alloc::Global;
 use std::marker::Model;
 
@@ -19,7 +19,7 @@ pub struct Place {
 }
 
 impl Model for Place {
-    ghost use Rattle.enet_site.specs.Places.{Place};
+    ghost use Rattle.law_network.specs.Places.{Place};
     ghost use Rattle.std.specs.Coded.{codes};
     ghost use Rattle.enet_inbox.specs.Codes.{inbox_code};
 

@@ -3,7 +3,7 @@
 ghost use Rattle.std.specs.Prelude.{◌≡◌, ◌+◌, ◌≤◌, ◌^◌, true, length, IfOk, IfErr};
 ghost use Rattle.std.specs.List.{list_all};
 ghost use Rattle.enet_codec.specs.Config.{is_in_range};
-ghost use Rattle.enet_site.specs.Places.{all_opened};
+ghost use Rattle.law_network.specs.Places.{all_opened};
 
 use crate::place::Place;
 use enet_codec::{Addr, Config, Refusal};

@@ -1,21 +1,7 @@
-//! What a host put out.
+//! What a turn put out.
 
 use enet_codec::Addr;
-use std::marker::Model;
-
-/// The bytes of a datagram.
-#[derive(Drop)]
-pub struct Text {
-    pub bytes: Vec<u8>,
-}
-
-impl Model for Text {
-    ghost use Rattle.std.specs.Prelude.{ℕ, List};
-
-    ghost Value = { List ℕ };
-
-    ghost view = { λ t. t.bytes.items };
-}
+use law_network::Text;
 
 /// What a turn of a site put out.
 #[derive(Drop)]
@@ -23,14 +9,5 @@ pub enum Turned {
     /// A datagram of a connection: this number of the site's log, from 0.
     Sent(u64),
     /// A datagram to a stranger, of no connection. The site keeps nothing of it.
-    Away { to: Addr, text: Text },
-}
-
-/// A datagram that a host put out.
-#[derive(Drop)]
-pub enum Sent {
-    /// Of a connection: this one of the site's log, from 0.
-    Of(u64),
-    /// To a stranger.
     Away { to: Addr, text: Text },
 }

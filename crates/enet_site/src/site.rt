@@ -24,12 +24,12 @@ use crate::standing::state;
 use crate::submitting::submit;
 use crate::taking::{next_event_from, take};
 use crate::turn::turn;
+use crate::{Around, Records, numbers_of};
 use bytes::Bytes;
 use enet_codec::{
     Addr, Admission, Config, DisconnectMode, Event, Packet, PeerRef, Received, Refusal,
 };
 use enet_host::{HostCore, PeerState};
-use enet_records::{Around, Records, numbers_of};
 use std::alloc::Global;
 use std::marker::Model;
 
@@ -282,7 +282,7 @@ impl Site {
     pub fn submitted(&self, connection: u64, channel: u8) -> &[Packet]
         ensures { result.now ≡ submitted_at channel (end_of connection self.now.ends) }
     {
-        enet_records::submitted(&self.records.ends, connection, channel)
+        crate::submitted(&self.records.ends, connection, channel)
     }
 
     /// What the user of this end of a connection took of a channel, in order; empty where there is no such connection or
@@ -290,14 +290,14 @@ impl Site {
     pub fn taken(&self, connection: u64, channel: u8) -> &[Packet]
         ensures { result.now ≡ taken_at channel (end_of connection self.now.ends) }
     {
-        enet_records::taken(&self.records.ends, connection, channel)
+        crate::taken(&self.records.ends, connection, channel)
     }
 
     /// The events that the user of this end of a connection took, in order; none where there is no such connection.
     pub fn events(&self, connection: u64) -> &[Event]
         ensures { result.now ≡ events_at (end_of connection self.now.ends) }
     {
-        enet_records::events(&self.records.ends, connection)
+        crate::events(&self.records.ends, connection)
     }
 
     /// Lets the site go. A crate that drops one in any other way proves anew how all that a host holds is dropped.

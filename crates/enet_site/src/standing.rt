@@ -3,8 +3,8 @@
 ghost use Rattle.std.specs.Prelude.{◌≡◌};
 ghost use Rattle.enet_site.specs.Standing.{state_in};
 
+use crate::{End, peer_of};
 use enet_host::{HostCore, PeerState};
-use enet_records::{End, peer_of};
 
 /// How far a connection has come at this host; None where it has no end of it, or the end's peer is gone.
 pub fn state(host: &HostCore, ends: &[End], connection: u64) -> Option<PeerState>

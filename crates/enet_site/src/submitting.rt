@@ -10,10 +10,10 @@ ghost use Rattle.law_network.specs.Calls as call;
 ghost use Rattle.law_network.specs.Steps.{with_packet};
 ghost use Rattle.enet_site.specs.Private.Sites.{IsWhole, CallsOn};
 
+use crate::{End, Records, position_of};
 use bytes::Bytes;
 use enet_codec::{Packet, PeerRef, Refusal};
 use enet_host::HostCore;
-use enet_records::{End, Records, position_of};
 
 /// The mtu of the peer of this name, in bytes; 0 where there is none.
 fn mtu_of(host: &HostCore, peer: PeerRef) -> u32

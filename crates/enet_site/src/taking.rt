@@ -8,9 +8,9 @@ ghost use Rattle.law_network.specs.Calls as call;
 ghost use Rattle.law_network.specs.World.{RefusesTake};
 ghost use Rattle.enet_site.specs.Private.Sites.{IsWhole, CallsOn, told};
 
+use crate::{End, Records, position_of};
 use enet_codec::{Addr, Event, Refusal};
 use enet_host::HostCore;
-use enet_records::{End, Records, position_of};
 
 /// An event that is no packet, twice over.
 fn twice(event: Event) -> Option<(Event, Event)>

@@ -5,10 +5,11 @@ ghost use Rattle.law_network.specs.Headline.{AreEnds};
 ghost use Rattle.enet_site.specs.Private.Sites.{with_ends};
 ghost use Rattle.enet_site.specs.Private.Turning.{EmitsNothing, EmitsOne, Turns};
 
-use crate::put_out::{Text, Turned};
+use crate::put_out::Turned;
+use crate::{Around, MAX_COMMANDS, Records, note};
 use enet_codec::{Addr, PeerRef, Refusal};
 use enet_host::HostCore;
-use enet_records::{Around, MAX_COMMANDS, Records, note};
+use law_network::Text;
 use std::alloc::Global;
 
 /// The greatest length of a datagram, in bytes.

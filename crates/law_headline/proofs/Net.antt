@@ -17,7 +17,7 @@ use Rattle.law_network.proofs.Lists.{get-within, same-or, get-set, get-set_other
 use Rattle.law_network.proofs.Once.{AreAt, IsOfSender, at-goes, begins-once}
 use Rattle.law_network.proofs.Owned.{AreOwned, owned-goes, none-held}
 use Rattle.law_network.proofs.Runs.{wider, stays-put, new-pair, few-of, both, none-at, lawful-either, submitted-either}
-use Rattle.law_network.proofs.Sent.{AreSent, sent-goes, more-brought}
+use Rattle.law_network.proofs.WhereSent.{AreSent, sent-goes, more-brought}
 use Rattle.law_network.proofs.Submitting.{same-some}
 use Rattle.law_network.proofs.Worlds.{IsHost, Pair, AreAllOf, BeginsOnce, AreShown, ComesOf, IsJoined, swapped, pair-goes, host-goes, shown-end, count-grows, end-none}
 use Rattle.law_network.specs.Calls.{Call}
@@ -33,7 +33,7 @@ use Rattle.std.proofs.lemmas.Option.{slice_get_within}
 use Rattle.std.specs.List.{list_all}
 use Rattle.law_network.specs.Calls as call
 use Rattle.law_headline.specs.Nets as nets
-use Rattle.enet_site.specs.Places.{Place, opened_at, all_opened}
+use Rattle.law_network.specs.Places.{Place, opened_at, all_opened}
 use Rattle.law_headline.specs.Nets.{Net, place_of, with_place, AreApart, is_client, numbers_at, client_in, client_of, asked_after, HappensAt, AllowsCall, IsAllowed, Thing, AllHappen, open_net}
 use Rattle.law_headline.specs.Law.{end_in, HasHeadline, OfEachNet}
 use Rattle.law_headline.specs.Delivered.{HasDelivered}

@@ -7,7 +7,7 @@ use Rattle.law_connection.specs.Numbers.{carried_by}
 use Rattle.law_progress.specs.Links.{AllDispatched}
 use Rattle.law_network.specs.Network.{Site}
 use Rattle.law_network.specs.Numbers.{Stands, sending_at, receiving_at}
-use Rattle.enet_site.specs.Places.{Place}
+use Rattle.law_network.specs.Places.{Place}
 use Rattle.law_headline.specs.Nets.{Net, client_of}
 
 -- the end of connection x at a host, whose peer stands, still sends, and has no reliable command of the channel queued or unacknowledged

@@ -8,7 +8,7 @@ use Rattle.law_connection.specs.LinkSteps.{Has}
 use Rattle.law_network.specs.Headline.{HasHeadlineAt, HasHeadlineBetween}
 use Rattle.law_network.specs.Network.{HostEnd, end_of}
 use Rattle.law_headline.specs.declared.node.Node.{Node}
-use Rattle.enet_site.specs.Places.{Place}
+use Rattle.law_network.specs.Places.{Place}
 use Rattle.law_headline.specs.Nets.{Net, place_of, client_of, is_host, Thing, AllHappen, AreApart, open_net}
 
 -- the end of connection x at a host, if it has one

@@ -8,7 +8,7 @@ use Rattle.law_network.specs.Calls as call
 use Rattle.law_network.specs.Log.{Logged}
 use Rattle.law_network.specs.Network.{numbers_of}
 use Rattle.law_network.specs.Steps.{Around, Happening, Calls, Delivers, HappensAmong}
-use Rattle.enet_site.specs.Places.{Place, opened_at, all_opened}
+use Rattle.law_network.specs.Places.{Place, opened_at, all_opened}
 use Rattle.law_headline.specs.declared.node.Node.{Node}
 use Rattle.law_headline.specs.declared.node.Node.TheVariants.{Server, Client}
 

@@ -14,7 +14,7 @@ pub mod Beginnings
 pub mod Growing
 pub mod Worlds
 pub mod Once
-pub mod Sent
+pub mod WhereSent
 pub mod Owned
 pub mod Running
 pub mod Runs

@@ -3,6 +3,7 @@ pub mod Log
 pub mod Marks
 pub mod Network
 pub mod Steps
+pub mod Places
 pub mod Running
 pub mod World
 pub mod Shown

@@ -28,11 +28,13 @@ use enet_host::HostCore;
 mod apart;
 mod event;
 mod mark;
+mod put_out;
 mod settings;
 
 pub use apart::{isolation, isolation_of};
 pub use event::{Answer, Side, WorldEvent};
 pub use mark::{Mark, MarkKind};
+pub use put_out::{Sent, Text};
 pub use settings::{set_bandwidth, set_ping_interval, set_timeout, throttle_configure};
 
 /// What happens at a host is, for each of its connections, a number of events of the law of one connection.

@@ -28,7 +28,7 @@ use Rattle.law_network.proofs.Lists.{same-or, get-set, get-set_other, get-map, g
 use Rattle.law_network.proofs.Owned.{are-ends, none-held}
 use Rattle.law_network.proofs.Runs.{few-of, both}
 use Rattle.law_network.proofs.Submitting.{same-some}
-use Rattle.enet_site.specs.Places.{Place, opened_at, all_opened}
+use Rattle.law_network.specs.Places.{Place, opened_at, all_opened}
 use Rattle.law_headline.specs.Nets.{Net, place_of, with_place, around, asked_after, HappensAt, IsAllowed, AreApart, is_host, client_in, open_net}
 use Rattle.law_headline.specs.Law.{HasHeadline, end_in}
 use Rattle.law_headline.proofs.Net.{Sound, Holds, each-holds, server-host, client-host, sound-goes, open-sound, has-headline}

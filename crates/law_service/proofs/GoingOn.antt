@@ -17,7 +17,7 @@ use Rattle.law_network.specs.Steps.{Around, Happening, Calls, Delivers, HappensA
 use Rattle.law_network.proofs.Lists.{get-set}
 use Rattle.law_network.proofs.Owned.{are-ends}
 use Rattle.law_network.proofs.Submitting.{same-some}
-use Rattle.enet_site.specs.Places.{Place}
+use Rattle.law_network.specs.Places.{Place}
 use Rattle.law_headline.specs.Nets.{Net, place_of, with_place, around, asked_after, HappensAt, AllowsCall, IsAllowed, AreApart, is_host, open_net}
 use Rattle.law_headline.proofs.Net.{Sound, Holds, each-holds}
 use Rattle.law_service.specs.Law.{MayCall}

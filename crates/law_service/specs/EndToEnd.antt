@@ -16,7 +16,7 @@ use Rattle.law_network.specs.Calls as call
 use Rattle.law_network.specs.Log.{Logged}
 use Rattle.law_network.specs.Network.{Site, delivery_refusal}
 use Rattle.law_network.specs.Steps.{Happening, Calls, Delivers}
-use Rattle.enet_site.specs.Places.{Place}
+use Rattle.law_network.specs.Places.{Place}
 use Rattle.law_headline.specs.Nets.{Net, place_of, AreApart, is_host, HappensAt, IsAllowed, open_net}
 use Rattle.law_headline.specs.Page.{User, IsHeadline, is_of}
 use Rattle.enet_turn.specs.declared.service.Service.{Service}

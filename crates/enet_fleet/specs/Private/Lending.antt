@@ -1,7 +1,7 @@
 -- A host of a fleet is lent.
 use Rattle.std.specs.Prelude.{Option}
 use Rattle.std.specs.Borrow.{LendsIf, MutBor, Fml}
-use Rattle.enet_site.specs.Places.{Place}
+use Rattle.law_network.specs.Places.{Place}
 use Rattle.enet_site.specs.contracts.place.Place as place
 use Rattle.law_headline.specs.declared.node.Node.{Node}
 use Rattle.enet_fleet.specs.contracts.hosts.Hosts as hosts

@@ -3,9 +3,9 @@ use Rattle.std.specs.Prelude.{◌≡◌, ℕ, Bool, List, length, Option, Some, 
 use Rattle.enet_codec.specs.declared.address.Addr.{Addr}
 use Rattle.enet_codec.specs.declared.event.PeerRef.{PeerRef}
 use Rattle.law_network.specs.Calls as call
-use Rattle.enet_site.specs.declared.put_out.Sent.{Sent}
-use Rattle.enet_site.specs.declared.put_out.Sent.TheVariants.{Of, Away}
-use Rattle.enet_site.specs.Places.{Place}
+use Rattle.law_network.specs.declared.put_out.Sent.{Sent}
+use Rattle.law_network.specs.declared.put_out.Sent.TheVariants.{Of, Away}
+use Rattle.law_network.specs.Places.{Place}
 use Rattle.enet_site.specs.Turning.{CallsAround}
 use Rattle.enet_site.specs.declared.put_out.Turned.{Turned}
 use Rattle.enet_site.specs.declared.put_out.Turned.TheVariants as turned

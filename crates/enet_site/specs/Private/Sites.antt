@@ -9,7 +9,7 @@ use Rattle.law_network.specs.Calls.{Call}
 use Rattle.law_network.specs.Log.{Logged}
 use Rattle.law_network.specs.Network.{HostEnd, Site, fresh_end}
 use Rattle.law_network.specs.Steps.{Called, with_event}
-use Rattle.enet_records.specs.Records.{Records}
+use Rattle.enet_site.specs.Records.{Records}
 use Rattle.enet_site.specs.Sites.{site}
 use Rattle.enet_peer.specs.Peering.{Peering}
 use Rattle.law_connection.specs.LinkSteps.{Has}

@@ -5,7 +5,7 @@ use Rattle.enet_codec.specs.declared.event.PeerRef.{PeerRef}
 use Rattle.enet_host.specs.Host.{Host}
 use Rattle.enet_host.specs.Serving.{Serves}
 use Rattle.law_network.specs.Log.{Logged}
-use Rattle.enet_records.specs.Records.{Given, Notes}
+use Rattle.enet_site.specs.Records.{Given, Notes}
 use Rattle.enet_site.specs.declared.put_out.Turned.{Turned}
 use Rattle.enet_site.specs.declared.put_out.Turned.TheVariants.{Sent, Away}
 use Rattle.enet_site.specs.Private.Sites.{Recorded}

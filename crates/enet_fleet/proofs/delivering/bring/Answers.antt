@@ -1,5 +1,5 @@
 use Rattle.std.proofs.Common.{◌≡◌, Some, sym, ap, ◌∙◌}
-use Rattle.enet_site.specs.Places.{Place}
+use Rattle.law_network.specs.Places.{Place}
 use Rattle.enet_fleet.specs.Fleets.{logged_to}
 use Rattle.enet_fleet.proofs.Stepping.{brings-it}
 use Rattle.enet_fleet.proofs.delivering.bring.Goals as goal

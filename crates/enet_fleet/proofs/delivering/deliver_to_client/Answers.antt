@@ -4,7 +4,7 @@ use Rattle.std.proofs.lemmas.Result.{err_from_is_err_and}
 use Rattle.enet_codec.specs.declared.address.Addr.{Addr}
 use Rattle.enet_fleet.specs.declared.answer.Answer.TheVariants as answers
 use Rattle.law_network.specs.World.{IsRefusedFor}
-use Rattle.enet_site.specs.Places.{Place}
+use Rattle.law_network.specs.Places.{Place}
 use Rattle.enet_fleet.specs.declared.event.FleetEvent.TheVariants as happen
 use Rattle.law_headline.specs.declared.node.Node.TheVariants.{Server, Client}
 use Rattle.enet_fleet.specs.Fleets.{Fleet, address_of, logged_to, refused_there}

@@ -1,7 +1,7 @@
 use Rattle.std.proofs.Common.{◌≡◌, ℕ, false, List, length, Some, sym, ap, subst, ◌∙◌, arith}
 use Rattle.law_network.specs.Calls as call
 use Rattle.law_network.specs.Steps.{Called}
-use Rattle.enet_site.specs.Places.{Place}
+use Rattle.law_network.specs.Places.{Place}
 use Rattle.enet_fleet.specs.Fleets.{Fleet, place_of, is_host}
 use Rattle.enet_fleet.proofs.Stepping.{heard}
 use Rattle.enet_fleet.proofs.happening.receive.Goals as goal

@@ -3,7 +3,7 @@ use Rattle.std.proofs.lemmas.Result.{err_from_is_err_and}
 use Rattle.enet_codec.specs.declared.address.Addr.{Addr}
 use Rattle.enet_codec.specs.declared.event.Event.{Event}
 use Rattle.enet_fleet.specs.declared.answer.Answer.TheVariants as answers
-use Rattle.enet_site.specs.Places.{Place}
+use Rattle.law_network.specs.Places.{Place}
 use Rattle.enet_fleet.specs.declared.event.FleetEvent.TheVariants as happen
 use Rattle.enet_fleet.specs.Fleets.{Fleet, place_of, with_place, Steps}
 use Rattle.enet_fleet.proofs.Stepping.{some-there, refuses-take, refused, taken}

@@ -1,5 +1,5 @@
 use Rattle.std.proofs.Common.{◌≡◌, Some, sym, ap, ◌∙◌}
-use Rattle.enet_site.specs.Places.{Place}
+use Rattle.law_network.specs.Places.{Place}
 use Rattle.enet_fleet.specs.Fleets.{Fleet, place_of}
 use Rattle.enet_fleet.proofs.Stepping.{ticked}
 use Rattle.enet_fleet.proofs.happening.tick.Goals as goal

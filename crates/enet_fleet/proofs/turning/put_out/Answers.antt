@@ -1,7 +1,7 @@
 use Rattle.std.proofs.Common.{◌≡◌, [], ◌∷◌, ◌++◌, length, List, sym, ap, subst, ◌∙◌, arith}
 use Rattle.law_network.specs.Headline.{AreEnds}
-use Rattle.enet_site.specs.declared.put_out.Sent.{Sent}
-use Rattle.enet_site.specs.Places.{Place}
+use Rattle.law_network.specs.declared.put_out.Sent.{Sent}
+use Rattle.law_network.specs.Places.{Place}
 use Rattle.enet_fleet.proofs.Stepping.{puts-none, puts-some}
 use Rattle.enet_fleet.proofs.turning.put_out.Goals as goal
 

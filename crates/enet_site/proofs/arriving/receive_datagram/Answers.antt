@@ -5,10 +5,10 @@ use Rattle.law_network.specs.Log.{Logged}
 use Rattle.law_network.specs.Network.{HostEnd, fresh_end}
 use Rattle.law_network.specs.Steps.{Brought}
 use Rattle.enet_site.specs.Sites.{site}
-use Rattle.enet_records.specs.Records.{Records}
-use Rattle.enet_records.specs.Private.Records.{AreKept}
-use Rattle.enet_records.proofs.Fresh.{fresh-kept}
-use Rattle.enet_records.proofs.Keeps.{kept-more}
+use Rattle.enet_site.specs.Records.{Records}
+use Rattle.enet_site.specs.RecordsPrivate.Records.{AreKept}
+use Rattle.enet_site.proofs.RecordsFresh.{fresh-kept}
+use Rattle.enet_site.proofs.Keeps.{kept-more}
 use Rattle.enet_site.specs.Private.Sites.{AreShown, begun_if}
 use Rattle.enet_site.proofs.Beginning.{guest-other}
 use Rattle.enet_site.proofs.Hears.{brought-by}

@@ -1,9 +1,9 @@
 use Rattle.std.proofs.Common.{◌≡◌, [], ◌∷◌, ◌++◌, length, sym, subst, ◌∙◌}
 use Rattle.law_network.specs.Network.{fresh_end}
-use Rattle.enet_records.specs.Records.{Records}
-use Rattle.enet_records.specs.Private.Records.{AreKept}
-use Rattle.enet_records.proofs.Fresh.{fresh-kept}
-use Rattle.enet_records.proofs.Keeps.{kept-more}
+use Rattle.enet_site.specs.Records.{Records}
+use Rattle.enet_site.specs.RecordsPrivate.Records.{AreKept}
+use Rattle.enet_site.proofs.RecordsFresh.{fresh-kept}
+use Rattle.enet_site.proofs.Keeps.{kept-more}
 use Rattle.enet_site.specs.Private.Sites.{AreShown}
 use Rattle.enet_site.proofs.Beginning.{next-other}
 use Rattle.enet_site.proofs.connecting.connect.Goals as goal

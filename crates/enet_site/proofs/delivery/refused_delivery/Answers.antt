@@ -2,7 +2,7 @@ use Rattle.std.proofs.Common.{◌≡◌, true, false, sym, ap, ◌∙◌}
 use Rattle.law_network.specs.Lateness.{has_late}
 use Rattle.law_network.specs.Log.{Logged, greatest_at}
 use Rattle.law_network.specs.Network.{is_earlier, numbers_in, end_of}
-use Rattle.enet_records.specs.Records.{Records}
+use Rattle.enet_site.specs.Records.{Records}
 use Rattle.enet_site.specs.Sites.{site}
 use Rattle.enet_site.specs.Private.Sites.{with_ends, unread}
 use Rattle.enet_site.proofs.Refusing.{earlier-at, late-at}

@@ -1,5 +1,5 @@
 use Rattle.std.proofs.Common.{◌≡◌, ◌+◌, length, take, vec_len, vec_capacity}
-use Rattle.enet_site.specs.Places.{all_opened}
+use Rattle.law_network.specs.Places.{all_opened}
 use Rattle.enet_site.proofs.places.open_clients.Given as goal
 
 abbrev pub invariant-loop-i : goal.invariant-loop-i

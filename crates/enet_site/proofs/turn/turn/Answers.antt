@@ -3,9 +3,9 @@ use Rattle.std.proofs.lemmas.List.{with_items_is}
 use Rattle.enet_peer.specs.Heading.{IsRead}
 use Rattle.law_network.specs.Log.{Logged}
 use Rattle.law_network.specs.Network.{HostEnd}
-use Rattle.enet_records.specs.Records.{Records, HasEnd}
-use Rattle.enet_records.specs.Private.Records.{AreKept}
-use Rattle.enet_records.proofs.Keeps.{kept-noted}
+use Rattle.enet_site.specs.Records.{Records, HasEnd}
+use Rattle.enet_site.specs.RecordsPrivate.Records.{AreKept}
+use Rattle.enet_site.proofs.Keeps.{kept-noted}
 use Rattle.enet_site.proofs.Reading.{gave-read, gave-address}
 use Rattle.enet_site.proofs.turn.turn.Goals as goal
 

@@ -1,6 +1,0 @@
-pub mod MarkLemmas
-pub mod Bounds
-pub mod Places
-pub mod Ends
-pub mod Fresh
-pub mod Keeps

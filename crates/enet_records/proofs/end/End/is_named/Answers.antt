@@ -1,5 +1,0 @@
-use Rattle.std.proofs.Common.{rules}
-use Rattle.enet_records.proofs.end.End.is_named.Goals as goal
-
-pub returns-then-self-name : goal.returns-then-self-name
-returns-then-self-name c = search rules

@@ -1,5 +1,0 @@
-use Rattle.std.proofs.Common.{rules}
-use Rattle.enet_records.proofs.lateness.is_late_command.Goals as goal
-
-pub returns : goal.returns
-returns c = search rules
