@@ -7,7 +7,7 @@
 # gate ends with a line 'N passed, M failed'; the status is other than 0 where anything failed.
 # They run side by side, in rows, so that two processors have something to do to the end: what needs no program runs beside the gate; once
 # that passed, what counts runs beside what talks through sockets. A row's output is shown once all of it ended. At the end out/tests.txt has the
-# commit, the kit and what each test counted.
+# commit, the kit and what each test counted, and out/tested the sums of program and library and what the prover said of them, for release.sh.
 set -u
 cd "$(dirname "$0")/.." || exit 1
 begun=$SECONDS
@@ -31,11 +31,12 @@ show() {
 }
 
 library() {
-    if bash scripts/lib/archive-c.sh > /dev/null; then bash scripts/check/check-c.sh; else echo '0 passed, 1 failed'; false; fi
+    if bash scripts/lib/archive-c.sh > out/tested/archive.txt; then bash scripts/check/check-c.sh; else echo '0 passed, 1 failed'; false; fi
 }
 
 # What the crates' folders have of built libraries goes first, so that those that stand there afterwards are the gate's; out/probe, too.
-rm -rf crates/*/out/rlib crates/enet_c/out/libenet_c.a out/probe out/tests.txt
+rm -rf crates/*/out/rlib crates/enet_c/out/libenet_c.a out/probe out/tests.txt out/tested
+mkdir -p out/tested
 row texts << 'END'
 bash scripts/lib/build-probe.sh
 bash scripts/check/check-edits.sh --read
@@ -47,13 +48,13 @@ END
 # and `was_full` to 1 where it says that the disk was full.
 prove() {
     local statuses
-    RT_JOBS=${RT_JOBS:-$(nproc)} rt ci 2>&1 | awk -v last="$room/gate" '
+    RT_JOBS=${RT_JOBS:-$(nproc)} rt ci 2>&1 | tee out/tested/gate.txt | awk -v last="$room/gate" '
         { print; fflush(); line = $0 }
         /could not write its statements|the disk is full|No space left on device/ { full = 1 }
         END { print line > last; exit full }'
     statuses=("${PIPESTATUS[@]}")
     gate=${statuses[0]}
-    was_full=${statuses[1]}
+    was_full=${statuses[2]}
 }
 # The free room in megabytes, here or for temporary files, whichever is less.
 free_room() {
@@ -106,8 +107,8 @@ tell_counts() {
 show texts
 show counts
 show talks
-mkdir -p out
 touch "$room/failed"
+sha256sum crates/enet_relay/out/enet_relay crates/enet_c/out/libenet_c.a > out/tested/sums.txt
 tell_counts > out/tests.txt
 echo "all tests ended after $((SECONDS - begun)) seconds"
 [ ! -s "$room/failed" ] || { echo 'failed:' >&2; cat "$room/failed" >&2; exit 1; }

@@ -6,11 +6,11 @@
 #   PROVED.txt                              commit, kit, how many functions were proved of each crate, what was tested, what is trusted
 #   THIRD-PARTY.txt                         what of others is linked into them, and its licences
 #   SHA256SUMS
-# The checkout must have no change that isn't in the commit. First it runs the gate (`rt ci`, which proves what no earlier gate on this machine
-# has kept) and stops unless that ends with status 0; then archive-c.sh, and count-proved.py, since the gate doesn't count the functions of a crate
-# that it took from an earlier one. With --after-tests it also wants out/tests.txt of this commit and kit, as scripts/test.sh leaves it,
-# without a failure. Files have the commit's time and name no folder of the machine, so that two runs over the same program and archive write
-# the same bytes.
+# The checkout must have no change that isn't in the commit. First it runs the gate (`rt ci`) and stops unless that ends with status 0; then
+# archive-c.sh, and count-proved.py, since a gate that keeps proofs doesn't count the functions of a crate that it took from an earlier one. With
+# --after-tests it takes what scripts/test.sh left at this commit, with this kit and without a failure (out/tests.txt, out/tested), if program and
+# archive are those that were tested. Files have the commit's time and name no folder of the machine, so that two runs over the same program and
+# archive write the same bytes.
 # `release.sh --pack FOLDER [PROGRAM [ARCHIVE]]` runs no gate and packs what stands there, by default crates/enet_relay/out/enet_relay and
 # crates/enet_c/out/libenet_c.a: to try the packing. PROVED.txt then says that it is no release.
 # It takes what package-relay.sh and package-c.sh take. The status is 1 where something failed; FOLDER has no SHA256SUMS then.
@@ -50,11 +50,17 @@ tests_passed() {
         ! grep -q 'FAILED\|, [1-9][0-9]* failed' out/tests.txt
 }
 
+# What scripts/test.sh left, if it is of this commit and of the program and archive that stand here.
+take_tested() {
+    tests_passed || stop 'out/tests.txt is not of this commit and kit, or tells of a failure: run scripts/test.sh'
+    sha256sum --quiet --check out/tested/sums.txt || stop 'the program or the archive is not the one that scripts/test.sh tested'
+    cp out/tested/gate.txt "$room/gate"
+    cp out/tested/archive.txt "$room/archive"
+}
+
 # The gate, with what it said in $room/gate, and the proved part of the library for C.
 prove() {
     local status=0
-    [ -z "$(git status --porcelain)" ] || stop 'the checkout has changes that no commit has'
-    [ "$mode" = gate ] || tests_passed || stop 'out/tests.txt is not of this commit and kit, or tells of a failure: run scripts/test.sh'
     rm -rf crates/*/out/rlib crates/enet_c/out/libenet_c.a
     rt ci > "$room/gate" 2>&1 || status=$?
     tail -n 2 "$room/gate"
@@ -174,7 +180,8 @@ rm -f "$folder"/gofnjerta-*.tar.* "$folder"/*.deb "$folder/PROVED.txt" "$folder/
 if [ "$mode" = pack ]; then
     : > "$room/checked"
 else
-    prove
+    [ -z "$(git status --porcelain)" ] || stop 'the checkout has changes that no commit has'
+    if [ "$mode" = tests ]; then take_tested; else prove; fi
     count_proved
 fi
 hold_version
