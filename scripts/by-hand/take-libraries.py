@@ -1,8 +1,9 @@
-"""take-libraries.py FROM TO: libraries that `rt ci` proved in the checkout FROM, for the checkout TO.
+"""take-libraries.py FROM TO: libraries that `rt ci` or build-libraries.py proved in the checkout FROM, for the checkout TO.
 
 `rt check` builds the libraries below a crate by itself, from nothing, in an hour and more. It takes none that `rt ci` left, since those have no
 stamp, which says of which text they are: they fit one another, and no library that a check built. So here each gets a stamp in TO that is newer
-than all files of its crate in FROM, where the same text stands in TO, and all below it are taken, too. A check in TO then proves only what differs.
+than all files of its crate in FROM, where the same text stands in TO, and all below it are taken, too. A library that a check or
+build-libraries.py left has a stamp, and is taken if that is of the text. A check in TO then proves only what differs.
 It is a help to whoever writes: `rt ci` takes nothing of it. FROM may also be a checkout of a release's commit in which its proved libraries
 were unpacked by `tar -xmf`, so that they are newer than its files; they are trusted then.
 
@@ -19,7 +20,9 @@ from kit import load_rtlib  # noqa: E402
 
 
 def is_left(rtlib, crate):
-    """Returns whether `rt ci` left the crate's library, and nothing in its folders was written since."""
+    """Returns whether `rt ci` left the crate's library, and nothing in its folders was written since; or another proof of this text."""
+    if crate.is_built():
+        return True
     files = rtlib.files_of(crate.folder)
     newest = max(os.path.getmtime(it) for it in {*files, *map(os.path.dirname, files)})
     has_stamp = os.path.exists(f"{os.path.dirname(crate.rlib)}/stamp")
