@@ -1,4 +1,5 @@
 pub mod Chat
+pub mod Lists
 pub mod Lone
 pub mod Peers
 pub mod Relaying

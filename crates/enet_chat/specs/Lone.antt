@@ -1,20 +1,9 @@
 -- A relay that shares its service's thread.
-use Rattle.std.specs.Prelude.{◌≡◌, ℕ, ◌+◌, ◌-◌, min, List, [], ◌∷◌, ◌++◌, length, Bool, true, false, Option, Some, None}
+use Rattle.std.specs.Prelude.{◌≡◌, ℕ, ◌+◌, ◌-◌, min, List, ◌++◌, length}
 use Rattle.enet_codec.specs.declared.event.Event.{Event}
 use Rattle.enet_submit.specs.declared.order.Order.{Order}
-use Rattle.enet_submit.specs.declared.order.Submission.{Submission}
 use Rattle.enet_chat.specs.Relaying.{noted_all, relayed_all, SameForEach}
 use Rattle.enet_chat.specs.declared.lone.LoneRelay.{LoneRelay}
-
--- the first order is given, or there is none
-abbrev pub IsGiven : List Order → Option Submission → List Order → Type 0
-IsGiven before (Some x) after = before ≡ x.order ∷ after
-IsGiven before None after = (before ≡ []) × (after ≡ [])
-
--- an event is put last, or is handed back
-abbrev pub IsPut : List Event → Event → Bool → List Event → Type 0
-IsPut before event true after = after ≡ before ++ event ∷ []
-IsPut before event false after = after ≡ before
 
 -- what a relay counts: the events that it expanded, and the orders that they gave
 abbrev pub expanded_by : LoneRelay → ℕ

@@ -1,3 +1,4 @@
 -- What only private functions and proofs speak of: no caller is promised anything by it.
 pub mod Grouping
 pub mod Relaying
+pub mod Room

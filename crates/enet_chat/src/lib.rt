@@ -20,11 +20,12 @@
 //! - Of the relay in its service's own thread (`Expands`): what it expands are the oldest events, and the orders behind those that waited are
 //!   for every receiver and in order what these give. Just these events and orders it counts, up to what 64 bits hold; after a refusal, too.
 //!   It ends well only with all expanded or with 256 orders that wait.
+//! - The list of its events takes one of the host only if fewer than 256 events and fewer than 1,048,576 bytes of packets wait (`IsPut`).
 //!
 //! # Only tested, or neither
 //!
 //! - By `check_queues`: that the calls succeed where there is memory, and that orders of packets that follow one another are grouped by
-//!   receiver, in the relay in its service's thread. By scripts/check/check-clients.sh, through `enet_relay serve`: that the thread gets
+//!   receiver, in the relay in its service's thread; that a list of events takes what there is room for, and refusals of orders always. By scripts/check/check-clients.sh, through `enet_relay serve`: that the thread gets
 //!   on.
 //! - Neither: that the bodies of the orders share their bytes, so that no copy is made; that events are kept while the service has orders
 //!   left; that the thread goes on until it is told that the service has ended (one that ends where it first finds no event meets the same

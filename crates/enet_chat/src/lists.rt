@@ -1,4 +1,6 @@
 //! The two lists between a service and a relay that share a thread.
+ghost use Rattle.std.specs.Prelude.{◌≡◌};
+ghost use Rattle.enet_chat.specs.Lists.{is_refused, length_of};
 
 use crate::batch::{drop_first, put_grouped};
 use enet_bridge::{Sink, Source};
@@ -96,7 +98,7 @@ impl OrderList {
 }
 
 impl Source for OrderList {
-    ghost use Rattle.enet_chat.specs.Lone.{IsGiven};
+    ghost use Rattle.enet_chat.specs.Lists.{IsGiven};
 
     ghost gives = { IsGiven };
 
@@ -114,29 +116,52 @@ impl Source for OrderList {
     fn expect(&self) {}
 }
 
+/// So many events wait at most before the host is asked for no more of them.
+const MOST_WAITING: usize = 256;
+
+/// As soon as so many bytes of packets wait, the host is asked for no more events.
+const MOST_BYTES: u64 = 1_048_576;
+
 /// Events that a service told, oldest first. A contract sees them.
+///
+/// It takes an event of the host only if fewer than 256 events and fewer than 1,048,576 bytes of packets wait. So what isn't expanded yet stays
+/// in the host, which bounds what it keeps of each peer. What tells of a refused order is taken whatever waits, since the orders wait for it.
 #[derive(Drop)]
 pub struct EventList {
     events: VecDeque<Event>,
+    // At least as many bytes as wait, or so many that no event of the host is taken. It is 0 again as soon as no event waits.
+    bytes: u64,
 }
 
 impl Model for EventList {
     ghost use Rattle.std.specs.Prelude.{List};
     ghost use Rattle.enet_codec.specs.declared.event.Event.{Event as Told};
+    ghost use Rattle.enet_chat.specs.Private.Room.{CountsBytes};
 
     ghost Value = { List Told };
 
     ghost view = { λ l. l.events.items };
+
+    ghost invariant = { λ l. CountsBytes l.bytes l.events.items };
 }
 
 impl EventList {
-    ghost use Rattle.std.specs.Prelude.{◌≡◌, ◌≤◌, ◌∷◌, [], length, drop, IfNone, IfSome};
+    ghost use Rattle.std.specs.Prelude.{◌≡◌, ◌≤◌, ◌∷◌, [], length, drop, false, IfNone, IfSome};
+    ghost use Rattle.enet_chat.specs.Lists.{HasRoom};
 
-    /// These events.
+    /// These events. If there are some, no event of the host is taken before all of them are expanded.
     pub fn new(events: VecDeque<Event>) -> EventList
         ensures { result ≡ events.items }
     {
-        EventList { events }
+        let bytes = if events.is_empty() { 0 } else { MOST_BYTES };
+        EventList { events, bytes }
+    }
+
+    /// Whether so much waits that no event of the host is taken.
+    pub fn is_full(&self) -> bool
+        ensures room { result ≡ false → HasRoom self.now }
+    {
+        self.events.len() >= MOST_WAITING || self.bytes >= MOST_BYTES
     }
 
     /// The oldest event.
@@ -160,6 +185,9 @@ impl EventList {
         ensures { self.new ≡ drop count self.old }
     {
         drop_first(&mut self.events, count);
+        if self.events.is_empty() {
+            self.bytes = 0;
+        }
     }
 
     /// The events.
@@ -171,17 +199,41 @@ impl EventList {
 }
 
 impl Sink for EventList {
-    ghost use Rattle.enet_chat.specs.Lone.{IsPut};
+    ghost use Rattle.enet_chat.specs.Lists.{IsPut};
 
     ghost puts = { IsPut };
 
-    /// Hands the event back where there is no memory for it.
+    /// Hands the event back if it is the host's and there is no room for it ([`EventList::is_full`]), or for want of memory.
     fn put<R: Wait>(&mut self, _rt: &R, event: Event) -> Result<(), Event> {
+        if self.is_full() && !is_refusal(&event) {
+            return Err(event);
+        }
+        let more = bytes_of(&event);
         match self.events.push_back(event) {
-            Ok(()) => Ok(()),
+            Ok(()) => {
+                self.bytes = self.bytes.saturating_add(more);
+                Ok(())
+            }
             Err(back) => Err(back.value),
         }
     }
 
     fn announce(&self) {}
+}
+
+// Whether the event tells of a refused order.
+fn is_refusal(event: &Event) -> bool
+    ensures { result ≡ is_refused event.now }
+{
+    matches!(event, Event::Refused { .. })
+}
+
+// How many bytes of a packet the event brings.
+fn bytes_of(event: &Event) -> u64
+    ensures { result ≡ length_of event.now }
+{
+    match event {
+        Event::Receive { packet, .. } => packet.body.len() as u64,
+        _ => 0,
+    }
 }

@@ -10,7 +10,8 @@ use Rattle.enet_submit.specs.declared.order.Order.{Order}
 use Rattle.enet_submit.specs.declared.order.Submission.{Submission}
 use Rattle.enet_wire.specs.declared.told.Told.{Told}
 use Rattle.enet_bridge.specs.Ends.{orders}
-use Rattle.enet_chat.specs.Lone.{IsGiven, IsPut, Expands}
+use Rattle.enet_chat.specs.Lists.{IsGiven, IsPut}
+use Rattle.enet_chat.specs.Lone.{Expands}
 use Rattle.enet_chat.specs.declared.lone.LoneRelay.{LoneRelay}
 use Rattle.enet_chat.specs.Relaying.{noted_all}
 use Rattle.enet_chat.proofs.Relays.{noted_more, on_for_each, joined}
@@ -36,7 +37,7 @@ given_front before (None ∷ gave) after (between, none, rest) = none.0 ∙ (sym
 pub put_behind : (before : List Event) (puts : List (Event × Bool)) (after : List Event) → Puts before puts after → after ≡ before ++ accepted puts
 put_behind before [] after same = same ∙ sym (append-nil before)
 put_behind before ((event, true) ∷ puts) after (between, put, rest) =
-    put_behind between puts after rest ∙ (ap (λ (es : List Event). es ++ accepted puts) put ∙ append_assoc before (event ∷ []) (accepted puts))
+    put_behind between puts after rest ∙ (ap (λ (es : List Event). es ++ accepted puts) put.0 ∙ append_assoc before (event ∷ []) (accepted puts))
 put_behind before ((event, false) ∷ puts) after (between, put, rest) = put_behind between puts after rest ∙ ap (λ (es : List Event). es ++ accepted puts) put
 
 -- what was given and taken first and then

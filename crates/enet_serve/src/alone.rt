@@ -152,7 +152,7 @@ impl Alone<'_> {
         Ok(total)
     }
 
-    // Takes a turn. While orders wait the service doesn't sleep.
+    // Takes a turn. While orders wait, or an event for room, the service doesn't sleep.
     fn take_turn<R: Wait + Clock>(
         &mut self,
         rt: &R,
@@ -168,10 +168,10 @@ impl Alone<'_> {
         ensures other { IfErr result (λ fault. fault.why ≢ Refusal.WireFault → failures_of bound.new.wire.wire ≡ failures_of bound.old.wire.wire) }
     {
         let Alone { relay, bell, gauge } = self;
-        if !relay.orders.is_empty() {
+        let BoundService { wire, service } = bound;
+        if !relay.orders.is_empty() || service.waiting.is_some() {
             bell.ring();
         }
-        let BoundService { wire, service } = bound;
         let report = lone_turn(rt, service, wire, relay, buf)?;
         relay.show(gauge);
         Ok(report)

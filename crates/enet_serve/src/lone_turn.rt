@@ -86,7 +86,7 @@ fn apply_all<H: Core, R: Wait>(
     ensures memory { IfErr result (λ fault. fault.why ≡ Refusal.Memory) }
 {
     let mut report = Report::nothing();
-    if let Err(why) = expand(service, relay) {
+    if let Err(why) = expand_told(service, relay) {
         return Err(Fault { why, report });
     }
     for _round in 0..MOST_ROUNDS {
@@ -102,15 +102,28 @@ fn apply_all<H: Core, R: Wait>(
     Ok(report)
 }
 
-// Expands what was told. An event that the list refused ends the run, since memory is wanting: while a refusal waited no order would be taken,
-// and so, with many orders, no event expanded that makes room for it.
+// Expands what was told just before. An event of the host that the list refused, though it isn't full, ends the run, since memory is wanting.
+fn expand_told<H: Core>(service: &Service<H>, relay: &mut LoneRelay) -> Result<(), Refusal>
+    ensures expands { OnOk result (Expands relay.old relay.new) }
+    ensures behind { OnOk result (AreBehind relay.new.events relay.new.orders) }
+    ensures far_behind { OnOk result (AreFarBehind 256 relay.new.events relay.new.orders) }
+    ensures memory { IfErr result (λ why. why ≡ Refusal.Memory) }
+{
+    if service.waiting.event.is_some() && !relay.events.is_full() {
+        return Err(Refusal::Memory);
+    }
+    expand(service, relay)
+}
+
+// Expands what the list has. A refusal that the list refused ends the run, since memory is wanting: the list takes refusals whatever waits, and
+// while one waited no order would be taken.
 fn expand<H: Core>(service: &Service<H>, relay: &mut LoneRelay) -> Result<(), Refusal>
     ensures expands { OnOk result (Expands relay.old relay.new) }
     ensures behind { OnOk result (AreBehind relay.new.events relay.new.orders) }
     ensures far_behind { OnOk result (AreFarBehind 256 relay.new.events relay.new.orders) }
     ensures memory { IfErr result (λ why. why ≡ Refusal.Memory) }
 {
-    if service.waiting.is_some() {
+    if service.waiting.refusal.is_some() {
         return Err(Refusal::Memory);
     }
     relay.expand()

@@ -172,6 +172,8 @@ impl ChatServer {
     /// Serves for a run, as [`ChatServer::serve`] does, in one thread: in each turn this thread expands what the service told, and the
     /// service takes the orders before it sends. A packet wakes no other thread and passes no queue between two of them, so that each takes
     /// less time and there is no use of a second processor.
+    /// A turn takes no more events of the host than the relay has room for (`EventList::is_full`); the next one, which comes without a sleep,
+    /// goes on.
     ///
     /// E14 where the wire fails: what was done until then stands, and what was left is kept. E1 for want of memory, where an event found none,
     /// too: then nothing is promised of the server but how often its socket has failed, and that it can take leave and be closed.

@@ -20,7 +20,7 @@ loop-round-preserved g c =
     let first : LoneRelay = c.args.relay.now in
     let now : LoneRelay = c.loop-round.relay in
     let given : LoneRelay = record now { orders = c.apply_orders-orders.new.source; events = c.apply_orders-orders.new.sink } in
-    let last : LoneRelay = c.expand-in-loop-round.new.relay in
+    let last : LoneRelay = c.expand.new.relay in
     let after = c.in_default-expand.ensures in (
       os ++ o ∷ [],
       chain_step _ _ os _ o _ inv.1 applied.4,
