@@ -1,7 +1,7 @@
 #!/usr/bin/env bash
 # Whom `enet_relay serve` lets in: clients of the reference library (clients/knock.c) at several addresses of 127.0.0.0/8, and a sender of
 # CONNECTs that nobody stands behind (clients/forge.c), under `--per-address`, `--connects-per-address`, `--connects-per-second`, `--ban` and
-# the control lines `ban` and `unban`, and what `--mtu` grants, in one thread and in two: `check-admission.sh [PROGRAM]`. PROGRAM is the built `enet_relay`, by default
+# the control lines `ban` and `unban`, what `--mtu` grants and `--max-packet` takes (clients/steady.c), in one thread and in two: `check-admission.sh [PROGRAM]`. PROGRAM is the built `enet_relay`, by default
 # the one that `rt ci`, or `rt run` in crates/enet_relay, leaves. Prints what failed, and as last line 'N passed, M failed'; the status is 1
 # where one failed. It takes two minutes.
 cd "$(dirname "$0")/../.." || exit 1
@@ -149,6 +149,20 @@ mtu() {
     finish
 }
 
+# Packets of as many bytes as `--max-packet` says are taken, longer ones aren't.
+longest_packet() {
+    local length
+    begin --max-packet 3000
+    for length in 3000 3001; do
+        timeout 20 "$room/steady" "$port" 2 1 "$length" 0 1 > "$room/packets-$length" 2>&1
+    done
+    grep -Eq '^lost 0 and 0, came ([1-9][0-9]*) of \1 and [1-9]' "$room/packets-3000" && passed=$((passed + 1)) ||
+        fail "longest-packet in $threads threads" "$(<"$room/packets-3000")"
+    grep -Eq '^lost 0 and 0, came 0 of [1-9][0-9]* and 0,' "$room/packets-3001" && passed=$((passed + 1)) ||
+        fail "longer-packet in $threads threads" "$(<"$room/packets-3001")"
+    finish
+}
+
 # With none of these options all get in.
 no_rule() {
     begin
@@ -176,6 +190,7 @@ else
         connects_per_second
         ban
         mtu
+        longest_packet
     done
 fi
 echo "$passed passed, $failed failed"

@@ -29,7 +29,9 @@ end_attempt() {
 # The scenario $2 with $3 clients and a relay of $4 slots, on ports $5 and $6. $1 is its name here, which says whether the way is lossy or
 # has an outage; $7 seeds the proxy. The status is the client's, or 1 where the relay or the proxy ended; what went wrong is on standard output.
 attempt() {
-    local words=() line=() places= to=$5 status
+    local words=() line=() options=() places= to=$5 status
+    # Packets of 4,096 pieces are longer than the server takes by itself.
+    [ "$2" = large ] && options=(--max-packet 33554432 --max-waiting 33554432)
     [ "$program" = reference ] && words+=(reference)
     [ "$2" = crowd ] && places=16
     relay "$program" "$5" "$4" "$room" "$places" > /dev/null 2> "$room/$1.relay" &

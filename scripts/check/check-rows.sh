@@ -166,6 +166,10 @@ serve --port 47001 --channels 256
 serve --port 47001 --turns 1000001
 serve --port 47001 --queue-capacity 0
 serve --port 47001 --queue-capacity 65537
+serve --port 47001 --max-packet 0
+serve --port 47001 --max-packet 33554433
+serve --port 47001 --max-waiting 0
+serve --port 47001 --max-waiting 33554433
 serve --port 47001 --room 0
 serve --port 47001 --room 65537
 serve --port 47001 --room 64 --queue-capacity 64
@@ -372,7 +376,7 @@ command_lines() {
     tells_version "$(<"$room/out")" || fail version "it tells '$(<"$room/out")'"
     command_line version-of-a-command 2 'bad command line' /dev/null "$room/out" serve --version
     command_line help-of-serve 0 '' /dev/null "$room/out" serve --help
-    grep -q -- '--queue-capacity' "$room/out" && grep -q -- '--threads' "$room/out" && grep -q -- '--no-secret' "$room/out" && grep -q -- '--control' "$room/out" && grep -q -- '--per-address' "$room/out" && grep -q -- '--metrics' "$room/out" || fail help-of-serve 'an option is missing'
+    grep -q -- '--queue-capacity' "$room/out" && grep -q -- '--threads' "$room/out" && grep -q -- '--no-secret' "$room/out" && grep -q -- '--control' "$room/out" && grep -q -- '--per-address' "$room/out" && grep -q -- '--max-packet' "$room/out" && grep -q -- '--max-waiting' "$room/out" && grep -q -- '--metrics' "$room/out" || fail help-of-serve 'an option is missing'
     command_line input-that-cannot-be-read 1 'input or output failed' / "$room/out" lab
     command_line output-that-cannot-be-written 1 'input or output failed' "$rows/one-reliable-packet.lab" /dev/full lab
 }

@@ -71,7 +71,8 @@ fn ban<'a>(alloc: Global) -> Arg<'a> {
         .action(ArgAction::Append)
 }
 
-fn number<'a>(alloc: Global, name: &'a str, least: i64, most: i64) -> Arg<'a> {
+// An option that takes a number of 32 bits.
+pub(crate) fn number<'a>(alloc: Global, name: &'a str, least: i64, most: i64) -> Arg<'a> {
     Arg::new(alloc, name)
         .long(name)
         .value_parser(value_parser!(u32).range(least..=most))

@@ -1,6 +1,6 @@
 //! What the program can be told.
 
-use crate::admission::{Admission, read_admission, with_admission};
+use crate::admission::{Admission, number, read_admission, with_admission};
 use crate::versions::version;
 use clap::error::ErrorKind;
 use clap::{Arg, ArgAction, ArgMatches, Command, Error, value_parser};
@@ -30,6 +30,10 @@ pub struct ServeOptions {
     pub channels: u8,
     /// How many places each queue between its threads has, 1 to 65,536.
     pub queue_capacity: u32,
+    /// The greatest packet that is taken of a client, in bytes.
+    pub max_packet: u32,
+    /// Bytes of a client's packets at which no further packet begins.
+    pub max_waiting: u32,
     /// How long it serves.
     pub length: Length,
     /// Whether each connection and each end of one is told and, once a second, how many orders were refused.
@@ -179,6 +183,8 @@ fn serve_command<'a>(alloc: Global) -> Result<Command<'a>, AllocError> {
         .arg(peers(alloc))?
         .arg(channels(alloc))?
         .arg(queue_capacity(alloc)?)?
+        .arg(max_packet(alloc))?
+        .arg(max_waiting(alloc))?
         .arg(turns(alloc))?
         .arg(forever(alloc)?)?
         .arg(logs(alloc))?
@@ -260,6 +266,18 @@ fn queue_capacity<'a>(alloc: Global) -> Result<Arg<'a>, AllocError> {
         .value_parser(value_parser!(u32).range(1..=65_536))
         .default_value("4096")
         .alias("room")
+}
+
+fn max_packet<'a>(alloc: Global) -> Arg<'a> {
+    number(alloc, "max-packet", 1, 33_554_432).help(
+        "The greatest packet in bytes that a client may send [default: 262144 with --forever, else 33554432]",
+    )
+}
+
+fn max_waiting<'a>(alloc: Global) -> Arg<'a> {
+    number(alloc, "max-waiting", 1, 33_554_432).help(
+        "Bytes of a client's packets at which no further one is taken [default: 1048576 with --forever, else 33554432]",
+    )
 }
 
 fn forever<'a>(alloc: Global) -> Result<Arg<'a>, AllocError> {
@@ -396,6 +414,15 @@ fn word_named(
     }
 }
 
+// The greatest packet, and the bytes at which no further one is taken, if nothing is said of them: a server that serves on keeps little for
+// each client.
+fn usual_lengths(length: Length) -> (u32, u32) {
+    match length {
+        Length::Forever => (262_144, 1_048_576),
+        Length::Turns(_) => (33_554_432, 33_554_432),
+    }
+}
+
 fn serve_options(found: &ArgMatches<'_>, admission: Admission) -> Option<ServeOptions> {
     let ip = found.get_one::<Ipv4Addr>("address")?.to_bits();
     let port = found.get_one::<u16>("port")?;
@@ -404,11 +431,14 @@ fn serve_options(found: &ArgMatches<'_>, admission: Admission) -> Option<ServeOp
     } else {
         Length::Turns(found.get_one::<u32>("turns")?)
     };
+    let (packet, waiting) = usual_lengths(length);
     Some(ServeOptions {
         address: Addr { ip, port },
         peers: found.get_one::<u16>("peers")?,
         channels: found.get_one::<u8>("channels")?,
         queue_capacity: found.get_one::<u32>("queue-capacity")?,
+        max_packet: found.get_one::<u32>("max-packet").unwrap_or(packet),
+        max_waiting: found.get_one::<u32>("max-waiting").unwrap_or(waiting),
         length,
         logs: found.get_flag("log"),
         threads: match (found.get_one::<u8>("threads"), length) {

@@ -39,6 +39,9 @@ const QUEUE_CAPACITY: u32 = 1_024;
 /// And how many bytes its datagrams have at most.
 const MTU: u32 = 1_392;
 
+/// And how many bytes a packet has at most, and a client's packets at which no further one begins.
+const MOST_BYTES: u32 = 33_554_432;
+
 /// What is shown.
 #[derive(Clone, Copy)]
 pub struct Demonstration {
@@ -85,6 +88,8 @@ where
         channels: CHANNELS,
         queue_capacity: QUEUE_CAPACITY,
         mtu: MTU,
+        max_packet: MOST_BYTES,
+        max_waiting: MOST_BYTES,
         receive_buffer: None,
         rules: Rules::none(),
         secret: shown.secret,

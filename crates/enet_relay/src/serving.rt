@@ -30,6 +30,8 @@ where
         channels: options.channels,
         queue_capacity: options.queue_capacity,
         mtu: options.admission.mtu,
+        max_packet: options.max_packet,
+        max_waiting: options.max_waiting,
         receive_buffer: options.admission.receive_buffer,
         rules: rules_of(&options.admission),
         secret: secret_for(options.has_secret)?,

@@ -82,13 +82,15 @@ slots_of settings = min (settings.peers + 1024) 4095
 abbrev pub config_of : Settings → Config
 config_of settings = record (standard_config (slots_of settings) settings.channels) {
   mtu = settings.mtu;
+  max_packet = settings.max_packet;
+  max_waiting = settings.max_waiting;
   generations = 4294967295;
   secret = settings.secret;
   gives_way = true;
   most = Some settings.peers;
 }
 
--- whether a server may have so many peers, and there are hosts with so many channels and this mtu
+-- whether a server may have so many peers, and there are hosts with so many channels, this mtu and these lengths
 abbrev pub is_in_range : Settings → Bool
 is_in_range settings = configs.is_in_range (config_of settings)
 

@@ -43,6 +43,10 @@ pub struct Settings {
     pub queue_capacity: u32,
     /// The greatest length of a datagram, in bytes: 576 to 4,096.
     pub mtu: u32,
+    /// The greatest packet that is taken of a client, in bytes: 1 to 33,554,432 (`Config::max_packet`).
+    pub max_packet: u32,
+    /// Bytes of a client's packets at which no further packet begins: 1 to 33,554,432 (`Config::max_waiting`).
+    pub max_waiting: u32,
     /// How many bytes of datagrams the system is asked to keep until they are received; None for as many as [`MioWire`] asks for.
     pub receive_buffer: Option<u32>,
     /// Whom the guard in front of its host lets ask for a connection.
@@ -69,6 +73,8 @@ impl Settings {
     {
         let mut config = Config::standard(self.slots(), self.channels);
         config.mtu = self.mtu;
+        config.max_packet = self.max_packet;
+        config.max_waiting = self.max_waiting;
         config.generations = u32::MAX;
         config.secret = self.secret;
         config.gives_way = true;
@@ -97,7 +103,7 @@ impl ChatServer {
 
     /// A server at this address, with no peer.
     ///
-    /// E8 where `peers`, `channels` or `mtu` is out of its range (`queue_capacity` is tested by [`ChatServer::serve`]), E14 where the address can't be had,
+    /// E8 where `peers`, `channels`, `mtu`, `max_packet` or `max_waiting` is out of its range (`queue_capacity` is tested by [`ChatServer::serve`]), E14 where the address can't be had,
     /// with what the system says of it, E1 for want of memory.
     pub fn open<R: Net + AllocGlobal>(rt: &R, settings: Settings) -> Result<ChatServer, Unopened>
         ensures out_of_range { is_in_range settings ≡ false → result ≡ Err (record { why = Refusal.BadConfig; reason = None }) }
