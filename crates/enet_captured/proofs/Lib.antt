@@ -4,3 +4,4 @@ pub mod GapLemmas
 pub mod TableLemmas
 pub mod LinkLemmas
 pub mod FateLemmas
+pub mod PassLemmas

@@ -1,6 +1,7 @@
 pub mod Commands
 pub mod Counts
 pub mod Unread
+pub mod Filters
 pub mod Parts
 pub mod Gaps
 pub mod Sends

@@ -5,3 +5,4 @@ pub mod Timelines
 pub mod Commands
 pub mod Gaps
 pub mod Tables
+pub mod Numbers

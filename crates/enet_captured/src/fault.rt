@@ -11,8 +11,9 @@ use thiserror::Error;
 /// Why an input has no timeline.
 #[derive(Clone, Copy, Debug, PartialEq, Eq, Error)]
 pub enum TimelineFault {
-    /// It isn't a capture in the classic pcap format: lines in hex don't tell when and between whom a datagram went.
-    #[error("a timeline is drawn of a capture in pcap format alone")]
+    /// It isn't a capture in the classic pcap format, as which one in pcapng is rewritten before: lines in hex don't tell when and between whom
+    /// a datagram went.
+    #[error("a timeline is drawn of a capture in pcap or pcapng format alone; editcap -F pcap IN OUT makes one")]
     NoCapture,
     /// The beginning of the capture can't be read.
     #[error("{0}")]

@@ -1,22 +1,25 @@
 //! What a capture of ENet 1.3 holds: which connections there are, what went between their ends and when, what went again, and what answers it.
 //!
-//! Proved, by the definitions of specs/: what of a capture belongs to a connection (`part_of`, by `IsPart`); what became of each of its
-//! datagrams (`mark_all`, by `fate_of`): which commands are one send, which repeat one, which send an acknowledgement belongs to (specs/Sends),
-//! and which datagrams were acknowledged, sent again without that, too early, or all the same (specs/Fates, `outcome`); how many these are
-//! (`ended`, `resent`, `early`, `in_vain`); what answers a command (`answers`); how many commands are of a kind, and how many datagrams go one
-//! way or can't be read (`count_of`, `going`, `stopped_by`); the longest gap (`longest_gap`, by `IsLongest`). Of the steps of `read_timeline`,
-//! by those of specs/Private: which commands a datagram says, and why the rest can't be read (`read_commands`, by `Says`), and its sent time
-//! (`sent_in`); what is kept of a command (`told_of`), and that those of a datagram stand behind one another (`push_marks`); when it was
-//! captured (`moment_of`); between which connections' ends it goes, which is the last such connection, and whether it goes on with that
-//! (`way_in`, `last_between`, `goes_on`).
+//! Proved, by the definitions of specs/: what of a capture passes a filter, connection by connection (`parts_of`, by `AreParts`); what
+//! became of each of a connection's datagrams by all its commands, those that don't pass, too (`mark_all`, by `fate_of`): which commands
+//! are one send, which repeat one, which send an acknowledgement belongs to (specs/Sends), and which datagrams were acknowledged, sent
+//! again without that, too early, or all the same (specs/Fates, `outcome`); how many these are (`ended`, `resent`, `early`, `in_vain`);
+//! what answers a command (`answers`); how many commands are of a kind, and how many datagrams go one way or can't be read (`count_of`,
+//! `going`, `stopped_by`); the longest gap (`longest_gap`, by `IsLongest`). Of the steps of `read_timeline`, by those of specs/Private:
+//! which commands a datagram says, and why the rest can't be read (`read_commands`, by `Says`), and its sent time (`sent_in`); what is kept
+//! of a command (`told_of`), and that those of a datagram stand behind one another (`push_marks`); when it was captured (`moment_of`);
+//! between which connections' ends it goes, which is the last such connection, and whether it goes on with that (`way_in`, `last_between`,
+//! `goes_on`).
 //! Only tested, by scripts/check/check-inspect.sh over 446 captured datagrams, crowds, random datagrams, captures that are cut short, and
-//! the rows of trials/captured/marks.rows: that a datagram is put into the connection that was found (`connection_for`, `note`).
+//! the rows of trials/captured/marks.rows: that a datagram is put into the connection that was found (`connection_for`, `note`), and that
+//! the capture begins with its first packet (`begun_at`).
 #![tactic(auto)]
 
 mod connections;
 mod counting;
 mod fates;
 mod fault;
+mod filter;
 mod part;
 mod reading;
 mod sends;
@@ -26,6 +29,7 @@ mod told;
 pub use counting::{answers, count_of, going, is_same, longest_gap, stopped_by};
 pub use fates::{Fate, Marked, Outcome, early, ended, in_vain, mark_all, resent};
 pub use fault::TimelineFault;
-pub use part::{Part, part_of};
+pub use filter::Filter;
+pub use part::{Part, parts_of};
 pub use timeline::{Connection, Mark, Seen, Timeline, Way, read_timeline};
 pub use told::{Detail, Kind, Told};

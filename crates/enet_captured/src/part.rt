@@ -1,40 +1,102 @@
-//! One connection of a timeline.
+//! What of a timeline passes a filter, connection by connection.
 
-ghost use Rattle.std.specs.Prelude.{◌≡◌, ◌<◌, length, filter, IfOk};
-ghost use Rattle.enet_captured.specs.Parts.{IsPart, mark_in, seen_in};
+ghost use Rattle.std.specs.Prelude.{◌≡◌, ◌<◌, ◌++◌, List, length, filter, IfOk, OnOk};
+ghost use Rattle.enet_captured.specs.declared.part.Part.{Part};
+ghost use Rattle.enet_captured.specs.Filters.{seen_passes};
+ghost use Rattle.enet_captured.specs.Parts.{AreParts, IsPart, IsTold, mark_in, seen_in};
 
+use crate::fates::{Marked, mark_all};
+use crate::filter::{Filter, marks_passing, seen_passing};
 use crate::timeline::{Connection, Mark, Seen, Timeline};
 use std::alloc::{AllocError, Global};
 
-/// What a timeline holds of one connection.
+/// What of a connection passes a filter.
 #[derive(Drop)]
 pub struct Part {
     /// Its number.
     pub index: usize,
     pub connection: Connection,
-    /// Its datagrams, in order.
+    /// Its datagrams that pass, in order.
     pub seen: Vec<Seen>,
-    /// Their commands, in order.
+    /// Its commands that pass, in order.
     pub marks: Vec<Mark>,
+    /// These datagrams with what became of them, as all commands of the connection tell.
+    pub marked: Vec<Marked>,
 }
 
-/// What a timeline holds of the connection of this number. An error where there is no memory for it.
-pub fn part_of(alloc: Global, timeline: &Timeline, index: usize) -> Result<Part, AllocError>
-    requires { index < length timeline.now.connections.items }
-    ensures { IfOk result (IsPart timeline.now index) }
+/// What passes a filter of each connection that it asks for and of which a datagram passes, in order. An error where there is no memory for it.
+pub fn parts_of(alloc: Global, timeline: &Timeline, asked: Filter) -> Result<Vec<Part>, AllocError>
+    ensures { IfOk result (λ parts. AreParts timeline.now asked (length timeline.now.connections.items) parts.items) }
 {
-    let seen = seen_of(alloc, timeline.seen.as_slice(), index)?;
-    let marks = marks_of(alloc, timeline.marks.as_slice(), index)?;
+    let mut parts = Vec::new(alloc);
+    for index in 0..timeline.connections.len() {
+        push_part(alloc, &mut parts, timeline, asked, index)?;
+    }
+    Ok(parts)
+}
+
+// Puts what passes of a connection behind the others, where it is shown.
+fn push_part(
+    alloc: Global,
+    parts: &mut Vec<Part>,
+    timeline: &Timeline,
+    asked: Filter,
+    index: usize,
+) -> Result<(), AllocError>
+    requires { index < length timeline.now.connections.items }
+    ensures { OnOk result ((more : List Part) × (parts.new.items ≡ parts.old.items ++ more) × IsTold timeline.now asked index more) }
+{
+    if !asked.takes(index) {
+        return Ok(());
+    }
+    let part = part_of(alloc, timeline, asked, index)?;
+    if part.seen.as_slice().is_empty() {
+        return Ok(());
+    }
+    parts.push(part)?;
+    Ok(())
+}
+
+// What passes of the connection of this number.
+fn part_of(
+    alloc: Global,
+    timeline: &Timeline,
+    asked: Filter,
+    index: usize,
+) -> Result<Part, AllocError>
+    requires { index < length timeline.now.connections.items }
+    ensures { IfOk result (IsPart timeline.now asked index) }
+{
+    let all = marks_of(alloc, timeline.marks.as_slice(), index)?;
+    let seen = seen_of(alloc, timeline, asked, index, all.as_slice())?;
+    let marks = marks_passing(alloc, all.as_slice(), asked, timeline.begun)?;
+    let marked = mark_all(alloc, seen.as_slice(), all.as_slice())?;
     let connection = timeline.connections[index];
     Ok(Part {
         index,
         connection,
         seen,
         marks,
+        marked,
     })
 }
 
-fn seen_of(alloc: Global, seen: &[Seen], index: usize) -> Result<Vec<Seen>, AllocError>
+// The datagrams of a connection that pass, by all its commands.
+fn seen_of(
+    alloc: Global,
+    timeline: &Timeline,
+    asked: Filter,
+    index: usize,
+    marks: &[Mark],
+) -> Result<Vec<Seen>, AllocError>
+    ensures { IfOk result (λ found. found.items
+        ≡ filter (seen_passes asked timeline.now.begun marks.now) (filter (seen_in index) timeline.now.seen.items)) }
+{
+    let all = seen_in(alloc, timeline.seen.as_slice(), index)?;
+    seen_passing(alloc, all.as_slice(), marks, asked, timeline.begun)
+}
+
+fn seen_in(alloc: Global, seen: &[Seen], index: usize) -> Result<Vec<Seen>, AllocError>
     ensures { IfOk result (λ found. found.items ≡ filter (seen_in index) seen.now) }
 {
     seen.iter()

@@ -91,6 +91,8 @@ pub struct Mark {
     /// The number of its connection.
     pub connection: usize,
     pub way: Way,
+    /// When its datagram was captured, in microseconds.
+    pub at: u64,
     /// When its datagram was sent, by the low 16 bits of its sender's clock in milliseconds, if that says so.
     pub sent: Option<u16>,
     pub told: Told,
@@ -105,6 +107,8 @@ pub struct Timeline {
     pub seen: Vec<Seen>,
     /// The commands of these datagrams, in order.
     pub marks: Vec<Mark>,
+    /// When its first packet was captured, in microseconds; 0 without packets.
+    pub begun: u64,
     /// How many datagrams there are, those of connections that aren't kept among them.
     pub datagrams: u64,
     /// How many datagrams are of connections that aren't kept.
@@ -130,6 +134,7 @@ pub fn read_timeline(alloc: Global, input: &[u8]) -> Result<Timeline, TimelineFa
 // Reads the packets of a capture.
 fn read_packets(alloc: Global, format: Format, packets: &[u8]) -> Result<Timeline, AllocError> {
     let mut timeline = empty(alloc);
+    timeline.begun = begun_at(format, packets);
     let mut told = Vec::new(alloc);
     let mut rest = packets;
     'packets: while !rest.is_empty() {
@@ -158,10 +163,19 @@ fn empty(alloc: Global) -> Timeline {
         connections: Vec::new(alloc),
         seen: Vec::new(alloc),
         marks: Vec::new(alloc),
+        begun: 0,
         datagrams: 0,
         unkept: 0,
         others: 0,
         is_cut: false,
+    }
+}
+
+// When the first packet was captured.
+fn begun_at(format: Format, packets: &[u8]) -> u64 {
+    match read_packet(format, packets) {
+        None => 0,
+        Some((captured, _)) => moment_of(captured, format.nanoseconds),
     }
 }
 
@@ -202,6 +216,7 @@ fn note(
                 number,
                 connection,
                 way,
+                at,
                 sent_in(datagram.payload),
                 told.as_slice(),
             )?;
@@ -226,16 +241,18 @@ fn push_marks(
     datagram: u64,
     connection: usize,
     way: Way,
+    at: u64,
     sent: Option<u16>,
     told: &[Told],
 ) -> Result<(), AllocError>
-    ensures { OnOk result (marks.new.items ≡ marks.old.items ++ map (mark_of datagram connection way sent) told.now) }
+    ensures { OnOk result (marks.new.items ≡ marks.old.items ++ map (mark_of datagram connection way at sent) told.now) }
 {
     for one in told {
         marks.push(Mark {
             datagram,
             connection,
             way,
+            at,
             sent,
             told: *one,
         })?;

@@ -1,10 +1,9 @@
 -- Texts that are told where there is something to tell, and those of connections, one behind another.
-use Rattle.std.proofs.Common.{◌≡◌, ◌≢◌, ◌<◌, ◌≤◌, ◌==◌, ◌+◌, nat_lt, ℕ, suc, Bool, true, false, List, Option, [], ◌++◌, refl, sym, subst, arith, add-one}
+use Rattle.std.proofs.Common.{◌≡◌, ◌≢◌, ◌<◌, ◌≤◌, ◌==◌, ◌+◌, nat_lt, ℕ, suc, Bool, true, false, List, Option, Some, [], ◌++◌, length, get_or, slice_get, refl, sym, ap, ◌∙◌, subst, arith, add-one}
 use Rattle.std.proofs.lemmas.Bool.{ltb-true, ne_eqb}
+use Rattle.std.proofs.lemmas.Option.{slice_get-get_or}
 use Rattle.enet_captured.specs.declared.timeline.Way.{Way}
-use Rattle.enet_captured.specs.declared.timeline.Timeline.{Timeline}
 use Rattle.enet_captured.specs.declared.part.Part.{Part}
-use Rattle.enet_captured.specs.Parts.{IsPart}
 use Rattle.enet_timeline.specs.Summaries.{TellsPart, TellsParts}
 
 pub some_is : (n : ℕ) → n ≢ 0 → (n == 0) ≡ false
@@ -17,16 +16,17 @@ not_above_by a b false e h = refl
 pub not_above : (a b : ℕ) → b ≤ a → nat_lt a b ≡ false
 not_above a b h = not_above_by a b (nat_lt a b) refl h
 
-pub no_parts : (t : Timeline) (at : Option Way) → TellsParts t at 0 []
+pub no_parts : (parts : List Part) (at : Option Way) → TellsParts parts at 0 []
 unfolding TellsParts
-no_parts t at = refl
+no_parts parts at = refl
 
-parts_suc : (t : Timeline) (at : Option Way) (n : ℕ) (parts last : List ℕ) (part : Part) → TellsParts t at n parts → IsPart t n part
-    → TellsPart part at last → TellsParts t at (suc n) (parts ++ last)
+parts_suc : (parts : List Part) (at : Option Way) (n : ℕ) (told last : List ℕ) (part : Part) → TellsParts parts at n told → slice_get parts n ≡ Some part
+    → TellsPart part at last → TellsParts parts at (suc n) (told ++ last)
 unfolding TellsParts
-parts_suc t at n parts last part h is told = (parts, last, part, refl, h, is, told)
+parts_suc parts at n told last part h is says = (told, last, part, refl, h, is, says)
 
-pub parts_more : (t : Timeline) (at : Option Way) (n : ℕ) (parts last : List ℕ) (part : Part) → TellsParts t at n parts → IsPart t n part
-    → TellsPart part at last → TellsParts t at (n + 1) (parts ++ last)
-parts_more t at n parts last part h is told =
-    subst (λ (k : ℕ). TellsParts t at k (parts ++ last)) (sym (add-one n)) (parts_suc t at n parts last part h is told)
+pub parts_more : (parts : List Part) (at : Option Way) (n : ℕ) (told last : List ℕ) (part : Part) → n < length parts → part ≡ get_or parts n part
+    → TellsParts parts at n told → TellsPart part at last → TellsParts parts at (n + 1) (told ++ last)
+parts_more parts at n told last part within is h says =
+    subst (λ (k : ℕ). TellsParts parts at k (told ++ last)) (sym (add-one n))
+    (parts_suc parts at n told last part h (slice_get-get_or parts n part within ∙ ap Some (sym is)) says)

@@ -1,3 +1,4 @@
 pub mod Pictures
+pub mod Shown
 pub mod Summaries
 pub mod Private

@@ -1,7 +1,9 @@
 -- What a picture is made of: one svg element, on top of which the summary stands.
-use Rattle.std.specs.Prelude.{◌≡◌, ℕ, ◌+◌, min, List, [], ◌∷◌, ◌++◌, codes}
+use Rattle.std.specs.Prelude.{◌≡◌, ℕ, ◌+◌, min, List, [], ◌∷◌, ◌++◌, length, codes}
 use Rattle.std.specs.Fmt.{decimal}
 use Rattle.std.specs.Str.Lines.{lines}
+use Rattle.enet_captured.specs.declared.filter.Filter.{Filter}
+use Rattle.enet_captured.specs.declared.part.Part.{Part}
 use Rattle.enet_captured.specs.declared.timeline.Timeline.{Timeline}
 use Rattle.enet_timeline.specs.Summaries.{whole_text}
 
@@ -30,8 +32,9 @@ lines_text y [] = []
 lines_text y (line ∷ more) = words_text (codes "sum") 16 y line ++ lines_text (below y) more
 
 -- An element of some height: a style sheet, its ground, on top the lines that tell what the capture holds, and below what is drawn.
-pub record IsPicture (t : Timeline) (text : List ℕ) : Type 0 where
+pub record IsPicture (t : Timeline) (f : Filter) (parts : List Part) (text : List ℕ) : Type 0 where
   pub height : ℕ
   pub style : List ℕ
   pub drawn : List ℕ
-  pub whole : text ≡ opening_text height ++ style ++ ground_text height ++ lines_text 24 (lines (whole_text t)) ++ drawn ++ codes "</svg>\n"
+  pub whole : text ≡ opening_text height ++ style ++ ground_text height ++ lines_text 24 (lines (whole_text t f (length parts))) ++ drawn
+      ++ codes "</svg>\n"

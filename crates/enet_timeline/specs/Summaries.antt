@@ -1,5 +1,5 @@
 -- What a summary says: of the whole, and of one connection after another.
-use Rattle.std.specs.Prelude.{◌≡◌, ◌-◌, ◌/◌, ◌%◌, ◌==◌, ℕ, zero, suc, nat_lt, Bool, if◌then◌else◌, List, [], ◌∷◌, ◌++◌, length, vec_len, slice_get, count_by, codes, map, Option, Some, None}
+use Rattle.std.specs.Prelude.{◌≡◌, ◌-◌, ◌/◌, ◌%◌, ◌==◌, ◌&&◌, not, ℕ, zero, suc, nat_lt, Bool, true, false, if◌then◌else◌, List, [], ◌∷◌, ◌++◌, length, vec_len, slice_get, count_by, codes, Option, Some, None, is_some}
 use Rattle.std.specs.Fmt.{decimal}
 use Rattle.std.specs.Int.{to_be_bytes, w32}
 use Rattle.std.specs.List.{flat_map}
@@ -13,15 +13,15 @@ use Rattle.enet_captured.specs.declared.timeline.Way.{Way}
 use Rattle.enet_captured.specs.declared.timeline.Way.TheVariants.{Right, Left}
 use Rattle.enet_captured.specs.declared.fates.Marked.{Marked}
 use Rattle.enet_captured.specs.declared.fates.Outcome.TheVariants.{Acknowledged, NoneSeen, Open}
-use Rattle.enet_captured.specs.Fates.{has_ended, marked_as, was_early, was_in_vain, was_resent}
+use Rattle.enet_captured.specs.Fates.{has_ended, was_early, was_in_vain, was_resent}
 use Rattle.enet_captured.specs.declared.timeline.Seen.{Seen}
 use Rattle.enet_captured.specs.declared.timeline.Mark.{Mark}
 use Rattle.enet_captured.specs.declared.timeline.Timeline.{Timeline}
+use Rattle.enet_captured.specs.declared.filter.Filter.{Filter}
 use Rattle.enet_captured.specs.declared.part.Part.{Part}
 use Rattle.enet_captured.specs.Commands.{name_of, same_kind}
 use Rattle.enet_captured.specs.Counts.{same_way, is_stopped_by}
 use Rattle.enet_captured.specs.Gaps.{IsLongest}
-use Rattle.enet_captured.specs.Parts.{IsPart}
 
 -- Microseconds as seconds, with six digits behind the point.
 unfoldable pub seconds_text : ℕ → List ℕ
@@ -44,9 +44,34 @@ counts_text t =
     codes "datagrams " ++ decimal t.datagrams ++ codes ", connections " ++ decimal (vec_len t.connections) ++ codes ", other packets "
     ++ decimal t.others ++ codes "\n"
 
-unfoldable pub whole_text : Timeline → List ℕ
-whole_text t =
-    counts_text t ++ unkept_text t.unkept ++ cut_text t.is_cut ++ first_connections_text (vec_len t.connections)
+-- What is asked for of it, where something is.
+unfoldable pub number_asked_text : List ℕ → Option ℕ → List ℕ
+number_asked_text name None = []
+number_asked_text name (Some number) = name ++ decimal number
+
+unfoldable pub time_asked_text : List ℕ → Option ℕ → List ℕ
+time_asked_text name None = []
+time_asked_text name (Some time) = name ++ seconds_text time
+
+unfoldable pub words_asked_text : Filter → List ℕ
+words_asked_text f =
+    codes "shown of it:" ++ number_asked_text (codes " connection ") f.connection ++ number_asked_text (codes " channel ") f.channel
+    ++ time_asked_text (codes " from ") f.from ++ time_asked_text (codes " to ") f.to ++ codes "\n"
+
+abbrev pub is_all : Filter → Bool
+is_all f = not (is_some f.connection) && (not (is_some f.channel) && (not (is_some f.from) && not (is_some f.to)))
+
+abbrev pub asked_if : Bool → Filter → List ℕ
+asked_if true f = []
+asked_if false f = words_asked_text f
+
+abbrev pub asked_text : Filter → List ℕ
+asked_text f = asked_if (is_all f) f
+
+-- The lines of the whole, where so many connections are shown.
+unfoldable pub whole_text : Timeline → Filter → ℕ → List ℕ
+whole_text t f connections =
+    counts_text t ++ unkept_text t.unkept ++ cut_text t.is_cut ++ asked_text f ++ first_connections_text connections
 
 -- The ends of a connection, and the connect id that began it, where one did.
 unfoldable pub id_text : ℕ → List ℕ
@@ -148,10 +173,6 @@ fates_text at marked =
     outcomes_text (codes "right") Right marked ++ outcomes_text (codes "left") Left marked
     ++ vain_text at Right (count_by (was_in_vain Right) marked) ++ vain_text at Left (count_by (was_in_vain Left) marked)
 
--- The datagrams of a connection, with what became of them.
-abbrev pub marked_in : Part → List Marked
-marked_in part = map (marked_as part.marks.items) part.seen.items
-
 -- A longest gap between two datagrams, and the later one: of gaps that are as long, any.
 unfoldable pub before_text : ℕ → List ℕ
 before_text number = codes " s, before datagram " ++ decimal number ++ codes "\n"
@@ -166,20 +187,21 @@ gap_text (Some gap) = longest_text gap.0 gap.1
 unfoldable pub first_datagrams_text : ℕ → List ℕ
 first_datagrams_text datagrams = if nat_lt 500 datagrams then (codes "  drawn are the first " ++ decimal 500 ++ codes " datagrams\n") else []
 
--- The text of a connection.
+-- The text of what is shown of a connection.
 pub record TellsPart (part : Part) (at : Option Way) (text : List ℕ) : Type 0 where
   pub gap : Option (ℕ × ℕ)
   pub is_longest : IsLongest part.seen.items gap
   pub told : text ≡ ends_text part ++ going_text part.seen.items ++ stops_text part.seen.items ++ commands_text part.marks.items
-      ++ fates_text at (marked_in part) ++ gap_text gap ++ first_datagrams_text (vec_len part.seen)
+      ++ fates_text at part.marked.items ++ gap_text gap ++ first_datagrams_text (vec_len part.seen)
 
--- The texts of so many connections, one behind another.
-unfoldable pub TellsParts : Timeline → Option Way → ℕ → List ℕ → Type 0
-TellsParts t at zero text = text ≡ []
-TellsParts t at (suc n) text =
-    (before last : List ℕ) × (part : Part) × (text ≡ before ++ last) × TellsParts t at n before × IsPart t n part × TellsPart part at last
+-- The texts of so many of these, one behind another.
+unfoldable pub TellsParts : List Part → Option Way → ℕ → List ℕ → Type 0
+TellsParts parts at zero text = text ≡ []
+TellsParts parts at (suc n) text =
+    (before last : List ℕ) × (part : Part) × (text ≡ before ++ last) × TellsParts parts at n before × (slice_get parts n ≡ Some part)
+    × TellsPart part at last
 
-pub record Summarizes (t : Timeline) (at : Option Way) (text : List ℕ) : Type 0 where
-  pub parts : List ℕ
-  pub told : text ≡ whole_text t ++ parts
-  pub each : TellsParts t at (length t.connections.items) parts
+pub record Summarizes (t : Timeline) (f : Filter) (parts : List Part) (at : Option Way) (text : List ℕ) : Type 0 where
+  pub told_parts : List ℕ
+  pub told : text ≡ whole_text t f (length parts) ++ told_parts
+  pub each : TellsParts parts at (length parts) told_parts

@@ -10,10 +10,10 @@ use crate::element::{
     push_words,
 };
 use crate::labels::{label, push_seconds, title};
-use crate::places::{LEFT, PAGE, RIGHT, is_long, step_of};
-use crate::queue::{Waiting, follow, push_left_over};
+use crate::places::{LEFT, PAGE, PAGE_LENGTH, RIGHT, is_long, step_of};
+use crate::queue::Queue;
 use crate::summary::{push_part, push_whole, vain_words};
-use enet_captured::{Kind, Mark, Marked, Outcome, Part, Seen, Timeline, Way, mark_all, part_of};
+use enet_captured::{Filter, Kind, Mark, Marked, Outcome, Part, Seen, Timeline, Way};
 use enet_text::address_text;
 use std::alloc::{AllocError, Global};
 
@@ -31,36 +31,48 @@ const COMMANDS: usize = 64;
 struct Pen {
     text: String,
     y: u64,
-    /// When the capture's first datagram was captured.
+    /// When the capture's first packet was captured.
     begun: u64,
-    queue: Vec<Waiting>,
+    queue: Queue,
     /// The next command.
     next: usize,
+    /// Where the heads of the columns stand last.
+    head: u64,
+    /// Those that are repeated, which stand above all else of the connection.
+    bands: String,
     /// The way that leads to the end at which the capture was made, if that is known.
     at: Option<Way>,
 }
 
-/// Draws a timeline as an SVG. The way leads to the end at which the capture was made, if that is known. An error where there is no memory for
-/// it.
-pub fn draw(alloc: Global, timeline: &Timeline, at: Option<Way>) -> Result<String, AllocError>
-    ensures { IfOk result (λ text. IsPicture timeline.now (string_bytes text)) }
+/// Draws what is shown of a timeline, whose parts these are, as an SVG. The way leads to the end at which the capture was made, if that is
+/// known. An error where there is no memory for it.
+pub(crate) fn draw(
+    alloc: Global,
+    timeline: &Timeline,
+    asked: Filter,
+    parts: &[Part],
+    at: Option<Way>,
+) -> Result<String, AllocError>
+    ensures { IfOk result (λ text. IsPicture timeline.now asked parts.now (string_bytes text)) }
 {
     let mut summary = String::new(alloc);
-    push_whole(&mut summary, timeline)?;
+    push_whole(&mut summary, timeline, asked, parts.len())?;
     let mut top = String::new(alloc);
     let y = push_lines(&mut top, 24, summary.as_str())?;
     let mut pen = Pen {
         text: String::new(alloc),
         y,
-        begun: timeline.seen.first().map_or(0, |seen| seen.at),
-        queue: Vec::new(alloc),
+        begun: timeline.begun,
+        queue: Queue::new(alloc),
         next: 0,
+        head: y,
+        bands: String::new(alloc),
         at,
     };
-    push_legend(&mut pen)?;
-    for index in 0..timeline.connections.len().min(CONNECTIONS) {
-        let part = part_of(alloc, timeline, index)?;
-        draw_part(alloc, &mut pen, &part)?;
+    pen.y = push_legend(&mut pen.text, pen.y)?;
+    push_summary(&mut pen, HELP)?;
+    for part in parts.iter().take(CONNECTIONS) {
+        draw_part(alloc, &mut pen, part)?;
     }
     picture(alloc, top.as_str(), &pen)
 }
@@ -117,7 +129,8 @@ path{fill:none;stroke:#333;stroke-width:1.3}
 .time{fill:#888}
 .to{text-anchor:end}
 .pause{fill:#999;font-style:italic;text-anchor:middle}
-.name{font-size:8px;fill:#567;text-anchor:middle;paint-order:stroke;stroke:#fff;stroke-width:2px}
+.name{font-size:8px;fill:#567;paint-order:stroke;stroke:#fff;stroke-width:2px}
+.band{fill:#f4f4f4}
 .bar{stroke:#7fa8e0;stroke-width:3}
 .late{stroke:#e58a1f}
 .open{stroke:#d33;stroke-dasharray:4 2}
@@ -168,14 +181,13 @@ const LEGEND: [(u64, &str, &str); 8] = [
     (880, "data twice", "the same datagram, seen before"),
 ];
 
-// What the looks of arrows and the marks on them say.
-fn push_legend(pen: &mut Pen) -> Result<(), AllocError> {
-    let y = pen.y.saturating_add(4);
-    push_samples(&mut pen.text, y)?;
+// What the looks of arrows and the marks on them say, from there on. Where that ends.
+fn push_legend(text: &mut String, top: u64) -> Result<u64, AllocError> {
+    let y = top.saturating_add(4);
+    push_samples(text, y)?;
     let y = y.saturating_add(17);
-    push_mark_samples(&mut pen.text, y)?;
-    pen.y = y.saturating_add(20);
-    push_summary(pen, HELP)
+    push_mark_samples(text, y)?;
+    Ok(y.saturating_add(20))
 }
 
 fn push_samples(text: &mut String, y: u64) -> Result<(), AllocError> {
@@ -204,7 +216,7 @@ const IN_VAIN: &str =
     "what it acknowledges was sent again all the same: lost or late behind this point, or not yet read";
 
 const HELP: &str =
-    "Time runs down, in seconds since the first datagram; a pause is cut short where its length stands. At an arrow: what its commands are, channel:number (bytes).
+    "Time runs down, in seconds since the first packet; a pause is cut short where its length stands. At an arrow: what its commands are, channel:number (bytes).
 Beside each end: the reliable numbers it sent (c is the channel of the connection itself), each from its sending to its acknowledgement: orange went again, of red no acknowledgement was seen.
 No acknowledgement seen, and sent again: it was lost, refused, or its acknowledgement was lost on the far side of the capture. Whatever isn't sent again has no mark.
 ";
@@ -232,15 +244,19 @@ fn draw_part(alloc: Global, pen: &mut Pen, part: &Part) -> Result<(), AllocError
     push_line(&mut pen.text, "rule", (16, pen.y), (PAGE - 16, pen.y))?;
     pen.y = pen.y.saturating_add(22);
     push_part_summary(alloc, pen, part)?;
-    push_end_names(alloc, pen, part)?;
+    pen.y = push_heads(alloc, &mut pen.text, part, pen.y)?;
     let top = pen.y;
-    pen.queue.clear();
+    pen.head = top;
+    pen.queue = Queue::new(alloc);
     pen.next = 0;
     draw_datagrams(alloc, pen, part)?;
     pen.y = pen.y.saturating_add(14);
-    push_left_over(&mut pen.text, pen.queue.as_slice(), pen.y)?;
+    pen.queue.push_left_over(&mut pen.text, pen.y)?;
     push_line(&mut pen.text, "axis", (LEFT, top), (LEFT, pen.y))?;
-    push_line(&mut pen.text, "axis", (RIGHT, top), (RIGHT, pen.y))
+    push_line(&mut pen.text, "axis", (RIGHT, top), (RIGHT, pen.y))?;
+    pen.text.push_str(pen.bands.as_str())?;
+    pen.bands.clear();
+    Ok(())
 }
 
 fn push_part_summary(alloc: Global, pen: &mut Pen, part: &Part) -> Result<(), AllocError> {
@@ -249,28 +265,51 @@ fn push_part_summary(alloc: Global, pen: &mut Pen, part: &Part) -> Result<(), Al
     push_summary(pen, summary.as_str())
 }
 
-fn push_end_names(alloc: Global, pen: &mut Pen, part: &Part) -> Result<(), AllocError> {
-    pen.y = pen.y.saturating_add(10);
+// The heads of the columns, below there: the ends, and what stands beside them. Where they end.
+fn push_heads(alloc: Global, text: &mut String, part: &Part, top: u64) -> Result<u64, AllocError> {
+    let y = top.saturating_add(10);
     let left = address_text(alloc, part.connection.left)?;
     let right = address_text(alloc, part.connection.right)?;
-    push_words(&mut pen.text, "end", LEFT, pen.y, left.as_str())?;
-    push_words(&mut pen.text, "end", RIGHT, pen.y, right.as_str())?;
-    pen.y = pen.y.saturating_add(6);
+    push_words(text, "time", 16, y, "seconds")?;
+    push_words(text, "end", LEFT, y, left.as_str())?;
+    push_words(text, "end", RIGHT, y, right.as_str())?;
+    push_words(text, "time to", PAGE - 8, y, "datagram")?;
+    Ok(y.saturating_add(6))
+}
+
+// The legend and the heads once more, where the last ones are out of sight.
+fn push_heads_again(alloc: Global, pen: &mut Pen, part: &Part) -> Result<(), AllocError> {
+    if pen.y.saturating_sub(pen.head) < PAGE_LENGTH {
+        return Ok(());
+    }
+    let top = pen.y.saturating_add(30);
+    push_band(&mut pen.bands, top)?;
+    let y = push_legend(&mut pen.bands, top.saturating_add(12))?;
+    pen.y = push_heads(alloc, &mut pen.bands, part, y)?;
+    pen.head = pen.y;
     Ok(())
 }
 
 // The datagrams of a connection.
 fn draw_datagrams(alloc: Global, pen: &mut Pen, part: &Part) -> Result<(), AllocError> {
-    let marked = mark_all(alloc, part.seen.as_slice(), part.marks.as_slice())?;
     let mut before: Option<u64> = None;
-    for one in marked.iter().take(DATAGRAMS) {
+    for one in part.marked.iter().take(DATAGRAMS) {
         let gap = one.seen.at.saturating_sub(before.unwrap_or(one.seen.at));
         before = Some(one.seen.at);
+        push_heads_again(alloc, pen, part)?;
         push_pause(alloc, pen, gap)?;
         pen.y = pen.y.saturating_add(step_of(gap));
         draw_seen(alloc, pen, part, one)?;
     }
     Ok(())
+}
+
+// The ground of heads that are repeated.
+fn push_band(text: &mut String, y: u64) -> Result<(), AllocError> {
+    write!(
+        text,
+        "<rect class=\"band\" y=\"{y}\" width=\"{PAGE}\" height=\"70\"/>\n"
+    )
 }
 
 // A pause that is longer than the picture shows.
@@ -299,10 +338,9 @@ fn draw_seen(alloc: Global, pen: &mut Pen, part: &Part, one: &Marked) -> Result<
     pen.next = first.saturating_add(count);
     push_moment(alloc, pen, &one.seen)?;
     push_arrow(alloc, pen, one, marks)?;
-    for mark in marks.iter().take(COMMANDS) {
-        follow(alloc, &mut pen.text, &mut pen.queue, mark, pen.y)?;
-    }
-    Ok(())
+    let followed = marks.get(..COMMANDS).unwrap_or(marks);
+    pen.queue
+        .follow(alloc, &mut pen.text, followed, one.fate, pen.y)
 }
 
 // How many of the first commands are of a datagram.
@@ -357,8 +395,8 @@ fn push_moment(alloc: Global, pen: &mut Pen, seen: &Seen) -> Result<(), AllocErr
     let words = format!(in alloc; "#{number}")?;
     push_words(
         &mut pen.text,
-        "time",
-        PAGE - 50,
+        "time to",
+        PAGE - 8,
         pen.y.saturating_add(3),
         words.as_str(),
     )

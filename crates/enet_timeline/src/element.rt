@@ -101,6 +101,20 @@ pub(crate) fn push_words(
     )
 }
 
+/// Words that begin there and are written from top to bottom.
+pub(crate) fn push_words_down(
+    text: &mut String,
+    class: &str,
+    x: u64,
+    y: u64,
+    words: &str,
+) -> Result<(), AllocError> {
+    write!(
+        text,
+        "<text class=\"{class}\" transform=\"translate({x} {y})rotate(90)\">{words}</text>\n"
+    )
+}
+
 /// What a viewer shows where the pointer rests on the group that holds it.
 pub(crate) fn push_title(text: &mut String, words: &str) -> Result<(), AllocError> {
     write!(text, "<title>{words}</title>\n")

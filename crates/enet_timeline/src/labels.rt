@@ -8,24 +8,26 @@ use enet_captured::{Detail, Kind, Mark, Seen, Told};
 use enet_codec::CONTROL_CHANNEL;
 use std::alloc::{AllocError, Global};
 
-/// No command is put behind so many letters.
-const WIDTH: usize = 74;
+/// The commands of a datagram have so many letters at most, but for the first.
+const WIDTH: usize = 84;
 
 /// So many commands of a datagram are told in full at most.
 const COMMANDS: usize = 64;
 
-/// The commands of a datagram in short. What doesn't find room is counted.
+/// The commands of a datagram in short: the first, and of the others those that find room. The rest is counted.
 pub(crate) fn label(alloc: Global, seen: &Seen, marks: &[Mark]) -> Result<String, AllocError> {
     let mut text = String::new(alloc);
     let mut before = None;
-    let mut left = 0usize;
+    let mut left = marks.len();
     for mark in marks {
-        if text.len() > WIDTH {
-            left = left.saturating_add(1);
-        } else {
-            push_short(&mut text, before, mark.told)?;
-            before = Some(mark.told.kind);
+        let mut more = String::new(alloc);
+        push_short(&mut more, before, mark.told)?;
+        if before.is_some() && text.len().saturating_add(more.len()) > WIDTH {
+            break;
         }
+        text.push_str(more.as_str())?;
+        before = Some(mark.told.kind);
+        left = left.saturating_sub(1);
     }
     if left > 0 {
         write!(text, " +{left}")?;

@@ -13,7 +13,7 @@ pub(crate) const LEFT: u64 = 310;
 pub(crate) const RIGHT: u64 = 930;
 
 /// How many numbers that wait for their acknowledgement are drawn beside one another.
-pub(crate) const LANES: usize = 13;
+pub(crate) const LANES: usize = 12;
 
 /// The distance of these.
 const LANE: u64 = 14;
@@ -39,16 +39,24 @@ pub(crate) fn is_long(gap: u64) -> bool {
     gap / MICROSECONDS > MOST
 }
 
+/// A name of so many letters, written down along its bar, reaches so far.
+pub(crate) fn reach_of(letters: usize) -> u64 {
+    (letters as u64).saturating_mul(5).saturating_add(6)
+}
+
+/// The heads of the columns stand at most so far apart.
+pub(crate) const PAGE_LENGTH: u64 = 900;
+
 /// Where the lane of a number stands that goes to the right: beside the left end.
 pub(crate) fn left_lane(lane: usize) -> u64
-    requires { lane ≤ 13 }
+    requires { lane ≤ 12 }
 {
     LEFT - 14 - LANE * lane as u64
 }
 
 /// The same of one that goes to the left.
 pub(crate) fn right_lane(lane: usize) -> u64
-    requires { lane ≤ 13 }
+    requires { lane ≤ 12 }
 {
     RIGHT + 14 + LANE * lane as u64
 }

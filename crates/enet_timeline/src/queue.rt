@@ -1,12 +1,12 @@
 //! The reliable numbers that wait for their acknowledgement.
 
-ghost use Rattle.std.specs.Prelude.{◌≡◌, position};
+ghost use Rattle.std.specs.Prelude.{◌≡◌, ◌<◌, ◌≤◌, position};
 ghost use Rattle.enet_timeline.specs.Private.Queues.{is_answer_to, is_of};
 
-use crate::element::{push_dot, push_line, push_words};
+use crate::element::{push_dot, push_line, push_words_down};
 use crate::labels::push_channel;
-use crate::places::{LANES, left_lane, right_lane};
-use enet_captured::{Mark, Told, Way, answers, is_same};
+use crate::places::{LANES, left_lane, reach_of, right_lane};
+use enet_captured::{Fate, Mark, Told, Way, answers, is_same};
 use std::alloc::{AllocError, Global};
 
 /// No more numbers than these are followed at once.
@@ -23,77 +23,142 @@ pub(crate) struct Waiting {
     since: u64,
     /// Whether it went again.
     is_again: bool,
+    /// Whether a datagram that had it was acknowledged, which may not be shown.
+    is_acknowledged: bool,
 }
 
-/// Follows a command of a datagram that stands there.
-pub(crate) fn follow(
-    alloc: Global,
-    text: &mut String,
-    queue: &mut Vec<Waiting>,
-    mark: &Mark,
-    y: u64,
-) -> Result<(), AllocError> {
-    if let Some(place) = answered(queue.as_slice(), mark) {
-        let waiting = queue.remove(place);
-        return push_bar(text, &waiting, y, bar_class(&waiting));
-    }
-    if !mark.told.asks {
-        return Ok(());
-    }
-    match waiting_place(queue.as_slice(), mark) {
-        Some(place) => {
-            let waiting = &mut queue[place];
-            waiting.is_again = true;
-            push_again(text, waiting.way, waiting.lane, y)
+/// What waits at both ends, and which lanes are free again from where in the picture on: those of the left end, then those of the right one.
+#[derive(Drop)]
+pub(crate) struct Queue {
+    waiting: Vec<Waiting>,
+    free_from: [u64; 2 * LANES],
+}
+
+impl Queue {
+    /// Nothing waits.
+    pub(crate) fn new(alloc: Global) -> Queue {
+        Queue {
+            waiting: Vec::new(alloc),
+            free_from: [0; 2 * LANES],
         }
-        None => begin(alloc, text, queue, mark, y),
+    }
+
+    /// Follows the commands of a datagram that stands there, and of which that became.
+    pub(crate) fn follow(
+        &mut self,
+        alloc: Global,
+        text: &mut String,
+        marks: &[Mark],
+        fate: Fate,
+        y: u64,
+    ) -> Result<(), AllocError> {
+        let mut undrawn = None;
+        for mark in marks {
+            undrawn = self.follow_one(alloc, text, mark, fate, y)?.or(undrawn);
+        }
+        match undrawn {
+            None => Ok(()),
+            Some(way) => push_undrawn(alloc, text, self.waiting.as_slice(), way, y),
+        }
+    }
+
+    // Follows a command. Its way where it begins to wait and there is no lane for it.
+    fn follow_one(
+        &mut self,
+        alloc: Global,
+        text: &mut String,
+        mark: &Mark,
+        fate: Fate,
+        y: u64,
+    ) -> Result<Option<Way>, AllocError> {
+        if let Some(place) = answered(self.waiting.as_slice(), mark) {
+            let waiting = self.waiting.remove(place);
+            push_bar(text, &waiting, y, bar_class(&waiting))?;
+            return Ok(None);
+        }
+        if !mark.told.asks {
+            return Ok(None);
+        }
+        let Some(place) = waiting_place(self.waiting.as_slice(), mark) else {
+            return self.begin(alloc, text, mark, fate, y);
+        };
+        let waiting = &mut self.waiting[place];
+        waiting.is_again = true;
+        waiting.is_acknowledged = waiting.is_acknowledged || fate.is_acknowledged;
+        push_again(text, waiting.way, waiting.lane, y)?;
+        Ok(None)
+    }
+
+    // Takes in a number that goes for the first time.
+    fn begin(
+        &mut self,
+        alloc: Global,
+        text: &mut String,
+        mark: &Mark,
+        fate: Fate,
+        y: u64,
+    ) -> Result<Option<Way>, AllocError> {
+        if self.waiting.len() >= MOST {
+            return Ok(None);
+        }
+        let lane = free_lane(self.waiting.as_slice(), &self.free_from, mark.way, y);
+        self.waiting.push(Waiting {
+            told: mark.told,
+            way: mark.way,
+            lane,
+            since: y,
+            is_again: false,
+            is_acknowledged: fate.is_acknowledged,
+        })?;
+        if lane >= LANES {
+            return Ok(Some(mark.way));
+        }
+        let name = name_of(alloc, mark.told)?;
+        self.free_from[slot_of(mark.way, lane)] = y.saturating_add(reach_of(name.len()));
+        push_name(text, mark.way, lane, y, name.as_str())?;
+        Ok(None)
+    }
+
+    /// Draws what waits at the end, down to there: of what was acknowledged the acknowledgement isn't shown.
+    pub(crate) fn push_left_over(&self, text: &mut String, y: u64) -> Result<(), AllocError> {
+        for waiting in &self.waiting {
+            push_bar(text, waiting, y, left_class(waiting))?;
+        }
+        Ok(())
     }
 }
 
-// Takes in a number that goes for the first time.
-fn begin(
+// A number, with its channel.
+fn name_of(alloc: Global, told: Told) -> Result<String, AllocError> {
+    let mut name = String::new(alloc);
+    push_channel(&mut name, told.channel)?;
+    let number = told.number;
+    write!(name, "{number}")?;
+    Ok(name)
+}
+
+// The place of a lane among those of both ends.
+fn slot_of(way: Way, lane: usize) -> usize
+    requires { lane < 12 }
+    ensures { result < 24 }
+{
+    match way {
+        Way::Right => lane,
+        Way::Left => LANES + lane,
+    }
+}
+
+// How many numbers wait there that aren't drawn.
+fn push_undrawn(
     alloc: Global,
     text: &mut String,
-    queue: &mut Vec<Waiting>,
-    mark: &Mark,
+    waiting: &[Waiting],
+    way: Way,
     y: u64,
 ) -> Result<(), AllocError> {
-    if queue.len() >= MOST {
-        return Ok(());
-    }
-    let lane = free_lane(queue.as_slice(), mark.way);
-    let waiting = Waiting {
-        told: mark.told,
-        way: mark.way,
-        lane,
-        since: y,
-        is_again: false,
-    };
-    queue.push(waiting)?;
-    if lane < LANES {
-        let mut name = String::new(alloc);
-        push_channel(&mut name, mark.told.channel)?;
-        let number = mark.told.number;
-        write!(name, "{number}")?;
-        push_name(text, mark.way, lane, y, name.as_str())?;
-    } else {
-        let more = undrawn(queue.as_slice(), mark.way);
-        let name = format!(in alloc; "+{more}")?;
-        push_name(text, mark.way, LANES, y, name.as_str())?;
-    }
-    Ok(())
-}
-
-/// Draws what waits at the end, down to there.
-pub(crate) fn push_left_over(
-    text: &mut String,
-    queue: &[Waiting],
-    y: u64,
-) -> Result<(), AllocError> {
-    for waiting in queue {
-        push_bar(text, waiting, y, "bar open")?;
-    }
-    Ok(())
+    let more = undrawn(waiting, way);
+    let name = format!(in alloc; "+{more}")?;
+    push_name(text, way, LANES, y, name.as_str())
 }
 
 // Where the number stands that a command answers.
@@ -110,10 +175,12 @@ fn waiting_place(queue: &[Waiting], mark: &Mark) -> Option<usize>
     queue.iter().position(|waiting| waiting.way.is(mark.way) && is_same(waiting.told, mark.told))
 }
 
-// The first lane that none has; `LANES` where there is none.
-fn free_lane(queue: &[Waiting], way: Way) -> usize {
+// The first lane that none has, and that is free from there on; `LANES` where there is none.
+fn free_lane(queue: &[Waiting], free_from: &[u64; 2 * LANES], way: Way, y: u64) -> usize
+    ensures { result ≤ 12 }
+{
     for lane in 0..LANES {
-        if !is_taken(queue, way, lane) {
+        if free_from[slot_of(way, lane)] <= y && !is_taken(queue, way, lane) {
             return lane;
         }
     }
@@ -132,6 +199,14 @@ fn undrawn(queue: &[Waiting], way: Way) -> usize {
         .iter()
         .filter(|waiting| waiting.way.is(way) && waiting.lane >= LANES)
         .count()
+}
+
+fn left_class(waiting: &Waiting) -> &'static str {
+    if waiting.is_acknowledged {
+        bar_class(waiting)
+    } else {
+        "bar open"
+    }
 }
 
 fn bar_class(waiting: &Waiting) -> &'static str {
@@ -164,7 +239,7 @@ fn push_again(text: &mut String, way: Way, lane: usize, y: u64) -> Result<(), Al
     push_dot(text, "dot", lane_at(way, lane), y)
 }
 
-// The name of a number, where its bar begins.
+// The name of a number, down along its bar.
 fn push_name(
     text: &mut String,
     way: Way,
@@ -172,5 +247,11 @@ fn push_name(
     y: u64,
     name: &str,
 ) -> Result<(), AllocError> {
-    push_words(text, "name", lane_at(way, lane), y.saturating_sub(2), name)
+    push_words_down(
+        text,
+        "name",
+        lane_at(way, lane).saturating_add(3),
+        y.saturating_add(2),
+        name,
+    )
 }

@@ -1,15 +1,15 @@
 //! The summary in words.
 
-ghost use Rattle.std.specs.Prelude.{◌≡◌, ◌++◌, ℕ, List, Option, length, codes, IfOk, OnOk};
+ghost use Rattle.std.specs.Prelude.{◌≡◌, ◌++◌, ℕ, List, Option, codes, IfOk, OnOk};
 ghost use Rattle.std.specs.List.{flat_map};
 ghost use Rattle.std.specs.String.{string_bytes};
-ghost use Rattle.enet_timeline.specs.Summaries.{counts_text, unkept_text, cut_text, first_connections_text, whole_text, names_text, id_text, began_text, ends_text, ways_text, going_text, lasting, unread_text, stopped_text, stops_text, counted_text, kind_text, all_text, commands_text, outcomes_text, ended_text, resent_text, way_name, vain_words, vain_text, vain_line, fates_text, marked_in, before_text, longest_text, gap_text, first_datagrams_text, TellsPart, Summarizes};
+ghost use Rattle.enet_timeline.specs.Summaries.{counts_text, unkept_text, cut_text, first_connections_text, whole_text, asked_text, is_all, words_asked_text, number_asked_text, time_asked_text, names_text, id_text, began_text, ends_text, ways_text, going_text, lasting, unread_text, stopped_text, stops_text, counted_text, kind_text, all_text, commands_text, outcomes_text, ended_text, resent_text, way_name, vain_words, vain_text, vain_line, fates_text, before_text, longest_text, gap_text, first_datagrams_text, TellsPart, Summarizes};
 
 use crate::drawing::{CONNECTIONS, DATAGRAMS};
 use crate::labels::push_seconds;
 use enet_captured::{
-    Kind, Mark, Marked, Outcome, Part, Seen, Timeline, Way, count_of, early, ended, going, in_vain,
-    longest_gap, mark_all, part_of, resent, stopped_by,
+    Filter, Kind, Mark, Marked, Outcome, Part, Seen, Timeline, Way, count_of, early, ended, going,
+    in_vain, longest_gap, resent, stopped_by,
 };
 use enet_codec::Stop;
 use enet_text::{address_text, bytes_text};
@@ -34,29 +34,101 @@ const PACKETS: [Kind; 5] = [
     Kind::SendUnsequenced,
 ];
 
-/// What a timeline holds, in words: how much of everything, and of each connection the same. The way leads to the end at which the capture was
-/// made, if that is known. An error where there is no memory for it.
-pub fn summarize(alloc: Global, timeline: &Timeline, at: Option<Way>) -> Result<String, AllocError>
-    ensures { IfOk result (λ text. Summarizes timeline.now at (string_bytes text)) }
+/// What a timeline holds, in words: how much of everything, and the same of each connection that is shown, whose parts these are. The way leads
+/// to the end at which the capture was made, if that is known. An error where there is no memory for it.
+pub(crate) fn summarize(
+    alloc: Global,
+    timeline: &Timeline,
+    asked: Filter,
+    parts: &[Part],
+    at: Option<Way>,
+) -> Result<String, AllocError>
+    ensures { IfOk result (λ text. Summarizes timeline.now asked parts.now at (string_bytes text)) }
 {
     let mut text = String::new(alloc);
-    push_whole(&mut text, timeline)?;
-    for index in 0..timeline.connections.len() {
-        let part = part_of(alloc, timeline, index)?;
-        push_part(alloc, &mut text, &part, at)?;
+    push_whole(&mut text, timeline, asked, parts.len())?;
+    for index in 0..parts.len() {
+        push_part(alloc, &mut text, &parts[index], at)?;
     }
     Ok(text)
 }
 
-/// The lines of the whole.
-pub(crate) fn push_whole(text: &mut String, timeline: &Timeline) -> Result<(), AllocError>
-    ensures { OnOk result (string_bytes text.new ≡ string_bytes text.old ++ whole_text timeline.now) }
+/// The lines of the whole, where so many connections are shown.
+pub(crate) fn push_whole(
+    text: &mut String,
+    timeline: &Timeline,
+    asked: Filter,
+    connections: usize,
+) -> Result<(), AllocError>
+    ensures { OnOk result (string_bytes text.new ≡ string_bytes text.old ++ whole_text timeline.now asked connections) }
 {
     push_counts(text, timeline)?;
     push_unkept(text, timeline.unkept)?;
     push_cut(text, timeline.is_cut)?;
-    push_first_connections(text, timeline.connections.len())?;
+    push_asked(text, asked)?;
+    push_first_connections(text, connections)?;
     Ok(())
+}
+
+// What is asked for of it, where something is.
+fn push_asked(text: &mut String, asked: Filter) -> Result<(), AllocError>
+    ensures { OnOk result (string_bytes text.new ≡ string_bytes text.old ++ asked_text asked) }
+{
+    if is_all(asked) {
+        return Ok(());
+    }
+    push_words_asked(text, asked)
+}
+
+fn is_all(asked: Filter) -> bool
+    ensures { result ≡ is_all asked }
+{
+    asked.connection.is_none()
+        && asked.channel.is_none()
+        && asked.from.is_none()
+        && asked.to.is_none()
+}
+
+fn push_words_asked(text: &mut String, asked: Filter) -> Result<(), AllocError>
+    ensures { OnOk result (string_bytes text.new ≡ string_bytes text.old ++ words_asked_text asked) }
+{
+    text.push_str("shown of it:")?;
+    push_number_asked(text, " connection ", asked.connection)?;
+    push_number_asked(text, " channel ", as_number(asked.channel))?;
+    push_time_asked(text, " from ", asked.from)?;
+    push_time_asked(text, " to ", asked.to)?;
+    text.push_str("\n")?;
+    Ok(())
+}
+
+fn as_number(channel: Option<u8>) -> Option<usize>
+    ensures { result ≡ channel }
+{
+    match channel {
+        None => None,
+        Some(channel) => Some(usize::from(channel)),
+    }
+}
+
+fn push_number_asked(text: &mut String, name: &str, asked: Option<usize>) -> Result<(), AllocError>
+    ensures { OnOk result (string_bytes text.new ≡ string_bytes text.old ++ number_asked_text name.now asked) }
+{
+    match asked {
+        None => Ok(()),
+        Some(number) => write!(text, "{name}{number}"),
+    }
+}
+
+fn push_time_asked(text: &mut String, name: &str, asked: Option<u64>) -> Result<(), AllocError>
+    ensures { OnOk result (string_bytes text.new ≡ string_bytes text.old ++ time_asked_text name.now asked) }
+{
+    match asked {
+        None => Ok(()),
+        Some(time) => {
+            text.push_str(name)?;
+            push_seconds(text, time)
+        }
+    }
 }
 
 // How many datagrams, connections and other packets there are.
@@ -118,7 +190,7 @@ pub(crate) fn push_part(
     push_datagrams(text, part.seen.as_slice())?;
     push_stops(text, part.seen.as_slice())?;
     push_commands(text, part.marks.as_slice())?;
-    push_part_fates(alloc, text, part, at)?;
+    push_fates(text, part.marked.as_slice(), at)?;
     push_gap(text, longest_gap(part.seen.as_slice()))?;
     push_first_datagrams(text, part.seen.len())?;
     Ok(())
@@ -266,19 +338,6 @@ fn push_counted(text: &mut String, name: &str, count: usize) -> Result<(), Alloc
         return Ok(());
     }
     write!(text, " {name} {count}")
-}
-
-fn push_part_fates(
-    alloc: Global,
-    text: &mut String,
-    part: &Part,
-    at: Option<Way>,
-) -> Result<(), AllocError>
-    ensures { OnOk result (string_bytes text.new ≡ string_bytes text.old ++ fates_text at (marked_in part.now)) }
-{
-    let marked = mark_all(alloc, part.seen.as_slice(), part.marks.as_slice())?;
-    push_fates(text, marked.as_slice(), at)?;
-    Ok(())
 }
 
 // What became of the datagrams that go one way and the other.

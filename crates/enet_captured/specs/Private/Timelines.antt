@@ -10,5 +10,6 @@ abbrev pub moment_of : Captured → Bool → ℕ
 moment_of captured nanoseconds = captured.seconds * 1000000 + (if nanoseconds then captured.parts / 1000 else captured.parts)
 
 -- A command of a datagram.
-abbrev pub mark_of : ℕ → ℕ → Way → Option ℕ → Told → Mark
-mark_of datagram connection way sent told = record { datagram = datagram; connection = connection; way = way; sent = sent; told = told }
+abbrev pub mark_of : ℕ → ℕ → Way → ℕ → Option ℕ → Told → Mark
+mark_of datagram connection way at sent told =
+    record { datagram = datagram; connection = connection; way = way; at = at; sent = sent; told = told }

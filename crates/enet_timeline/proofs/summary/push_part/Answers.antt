@@ -1,7 +1,7 @@
 use Rattle.std.proofs.Common.{◌++◌, refl, subst}
 use Rattle.std.specs.Prelude.{vec_len}
 use Rattle.enet_captured.specs.Gaps.{IsLongest}
-use Rattle.enet_timeline.specs.Summaries.{ends_text, going_text, stops_text, commands_text, fates_text, marked_in, gap_text, first_datagrams_text}
+use Rattle.enet_timeline.specs.Summaries.{ends_text, going_text, stops_text, commands_text, fates_text, gap_text, first_datagrams_text}
 use Rattle.enet_timeline.proofs.Joins.{join7}
 use Rattle.enet_timeline.proofs.summary.push_part.Goals as goal
 
@@ -12,13 +12,14 @@ returns c =
     let datagrams = rw c.as_slice.ensures.value at c.in_ok-push_datagrams.ensures in
     let stops = rw c.as_slice-2.ensures.value at c.in_ok-push_stops.ensures in
     let commands = rw c.as_slice-3.ensures.value at c.in_ok-push_commands.ensures in
+    let fates = rw c.as_slice-4.ensures.value at c.in_ok-push_fates.ensures in
     let drawn = rw c.len.ensures at c.in_ok-push_first_datagrams.ensures in (
-      ends_text p ++ going_text p.seen.items ++ stops_text p.seen.items ++ commands_text p.marks.items ++ fates_text c.args.at (marked_in p) ++ gap_text gap
+      ends_text p ++ going_text p.seen.items ++ stops_text p.seen.items ++ commands_text p.marks.items ++ fates_text c.args.at p.marked.items ++ gap_text gap
           ++ first_datagrams_text (vec_len p.seen),
-      join7 _ _ _ _ _ _ _ _ _ _ _ _ _ _ _ _ c.in_ok-push_ends.ensures datagrams stops commands c.in_ok-push_part_fates.ensures c.in_ok-push_gap.ensures drawn refl,
+      join7 _ _ _ _ _ _ _ _ _ _ _ _ _ _ _ _ c.in_ok-push_ends.ensures datagrams stops commands fates c.in_ok-push_gap.ensures drawn refl,
       record {
         gap = gap;
-        is_longest = subst (λ l. IsLongest l gap) c.as_slice-4.ensures.value c.longest_gap.ensures;
+        is_longest = subst (λ l. IsLongest l gap) c.as_slice-5.ensures.value c.longest_gap.ensures;
         told = refl;
       },
     )
