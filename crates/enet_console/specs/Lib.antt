@@ -1,5 +1,6 @@
 pub mod Words
 pub mod Inputs
 pub mod Outlets
+pub mod Seconds
 pub mod Versions
 pub mod Private

@@ -1,6 +1,7 @@
 //! What the program can be told.
 
 use crate::admission::{Admission, number, read_admission, with_admission};
+use crate::seconds::microseconds_of;
 use crate::versions::version;
 use clap::error::ErrorKind;
 use clap::{Arg, ArgAction, ArgMatches, Command, Error, value_parser};
@@ -79,6 +80,23 @@ pub struct InspectOptions {
     pub picture: Option<String>,
     /// The end of the connections at which the capture was made, if that is known.
     pub at: Option<End>,
+    /// What is drawn of the capture.
+    pub asked: Asked,
+    /// Whether packets are told whole, in words.
+    pub is_full: bool,
+}
+
+/// What is asked for of a capture: of what isn't named, all.
+#[derive(Clone, Copy)]
+pub struct Asked {
+    /// The number of a connection.
+    pub connection: Option<u32>,
+    /// The channel of commands.
+    pub channel: Option<u8>,
+    /// From so many microseconds after the capture's beginning on.
+    pub from: Option<u64>,
+    /// Up to so many.
+    pub to: Option<u64>,
 }
 
 /// An end of a connection, as the picture has it.
@@ -171,8 +189,13 @@ fn inspect_command<'a>(alloc: Global) -> Result<Command<'a>, AllocError> {
             "Tells in words what datagrams say: a line of hex each, or a capture in pcap or pcapng format",
         )
         .arg(file(alloc))?
+        .arg(full(alloc)?)?
         .arg(picture(alloc))?
-        .arg(at(alloc))
+        .arg(at(alloc)?)?
+        .arg(connection(alloc)?)?
+        .arg(channel(alloc)?)?
+        .arg(from(alloc)?)?
+        .arg(to(alloc)?)
 }
 
 fn serve_command<'a>(alloc: Global) -> Result<Command<'a>, AllocError> {
@@ -215,10 +238,51 @@ fn picture<'a>(alloc: Global) -> Arg<'a> {
     )
 }
 
-fn at<'a>(alloc: Global) -> Arg<'a> {
-    Arg::new(alloc, "at").long("at").help(
-        "The end at which the capture was made: LEFT, whence the first datagram came, or RIGHT",
-    )
+fn full<'a>(alloc: Global) -> Result<Arg<'a>, AllocError> {
+    Arg::new(alloc, "full")
+        .long("full")
+        .help("Tell all bytes of each packet, not just the first 32")
+        .action(ArgAction::SetTrue)
+        .conflicts_with("timeline")
+}
+
+fn at<'a>(alloc: Global) -> Result<Arg<'a>, AllocError> {
+    Arg::new(alloc, "at")
+        .long("at")
+        .help(
+            "The end at which the capture was made: LEFT, whence the first datagram came, or RIGHT",
+        )
+        .requires_arg("timeline")
+}
+
+fn connection<'a>(alloc: Global) -> Result<Arg<'a>, AllocError> {
+    Arg::new(alloc, "connection")
+        .long("connection")
+        .help("Draw and tell this connection alone, counted from 0")
+        .value_parser(value_parser!(u32).range(0..=255))
+        .requires_arg("timeline")
+}
+
+fn channel<'a>(alloc: Global) -> Result<Arg<'a>, AllocError> {
+    number8(alloc, "channel", 0, 255)
+        .help(
+            "Draw and tell the commands of this channel alone; 255 is that of the connection itself",
+        )
+        .requires_arg("timeline")
+}
+
+fn from<'a>(alloc: Global) -> Result<Arg<'a>, AllocError> {
+    Arg::new(alloc, "from")
+        .long("from")
+        .help("Begin so many seconds after the first packet, as 12.5")
+        .requires_arg("timeline")
+}
+
+fn to<'a>(alloc: Global) -> Result<Arg<'a>, AllocError> {
+    Arg::new(alloc, "to")
+        .long("to")
+        .help("End so many seconds after the first packet")
+        .requires_arg("timeline")
 }
 
 fn clients<'a>(alloc: Global) -> Arg<'a> {
@@ -370,7 +434,7 @@ fn task_of(alloc: Global, found: &ArgMatches<'_>) -> Result<Option<Task>, AllocE
     }
 }
 
-// None where an end is neither.
+// None where an end is neither, or a time isn't one.
 fn inspect_options(
     alloc: Global,
     found: &ArgMatches<'_>,
@@ -378,11 +442,33 @@ fn inspect_options(
     let Some(at) = end_of(found.get_str("at")) else {
         return Ok(None);
     };
+    let Some(asked) = asked_of(found) else {
+        return Ok(None);
+    };
     Ok(Some(InspectOptions {
         file: file_named(alloc, found)?,
         picture: word_named(alloc, found, "timeline")?,
         at,
+        asked,
+        is_full: found.get_flag("full"),
     }))
+}
+
+fn asked_of(found: &ArgMatches<'_>) -> Option<Asked> {
+    Some(Asked {
+        connection: found.get_one::<u32>("connection"),
+        channel: found.get_one::<u8>("channel"),
+        from: time_of(found.get_str("from"))?,
+        to: time_of(found.get_str("to"))?,
+    })
+}
+
+// Some(None) where it wasn't said.
+fn time_of(word: Option<&str>) -> Option<Option<u64>> {
+    match word {
+        None => Some(None),
+        Some(word) => Some(Some(microseconds_of(word.as_bytes())?)),
+    }
 }
 
 // Some(None) where it wasn't said.
