@@ -125,7 +125,7 @@ def told_header(words):
 
 def told(program, capture):
     """The datagrams of a capture, as inspect tells them."""
-    text = subprocess.run([program, 'inspect', capture], capture_output=True, text=True, check=True).stdout
+    text = subprocess.run([program, 'inspect', '--full', capture], capture_output=True, text=True, check=True).stdout
     datagrams = []
     for line in text.splitlines():
         words = line.split()

@@ -9,6 +9,7 @@ cd "$(dirname "$0")/../.." || exit 1
 . scripts/lib/tally.sh
 program=$(realpath -m "${1:-crates/enet_relay/out/enet_relay}")
 captures=trials/captured
+body_options=
 
 # An input: its name here, the file that has it, the files of the wanted output and standard error, and the wanted status. It is read from
 # standard input, and by its name.
@@ -16,9 +17,9 @@ input() {
     local name=$1 file=$2 out=$3 err=$4 wanted=$5 status way
     for way in stdin file; do
         if [ "$way" = stdin ]; then
-            timeout 60 "$program" inspect < "$file" > "$room/out" 2> "$room/err"
+            timeout 60 "$program" inspect $body_options < "$file" > "$room/out" 2> "$room/err"
         else
-            timeout 60 "$program" inspect "$file" > "$room/out" 2> "$room/err" < /dev/null
+            timeout 60 "$program" inspect $body_options "$file" > "$room/out" 2> "$room/err" < /dev/null
         fi
         status=$?
         cmp -s "$out" "$room/out" || { differ "$name by $way" 'standard output' "$out" "$room/out"; return; }
@@ -55,6 +56,13 @@ body() {
         "datagram 0 length $((8 + len))\n  peer 0 session 0\n  SEND_RELIABLE channel 0 number 4 acknowledge length $len payload $3\n" '' 0
 }
 
+# The same with --full.
+full() {
+    body_options=--full
+    body "$1, full" "$2" "$3"
+    body_options=
+}
+
 rows() {
     local ping='datagram 0 length 8\n  peer 1 session 2 sent 100\n  PING channel 255 number 3 acknowledge\n'
     lines nothing '' '' '' 0
@@ -81,8 +89,11 @@ rows() {
     body two-zeros 680000 680000
     body no-letter 6807 6807
     body no-ascii c3a4 c3a4
-    body 33-letters "$(printf '61%.0s' {1..33})" "\"$(printf 'a%.0s' {1..33})\""
-    body 33-bytes "$(printf '80%.0s' {1..33})" "$(printf '80%.0s' {1..33})"
+    body 32-letters "$(printf '61%.0s' {1..32})" "\"$(printf 'a%.0s' {1..32})\""
+    body 33-letters "$(printf '61%.0s' {1..33})" "\"$(printf 'a%.0s' {1..32})\".."
+    body 33-bytes "$(printf '80%.0s' {1..33})" "$(printf '80%.0s' {1..32}).."
+    full 33-bytes "$(printf '80%.0s' {1..33})" "$(printf '80%.0s' {1..33})"
+    full 33-letters "$(printf '61%.0s' {1..33})" "\"$(printf 'a%.0s' {1..33})\""
     lines bad-line '#\na001006485ff0003\na00\n' "$ping" 'E15 BadScript line 3\n' 2
     lines two-words 'a0 01\n' '' 'E15 BadScript line 1\n' 2
 }
@@ -157,16 +168,26 @@ captures() {
     capture "no beginning" a1b2c3d4 '' 'capture cut short after 0 packets\n' 2
 }
 
-# A capture that is drawn: its name here, its file, and what is wanted on standard error, and the status.
+# A capture that is drawn: its name here, its file, what is wanted on standard error, the status, and what is asked for of it.
 timeline() {
-    local name="timeline: $1" status found
+    local name="timeline: $1 ${*:5}" status found
     rm -f "$room/picture"
-    timeout 60 "$program" inspect "$2" --timeline "$room/picture" > "$room/out" 2> "$room/err" < /dev/null
+    timeout 60 "$program" inspect "$2" --timeline "$room/picture" "${@:5}" > "$room/out" 2> "$room/err" < /dev/null
     status=$?
     [ "$status" -eq "$4" ] || { fail "$name" "status $status where $4 is wanted: $(head -c 200 "$room/err")"; return; }
     [ "$(<"$room/err")" = "$3" ] || { fail "$name" "standard error is: $(head -c 200 "$room/err")"; return; }
-    found=$(python3 scripts/lib/timeline.py check "$2" "$room/out" "$room/picture" 2>&1) || { fail "$name" "$found"; return; }
+    found=$(python3 scripts/lib/timeline.py check "$2" "$room/out" "$room/picture" "${@:5}" 2>&1) || { fail "$name" "$found"; return; }
     passed=$((passed + 1))
+}
+
+# What filters ask for of a capture.
+excerpts() {
+    local asked
+    for asked in '--connection 0' '--connection 1' '--connection 255' '--channel 0' '--channel 1' '--channel 255' '--from 0.5' '--to 1' \
+        '--from 1 --to 1.5' '--from 0.3 --channel 0' '--from 2 --to 1' '--connection 0 --channel 0 --from 0.1 --to 2000000'; do
+        # shellcheck disable=SC2086 # these are words
+        timeline "$1" "$2" '' 0 $asked
+    done
 }
 
 # The captured files as captures, many connections, random datagrams, and captures that are cut short anywhere.
@@ -175,12 +196,17 @@ timelines() {
     for file in "$captures"/*.txt; do
         python3 scripts/lib/timeline.py capture "$file" "$room/made"
         timeline "$(basename "$file" .txt)" "$room/made" '' 0
+        excerpts "$(basename "$file" .txt)" "$room/made"
     done
     python3 scripts/lib/timeline.py crowd "$room/made"
     timeline crowd "$room/made" '' 0
+    excerpts crowd "$room/made"
+    timeline crowd "$room/made" '' 0 --connection 99 --from 0.099 --to 20
+    timeline crowd "$room/made" '' 0 --connection 7 --from 1.9
     for seed in 1 2 3 4 5 6 7 8; do
         python3 scripts/lib/timeline.py random $seed "$room/made"
         timeline "random $seed" "$room/made" '' 0
+        timeline "random $seed" "$room/made" '' 0 --channel 1 --from 1000000000
     done
     python3 scripts/lib/timeline.py capture "$captures/data.txt" "$room/made"
     for cut in 25 40 100 1000 9999; do
@@ -264,7 +290,7 @@ no_timeline() {
 
 refused_timelines() {
     echo a001006485ff0003 > "$room/hex"
-    no_timeline lines "$room/hex" 'a timeline is drawn of a capture in pcap format alone' 2
+    no_timeline lines "$room/hex" 'a timeline is drawn of a capture in pcap or pcapng format alone; editcap -F pcap IN OUT makes one' 2
     bytes a1b2c3d4 > "$room/short"
     no_timeline "no beginning" "$room/short" 'capture cut short after 0 packets' 2
     bytes "$(beginning little 0xa1b2c3d4 105)" > "$room/short"
@@ -281,8 +307,12 @@ files() {
     [ $? -eq 1 ] && [ "$(<"$room/err")" = 'input or output failed' ] && passed=$((passed + 1)) || fail unwritable "$(<"$room/err")"
     timeout 60 "$program" inspect one two > "$room/out" 2> "$room/err"
     [ $? -eq 2 ] && [ "$(<"$room/err")" = 'bad command line' ] && passed=$((passed + 1)) || fail two-files "$(<"$room/err")"
-    timeout 60 "$program" inspect one --at UP > "$room/out" 2> "$room/err"
-    [ $? -eq 2 ] && [ "$(<"$room/err")" = 'bad command line' ] && passed=$((passed + 1)) || fail no-end "$(<"$room/err")"
+    # shellcheck disable=SC2086 # these are words
+    for words in '--at UP' '--at LEFT' '--connection 1' '--from 1' '--timeline x --connection 256' '--timeline x --channel 256' \
+        '--timeline x --from 1.0000001' '--timeline x --from .' '--timeline x --to -1' '--timeline x --to 4294967296' '--timeline x --full'; do
+        timeout 60 "$program" inspect one $words > "$room/out" 2> "$room/err"
+        [ $? -eq 2 ] && [ "$(<"$room/err")" = 'bad command line' ] && passed=$((passed + 1)) || fail "bad words: $words" "$(<"$room/err")"
+    done
 }
 
 room=$(mktemp -d) || exit 1

@@ -1,6 +1,6 @@
 # What `enet_relay inspect` must write for the datagrams of a captured file of trials/captured, by the remarks that stand beside
 # them: names and numbers are the remarks', the flags those that ENet 1.3 gives a command of that name, and lengths, payloads and what
-# can't be read are cut out of the hex by the sizes that ENet 1.3 gives the commands.
+# can't be read are cut out of the hex by the sizes that ENet 1.3 gives the commands. With -v full=1 payloads are told whole.
 function number_of(hex,    i, n) {
     n = 0
     for (i = 1; i <= length(hex); i++) n = n * 16 + index("0123456789abcdef", tolower(substr(hex, i, 1))) - 1
@@ -11,17 +11,17 @@ function bytes_from(place, count) {
     return count == 0 ? "-" : substr(datagram, 2 * place + 1, 2 * count)
 }
 
-# The bytes of a packet: in quotes if they are text, letters with a zero behind them or none.
-function body(hex,    i, byte, text, letters) {
+# Hex as a text in quotes; "" if it isn't one: letters, with a zero behind them or none.
+function quoted(hex, shown,    i, byte, text, letters) {
     letters = hex
     sub(/00$/, "", letters)
-    if (hex == "-" || length(hex) % 2 || letters == "") return hex
+    if (length(hex) % 2 || letters == "") return ""
     for (i = 1; i < length(letters); i += 2) {
         byte = number_of(substr(letters, i, 2))
-        if ((byte < 32 || byte > 126) && byte != 9 && byte != 10 && byte != 13) return hex
+        if ((byte < 32 || byte > 126) && byte != 9 && byte != 10 && byte != 13) return ""
     }
-    for (i = 1; i < length(hex); i += 2) {
-        byte = number_of(substr(hex, i, 2))
+    for (i = 1; i < length(shown); i += 2) {
+        byte = number_of(substr(shown, i, 2))
         if (byte == 0) text = text "\\0"
         else if (byte == 9) text = text "\\t"
         else if (byte == 10) text = text "\\n"
@@ -29,6 +29,14 @@ function body(hex,    i, byte, text, letters) {
         else text = text (byte == 34 || byte == 92 ? "\\" : "") sprintf("%c", byte)
     }
     return "\"" text "\""
+}
+
+# The bytes of a packet.
+function body(hex,    shown, text) {
+    if (hex == "-") return hex
+    shown = full ? hex : substr(hex, 1, 64)
+    text = quoted(hex, shown)
+    return (text == "" ? shown : text) (length(shown) < length(hex) ? ".." : "")
 }
 
 function word_behind(name,    i) {

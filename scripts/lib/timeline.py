@@ -6,7 +6,8 @@
                                         and in a fleet what strangers send to the server, by the server's clock
     timeline.py crowd OUT               makes one of 30 connections, and 600 datagrams of one of them
     timeline.py random SEED OUT         makes one of random datagrams at random times, between few addresses
-    timeline.py check CAPTURE WORDS SVG reads a capture by itself, and compares the summary and the picture with what it finds
+    timeline.py check CAPTURE WORDS SVG [--connection N] [--channel C] [--from S] [--to S]
+                                        reads a capture by itself, and compares the summary and the picture with what it finds of that in it
     timeline.py marks ROWS PROGRAM ROOM runs PROGRAM on each row of a file of rows, in the folder ROOM, and compares what is marked
 """
 import random
@@ -175,6 +176,18 @@ class Connection:
         self.datagrams = []
         self.known = None
 
+    def narrowed(self, asked, begun):
+        """What of it is asked for. What became of a datagram all of the connection tells."""
+        shown = Connection(self.left, self.right, self.identifier)
+        shown.known = []
+        for (number, at, way, found, stop, time), fate in zip(self.datagrams, self.fates()):
+            within = asked.get('from', 0) <= max(at - begun, 0) <= asked.get('to', NEVER)
+            here = [command for command in found if asked.get('channel', command[2]) == command[2]]
+            if within and (here or 'channel' not in asked):
+                shown.datagrams.append((number, at, way, here, stop, time))
+                shown.known.append(fate)
+        return shown
+
     def says(self, index):
         number_of = {'right': 0, 'left': 0}
         kinds, stops = {}, {}
@@ -283,14 +296,39 @@ def connections(datagrams):
     return found, unkept
 
 
-def check(capture, words, picture):
+def asked_of(options):
+    """What is asked for, times in microseconds, and the line that says so."""
+    asked, says = {}, ''
+    for name, value in zip(options[::2], options[1::2]):
+        asked[name[2:]] = round(float(value) * 1000000) if name in ('--from', '--to') else int(value)
+    for name in 'connection', 'channel', 'from', 'to':
+        if name in asked:
+            says += f' {name} {seconds(asked[name]) if name in ("from", "to") else asked[name]}'
+    return asked, [f'shown of it:{says}'] if asked else []
+
+
+def begun_of(path):
+    """When the first packet of a capture was captured."""
+    whole = open(path, 'rb').read()
+    if len(whole) < 40 or len(whole) < 40 + struct.unpack_from('<I', whole, 32)[0]:
+        return 0
+    time, parts = struct.unpack_from('<II', whole, 24)
+    return time * 1000000 + parts
+
+
+def check(capture, words, picture, *options):
     datagrams, others, is_cut = packets(capture)
-    found, unkept = connections(datagrams)
-    wanted = [f'datagrams {len(datagrams)}, connections {len(found)}, other packets {others}']
+    all_found, unkept = connections(datagrams)
+    asked, says = asked_of(options)
+    narrowed = [(index, connection.narrowed(asked, begun_of(capture))) for index, connection in enumerate(all_found)]
+    shown = [(index, connection) for index, connection in narrowed if connection.datagrams and asked.get('connection', index) == index]
+    found = [connection for _, connection in shown]
+    wanted = [f'datagrams {len(datagrams)}, connections {len(all_found)}, other packets {others}']
     wanted += [f"{unkept} datagrams of further connections aren't told"] if unkept else []
     wanted += ['the capture is cut short'] if is_cut else []
+    wanted += says
     wanted += [f'drawn are the first {CONNECTIONS} connections'] if len(found) > CONNECTIONS else []
-    for index, connection in enumerate(found):
+    for index, connection in shown:
         wanted += connection.says(index)
     told = open(words).read().splitlines()
     for line, (one, other) in enumerate(zip(wanted, told)):
@@ -404,8 +442,8 @@ def main():
             write(out, drawn(int(seed)))
         case ['marks', rows, program, room]:
             marks(rows, program, room)
-        case ['check', capture, words, picture]:
-            check(capture, words, picture)
+        case ['check', capture, words, picture, *options]:
+            check(capture, words, picture, *options)
         case _:
             sys.exit(__doc__)
 

@@ -30,7 +30,7 @@ pub fn tell(alloc: Global, seed: u64, captures: u32) -> Result<Digest> {
     for _ in 0..captures {
         let capture = capture(alloc, &mut draw)?;
         let mut bytes = capture.as_slice();
-        inspect(alloc, Bodies::Whole, &mut bytes, &mut digest)?;
+        inspect(alloc, Bodies::Short, &mut bytes, &mut digest)?;
     }
     Ok(digest)
 }

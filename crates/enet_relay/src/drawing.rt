@@ -2,20 +2,21 @@
 
 use crate::failure::Failure;
 use crate::reading::read_input;
-use enet_captured::{Way, read_timeline};
-use enet_console::End;
+use enet_captured::{Filter, Way, read_timeline};
+use enet_console::{Asked, End};
 use enet_text::InspectFault;
-use enet_timeline::{draw, summarize};
+use enet_timeline::show;
 use std::io::Write;
 use std::rt::Files;
 use std::{fs, io};
 
-/// Draws the capture of a file, or of standard input, into the file that `picture` names, and tells on standard output what it holds. One that
-/// is cut short is drawn up to there.
+/// Draws what is asked for of the capture of a file, or of standard input, into the file that `picture` names, and tells it on standard output.
+/// A capture that is cut short is drawn up to there.
 pub fn draw_capture<R>(
     rt: &R,
     file: Option<String>,
     picture: &str,
+    asked: Asked,
     at: Option<End>,
 ) -> Result<(), Failure>
 where
@@ -24,15 +25,26 @@ where
     let input = read_input(rt, file)?;
     let timeline = read_timeline(rt.alloc(), input.as_slice()).map_err(Failure::Timeline)?;
     let at = at.map(way_to);
-    let words = summarize(rt.alloc(), &timeline, at)?;
-    let drawn = draw(rt.alloc(), &timeline, at)?;
-    fs::write(rt, picture, drawn.as_str()).map_err(Failure::File)?;
-    write_words(rt, words.as_str())?;
+    let shown = show(rt.alloc(), &timeline, filter_of(asked), at)?;
+    fs::write(rt, picture, shown.picture.as_str()).map_err(Failure::File)?;
+    write_words(rt, shown.summary.as_str())?;
     if timeline.is_cut {
         let packets = timeline.datagrams.saturating_add(timeline.others);
         return Err(Failure::Inspect(InspectFault::CutShort(packets)));
     }
     Ok(())
+}
+
+// No connection of a capture has the number that a machine of fewer bits couldn't hold.
+fn filter_of(asked: Asked) -> Filter {
+    Filter {
+        connection: asked
+            .connection
+            .map(|index| usize::try_from(index).unwrap_or(usize::MAX)),
+        channel: asked.channel,
+        from: asked.from,
+        to: asked.to,
+    }
 }
 
 // The way that leads to an end.

@@ -53,10 +53,7 @@ where
         Task::Lab => {
             lab(rt.alloc(), &mut rt.reader(), &mut io::writer(rt)).map_err(Failure::Lab)?;
         }
-        Task::Inspect(InspectOptions { file, picture, at }) => match picture {
-            None => inspect_input(rt, file)?,
-            Some(picture) => draw_capture(rt, file, picture.as_str(), at)?,
-        },
+        Task::Inspect(options) => inspect(rt, options)?,
         Task::Serve(options) => serve(rt, options)?,
         Task::Demo(options) => {
             if !demonstrate(rt, options)? {
@@ -65,6 +62,23 @@ where
         }
     }
     Ok(ExitCode::SUCCESS)
+}
+
+fn inspect<R>(rt: &R, options: InspectOptions) -> Result<(), Failure>
+where
+    R: Files + Input + Print + AllocGlobal,
+{
+    let InspectOptions {
+        file,
+        picture,
+        at,
+        asked,
+        is_full,
+    } = options;
+    match picture {
+        None => inspect_input(rt, file, is_full),
+        Some(picture) => draw_capture(rt, file, picture.as_str(), asked, at),
+    }
 }
 
 fn main(rt: HostRuntime) -> ExitCode {
