@@ -236,13 +236,16 @@ def with_commas(digits):
     return f"{int(digits.replace('_', '')):,}" if re.fullmatch(r"[\d_]+", digits) else digits
 
 
+INSPECTS = ("at", "channel", "connection", "from", "full", "timeline", "to")
+
+
 def options(counts):
     """The table of options in docs/OPERATING.md beside what the code has."""
     console = "crates/enet_console/src/"
     made = {}
     for name, ends, default in [*options_of(read(console + "command_line.rt")), *options_of(read(console + "admission.rt"))]:
         made.setdefault(name, (ends, default))
-    made = {name: what for name, what in made.items() if name not in ("at", "clients", "timeline")}
+    made = {name: what for name, what in made.items() if name not in INSPECTS and name != "clients"}
     rows = re.findall(r"^\| (`--[^|]*) \| ([^|]*) \|", read("docs/OPERATING.md"), re.M)
     told = {name: says for cell, says in rows for name in re.findall(r"--([\w-]+)", cell)}
     counts.check(set(made) == set(told), f"docs/OPERATING.md: options of the code or of the table alone: {sorted(set(made) ^ set(told))}")
