@@ -1,0 +1,538 @@
+//! A host without a socket and a clock.
+
+use crate::error::{Error, Stop};
+use crate::ffi::{self, Config, Handle, Held, Peer, RawEvent, RawReading, Slots, Totals, ROOM};
+use std::fmt;
+use std::net::{Ipv4Addr, SocketAddrV4};
+
+const RELIABLE: u8 = 1;
+const UNSEQUENCED: u8 = 2;
+const UNRELIABLE_FRAGMENT: u8 = 8;
+
+/// The version of the library that was linked: major, minor and patch.
+pub fn version() -> (u32, u32, u32) {
+    ffi::version()
+}
+
+impl Config {
+    /// Settings for most hosts: an mtu of 1,392 bytes, no bandwidth limits, the greatest `max_packet` and `max_waiting`, 1,000,000
+    /// generations, and a clock at 0. [`Host::open`] checks them.
+    pub fn standard(peers: u16, channels: u8) -> Config {
+        ffi::standard(peers, channels)
+    }
+}
+
+/// How a packet is delivered.
+#[derive(Clone, Copy, Debug, PartialEq, Eq, Hash)]
+pub enum Delivery {
+    /// It is sent again until it is acknowledged, and arrives once, in the order of its channel.
+    Reliable,
+    /// It may be lost. Those that arrive are in the order of their channel. A long one is cut into pieces that may be lost, so that it is
+    /// never made reliable by its length.
+    Unreliable,
+    /// It may be lost and arrives in any order. One that is too long for a datagram is sent reliably.
+    Unsequenced,
+}
+
+impl Delivery {
+    /// The flags by which a packet is submitted.
+    fn flags(self) -> u8 {
+        match self {
+            Delivery::Reliable => RELIABLE,
+            Delivery::Unreliable => UNRELIABLE_FRAGMENT,
+            Delivery::Unsequenced => UNSEQUENCED,
+        }
+    }
+
+    /// How a packet with these flags came.
+    fn of(flags: u8) -> Delivery {
+        match flags {
+            RELIABLE => Delivery::Reliable,
+            UNSEQUENCED => Delivery::Unsequenced,
+            _ => Delivery::Unreliable,
+        }
+    }
+}
+
+/// An event of a host. Each connection has one `Connect`, then its packets in order, then one `Disconnect`, after which the peer's name is
+/// spent. A connection that this end asked for and that fails has a `Disconnect` alone.
+#[derive(Clone, Debug, PartialEq, Eq)]
+#[non_exhaustive]
+pub enum Event {
+    /// A peer is connected.
+    #[non_exhaustive]
+    Connect {
+        /// Its name.
+        peer: Peer,
+        /// Its address.
+        address: SocketAddrV4,
+        /// The number of the end that connected; at that end itself 0.
+        info: u32,
+    },
+    /// A connection has ended.
+    #[non_exhaustive]
+    Disconnect {
+        /// The name of the peer, which is spent.
+        peer: Peer,
+        /// Its address.
+        address: SocketAddrV4,
+        /// The other end's number; 0 if this end asked or the peer timed out.
+        info: u32,
+    },
+    /// A packet came.
+    #[non_exhaustive]
+    Receive {
+        /// From whom.
+        peer: Peer,
+        /// Its address.
+        address: SocketAddrV4,
+        /// On which channel.
+        channel: u8,
+        /// How it was carried. A long packet that was submitted without flag 8 of ENet may have been made reliable by its sender.
+        delivery: Delivery,
+        /// Its bytes.
+        body: Vec<u8>,
+    },
+}
+
+impl Event {
+    /// Whose event it is.
+    pub fn peer(&self) -> Peer {
+        match self {
+            Event::Connect { peer, .. }
+            | Event::Disconnect { peer, .. }
+            | Event::Receive { peer, .. } => *peer,
+        }
+    }
+
+    /// The address of its peer.
+    pub fn address(&self) -> SocketAddrV4 {
+        match self {
+            Event::Connect { address, .. }
+            | Event::Disconnect { address, .. }
+            | Event::Receive { address, .. } => *address,
+        }
+    }
+}
+
+/// What became of a datagram.
+#[derive(Clone, Copy, Debug, PartialEq, Eq)]
+pub struct Received {
+    /// How many of its commands took effect.
+    pub handled: u32,
+    /// Why the rest wasn't read; `None` if all of it was.
+    pub stop: Option<Stop>,
+}
+
+/// A datagram that is to be sent.
+#[derive(Clone, Copy, Debug, PartialEq, Eq)]
+pub struct Datagram<'a> {
+    /// Where it goes.
+    pub to: SocketAddrV4,
+    /// Whose it is.
+    pub peer: Peer,
+    /// Its bytes.
+    pub bytes: &'a [u8],
+}
+
+/// How far a connection is.
+#[derive(Clone, Copy, Debug, PartialEq, Eq, Hash)]
+#[non_exhaustive]
+pub enum State {
+    /// The slot is free.
+    Free,
+    /// This end asked, and wasn't answered yet.
+    Connecting,
+    /// This end answered a client that hasn't confirmed it yet.
+    Answering,
+    /// Packets can be submitted.
+    Connected,
+    /// It is to end once all is sent and acknowledged.
+    DisconnectLater,
+    /// This end asked to end it.
+    Disconnecting,
+    /// The other end asked to end it.
+    Acknowledging,
+    /// Its last events are not taken yet.
+    Ended,
+    /// Its last datagram is not sent yet.
+    Parting,
+    /// A number that this crate doesn't know, from a newer library.
+    Other(u32),
+}
+
+impl State {
+    fn numbered(number: u32) -> State {
+        match number {
+            0 => State::Free,
+            1 => State::Connecting,
+            2 => State::Answering,
+            3 => State::Connected,
+            4 => State::DisconnectLater,
+            5 => State::Disconnecting,
+            6 => State::Acknowledging,
+            7 => State::Ended,
+            8 => State::Parting,
+            other => State::Other(other),
+        }
+    }
+}
+
+/// What can be read of a peer.
+#[derive(Clone, Copy, Debug, PartialEq, Eq)]
+#[non_exhaustive]
+pub struct Reading {
+    /// How far its connection is.
+    pub state: State,
+    /// The longest datagram, in bytes, as agreed.
+    pub mtu: u32,
+    /// Bytes of reliable packets that may be in transit: 4,096 to 65,536.
+    pub window: u32,
+    /// The word of the end that connected.
+    pub connect_id: u32,
+    /// The mean round trip in milliseconds, 500 at first.
+    pub round_trip: u32,
+    /// The mean deviation of round trips, in milliseconds.
+    pub variance: u32,
+    /// Bytes of reliable packets that were sent and are neither acknowledged nor due to be resent.
+    pub in_transit: u32,
+    /// How many of 32 unreliable packets are sent.
+    pub throttle: u32,
+    /// The throttle's interval in milliseconds.
+    pub throttle_interval: u32,
+    /// By how much the throttle rises in an interval, in parts of 32.
+    pub acceleration: u32,
+    /// By how much the throttle falls in an interval, in parts of 32.
+    pub deceleration: u32,
+    /// The peer's address.
+    pub address: SocketAddrV4,
+    /// The peer's slot for this connection at the other end, 0xFFF before it is known.
+    pub slot: u16,
+    /// How many channels the connection has.
+    pub channels: u8,
+    /// The session number of datagrams that come, 0 to 3.
+    pub incoming_session: u8,
+    /// The session number of datagrams that are sent, 0 to 3.
+    pub outgoing_session: u8,
+}
+
+impl From<RawReading> for Reading {
+    fn from(read: RawReading) -> Reading {
+        Reading {
+            state: State::numbered(read.state),
+            mtu: read.mtu,
+            window: read.window,
+            connect_id: read.connect_id,
+            round_trip: read.round_trip,
+            variance: read.variance,
+            in_transit: read.in_transit,
+            throttle: read.throttle,
+            throttle_interval: read.throttle_interval,
+            acceleration: read.acceleration,
+            deceleration: read.deceleration,
+            address: read.address(),
+            slot: read.slot,
+            channels: read.channels,
+            incoming_session: read.incoming_session,
+            outgoing_session: read.outgoing_session,
+        }
+    }
+}
+
+/// A host without a socket and a clock. Datagrams that came go in by [`receive`](Host::receive), time by [`tick`](Host::tick); datagrams to
+/// send come out by [`transmit`](Host::transmit), events by [`next_event`](Host::next_event). It does the same at each run if these calls
+/// are the same.
+///
+/// It may be moved to another thread, and isn't shared by threads. Dropped, it is closed: no peer is notified.
+///
+/// ```compile_fail
+/// fn share<T: Sync>() {}
+/// share::<gofnjerta::Host>();
+/// ```
+pub struct Host {
+    handle: Handle,
+    room: Vec<u8>,
+    /// Of each slot the last peer whose address is known.
+    addresses: Vec<Option<(u32, SocketAddrV4)>>,
+    /// An event that the library told and for which there was no memory yet.
+    told: Option<RawEvent>,
+}
+
+impl fmt::Debug for Host {
+    fn fmt(&self, f: &mut fmt::Formatter<'_>) -> fmt::Result {
+        f.debug_struct("Host")
+            .field("slots", &self.read_slots())
+            .finish_non_exhaustive()
+    }
+}
+
+impl Host {
+    /// Opens a host. `BadConfig` if a setting is out of its range, `Memory`.
+    pub fn open(config: &Config) -> Result<Host, Error> {
+        let mut room = Vec::new();
+        room.try_reserve_exact(ROOM).map_err(|_| Error::Memory)?;
+        room.resize(ROOM, 0);
+        let slots = usize::from(config.peers);
+        let mut addresses = Vec::new();
+        addresses
+            .try_reserve_exact(slots)
+            .map_err(|_| Error::Memory)?;
+        addresses.resize(slots, None);
+        Ok(Host {
+            handle: Handle::open(config)?,
+            room,
+            addresses,
+            told: None,
+        })
+    }
+
+    /// Asks the host at an address for a connection with 1 to 255 channels, from the lowest free slot. `info` is a number for its user. A
+    /// `Connect` or a `Disconnect` follows. `BadConfig` for no channels, `NoSlot`, `Memory`.
+    ///
+    /// `word` names the connection: draw it by [`random`](crate::random), anew for each. A stranger who can guess it, and forges the
+    /// server's address, can be taken for the server. [`Endpoint::connect`](crate::Endpoint::connect) draws it.
+    pub fn connect(
+        &mut self,
+        to: SocketAddrV4,
+        channels: u8,
+        info: u32,
+        word: u32,
+    ) -> Result<Peer, Error> {
+        let peer = self.handle.connect(to, channels, info, word)?;
+        self.note(peer, to);
+        Ok(peer)
+    }
+
+    /// Submits a packet, whose bytes are copied. `NoSuchPeer`, `NotConnected`, `NoSuchChannel`, `TooLarge`, `Memory`.
+    pub fn submit(
+        &mut self,
+        peer: Peer,
+        channel: u8,
+        delivery: Delivery,
+        body: &[u8],
+    ) -> Result<(), Error> {
+        self.handle.submit(peer, channel, delivery.flags(), body)
+    }
+
+    /// Submits a packet to each of these peers; they share one copy of its bytes. Peers that have gone or aren't connected are skipped. If
+    /// one peer refuses it for another reason, the others still get it, and the first such reason is returned: `NoSuchChannel`, `TooLarge`,
+    /// `Memory`. No peer gets it if there is no memory for the copy.
+    pub fn broadcast(
+        &mut self,
+        peers: &[Peer],
+        channel: u8,
+        delivery: Delivery,
+        body: &[u8],
+    ) -> Result<(), Error> {
+        self.handle
+            .broadcast(peers, channel, delivery.flags(), body)
+    }
+
+    /// Takes in a datagram that came from an address. Pass over what comes from port 0, to which nothing can be sent.
+    pub fn receive(&mut self, from: SocketAddrV4, datagram: &[u8]) -> Result<Received, Error> {
+        let received = self.handle.receive(from, datagram)?;
+        Ok(Received {
+            handled: received.handled,
+            stop: match received.stop {
+                0 => None,
+                stop => Some(Stop(stop)),
+            },
+        })
+    }
+
+    /// The next datagram to send; `None` if there is none. Call it until then: after each tick, after datagrams came, and after calls that
+    /// send. What can't be sent may be dropped.
+    pub fn transmit(&mut self) -> Result<Option<Datagram<'_>>, Error> {
+        Ok(match self.handle.service(&mut self.room)? {
+            None => None,
+            Some((length, to, peer)) => Some(Datagram {
+                to,
+                peer,
+                bytes: &self.room[..length],
+            }),
+        })
+    }
+
+    /// The clock goes on by so many milliseconds, 60,000 at most. Commands whose timeout is over are resent, quiet peers pinged, and peers
+    /// that are silent too long dropped. Tick every few milliseconds, or when [`due_in`](Host::due_in) says.
+    pub fn tick(&mut self, ms: u32) -> Result<(), Error> {
+        self.handle.tick(ms)
+    }
+
+    /// In how many milliseconds time brings something, at most 1,000: a shorter tick only changes the clock. A program that has sent all
+    /// that [`transmit`](Host::transmit) gives may sleep that long, unless a datagram comes.
+    pub fn due_in(&self) -> Result<u32, Error> {
+        self.handle.due_in()
+    }
+
+    /// The next event; `None` if there is none. After `Memory` the next call returns the same event.
+    pub fn next_event(&mut self) -> Result<Option<Event>, Error> {
+        let told = match self.told.take() {
+            Some(told) => told,
+            None => match self.handle.next_event()? {
+                Some(told) => told,
+                None => return Ok(None),
+            },
+        };
+        let event = self.event_of(&told);
+        if event.is_err() {
+            self.told = Some(told);
+        }
+        event.map(Some)
+    }
+
+    fn event_of(&mut self, told: &RawEvent) -> Result<Event, Error> {
+        let peer = told.peer;
+        let address = self.address_of(peer);
+        let info = told.info;
+        Ok(match told.kind {
+            1 => Event::Connect {
+                peer,
+                address,
+                info,
+            },
+            2 => Event::Disconnect {
+                peer,
+                address,
+                info,
+            },
+            _ => Event::Receive {
+                peer,
+                address,
+                channel: told.channel,
+                delivery: Delivery::of(told.flags),
+                body: self.handle.body(told.length)?,
+            },
+        })
+    }
+
+    fn note(&mut self, peer: Peer, address: SocketAddrV4) {
+        if let Some(place) = self.addresses.get_mut(usize::from(peer.slot)) {
+            *place = Some((peer.generation, address));
+        }
+    }
+
+    /// The address of a peer that has an event: as it was noted, or else as the library has it.
+    fn address_of(&mut self, peer: Peer) -> SocketAddrV4 {
+        if let Some(Some((generation, address))) = self.addresses.get(usize::from(peer.slot)) {
+            if *generation == peer.generation {
+                return *address;
+            }
+        }
+        match self.handle.read_peer(peer) {
+            Ok(read) => {
+                self.note(peer, read.address());
+                read.address()
+            }
+            Err(_) => SocketAddrV4::new(Ipv4Addr::UNSPECIFIED, 0),
+        }
+    }
+
+    /// Disconnects a peer, with a number for the other end's user: drops what is queued or held. Packets that wait as events still come,
+    /// and then the `Disconnect`, once the other end has acknowledged. `NoSuchPeer`; `NotConnected` if it is disconnecting already.
+    pub fn disconnect(&mut self, peer: Peer, info: u32) -> Result<(), Error> {
+        self.handle.disconnect(peer, info)
+    }
+
+    /// Disconnects a peer at once: the other end is sent one datagram, no event comes here, and the name is spent. `NoSuchPeer`;
+    /// `NotConnected` if it is disconnecting already.
+    pub fn disconnect_now(&mut self, peer: Peer, info: u32) -> Result<(), Error> {
+        self.handle.disconnect_now(peer, info)
+    }
+
+    /// Disconnects a peer once everything queued is sent and each reliable packet is acknowledged. `NoSuchPeer`; `NotConnected` if it is
+    /// disconnecting already.
+    pub fn disconnect_later(&mut self, peer: Peer, info: u32) -> Result<(), Error> {
+        self.handle.disconnect_later(peer, info)
+    }
+
+    /// Sets the host's secret: 32 bytes that the system drew ([`random`](crate::random)) and that nobody else knows. By them each peer that
+    /// begins from now on gets sent times and numbers of its own, so that a stranger who forges an address and doesn't see the answers
+    /// can't connect in its name. Set it once, before the first datagram and the first [`connect`](Host::connect).
+    /// [`Endpoint`](crate::Endpoint) sets its own.
+    pub fn set_secret(&mut self, key: &[u8; 32]) -> Result<(), Error> {
+        self.handle.set_secret(key)
+    }
+
+    /// From now on a CONNECT that finds no free slot takes that of the peer which has waited longest for its client to confirm the answer:
+    /// that peer is let go, with no event. A connected peer keeps its slot. Open the host with `u32::MAX` generations, since each CONNECT
+    /// that takes a slot uses one up.
+    pub fn give_way(&mut self) -> Result<(), Error> {
+        self.handle.give_way()
+    }
+
+    /// Sets how many peers that began by a CONNECT may be connected or leaving at once: 1 to the number of slots. A client that confirms
+    /// where as many are there is told that the host is full (a `Disconnect` with `u32::MAX`), and let go, with no event. Open the host
+    /// with more slots than that, for those that ask. `BadConfig`.
+    pub fn set_most(&mut self, peers: u16) -> Result<(), Error> {
+        self.handle.set_most(peers)
+    }
+
+    /// Sets the host's bandwidths, in bytes per second; 0: no limit is known. Each connected peer is sent them. `Memory`.
+    pub fn set_bandwidth(&mut self, incoming: u32, outgoing: u32) -> Result<(), Error> {
+        self.handle.set_bandwidth(incoming, outgoing)
+    }
+
+    /// Sets after how many milliseconds of silence a peer is pinged; 0 means 500. `NoSuchPeer`.
+    pub fn set_ping_interval(&mut self, peer: Peer, ms: u32) -> Result<(), Error> {
+        self.handle.set_ping_interval(peer, ms)
+    }
+
+    /// Sets how long a peer may leave a command unacknowledged. It is dropped when a try fails `maximum` milliseconds or more after the
+    /// command was first sent, or once two tries have failed that were made `minimum` milliseconds after that and after the last
+    /// acknowledgement of any command, if 2 to the power of (sends - 1) is at least `limit`. 0 means the standard number: 32, 5,000 and
+    /// 30,000. `NoSuchPeer`.
+    pub fn set_timeout(
+        &mut self,
+        peer: Peer,
+        limit: u32,
+        minimum: u32,
+        maximum: u32,
+    ) -> Result<(), Error> {
+        self.handle.set_timeout(peer, limit, minimum, maximum)
+    }
+
+    /// Sets a connected peer's throttle: its interval in milliseconds, and by how much it rises and falls, in parts of 32. The other end is
+    /// sent these. `NoSuchPeer`, `NotConnected`, `Memory`.
+    pub fn throttle_configure(
+        &mut self,
+        peer: Peer,
+        interval: u32,
+        acceleration: u32,
+        deceleration: u32,
+    ) -> Result<(), Error> {
+        self.handle
+            .throttle_configure(peer, interval, acceleration, deceleration)
+    }
+
+    /// Reads a peer. `NoSuchPeer`.
+    pub fn read_peer(&self, peer: Peer) -> Result<Reading, Error> {
+        self.handle.read_peer(peer).map(Reading::from)
+    }
+
+    /// Reads a peer's allowance in bytes, 2,800 to 131,072: as much may be in transit to it, where each command of a reliable packet counts
+    /// 28 more than it carries. It falls if the line drops packets, and grows as they are acknowledged. `NoSuchPeer`.
+    pub fn read_allowance(&self, peer: Peer) -> Result<u32, Error> {
+        self.handle.read_allowance(peer)
+    }
+
+    /// Reads how much went through the host.
+    pub fn read_totals(&self) -> Result<Totals, Error> {
+        self.handle.read_totals()
+    }
+
+    /// Reads how much the host holds of what others sent. It looks at each slot.
+    pub fn read_held(&self) -> Result<Held, Error> {
+        self.handle.read_held()
+    }
+
+    /// Reads how the slots are. It looks at each of them.
+    pub fn read_slots(&self) -> Result<Slots, Error> {
+        self.handle.read_slots()
+    }
+
+    /// Reads how many commands of all peers aren't acknowledged and were sent more than once.
+    pub fn read_sent_again(&self) -> Result<u64, Error> {
+        self.handle.read_sent_again()
+    }
+}
