@@ -20,10 +20,7 @@ fn link_archive(folder: &Path) -> PathBuf {
         give_up(&format!("there is no {}", archive.display()));
     }
     println!("cargo:rerun-if-changed={}", archive.display());
-    println!(
-        "cargo:rustc-link-search=native={}",
-        folder.join("lib").display()
-    );
+    println!("cargo:rustc-link-search=native={}", folder.join("lib").display());
     println!("cargo:rustc-link-lib=static=gofnjerta");
     folder.join("include")
 }
@@ -32,19 +29,11 @@ fn link_archive(folder: &Path) -> PathBuf {
 fn ask_pkg_config(words: &[&str]) -> String {
     let program = env::var_os("PKG_CONFIG").unwrap_or_else(|| OsString::from("pkg-config"));
     match Command::new(&program).args(words).output() {
-        Ok(answer) if answer.status.success() => {
-            String::from_utf8_lossy(&answer.stdout).trim().to_string()
+        Ok(answer) if answer.status.success() => String::from_utf8_lossy(&answer.stdout).trim().to_string(),
+        Ok(answer) => {
+            give_up(&format!("pkg-config knows no gofnjerta ({})", String::from_utf8_lossy(&answer.stderr).trim().replace('\n', " ")))
         }
-        Ok(answer) => give_up(&format!(
-            "pkg-config knows no gofnjerta ({})",
-            String::from_utf8_lossy(&answer.stderr)
-                .trim()
-                .replace('\n', " ")
-        )),
-        Err(error) => give_up(&format!(
-            "GOFNJERTA_DIR isn't set, and {} can't be run: {error}",
-            program.to_string_lossy()
-        )),
+        Err(error) => give_up(&format!("GOFNJERTA_DIR isn't set, and {} can't be run: {error}", program.to_string_lossy())),
     }
 }
 
@@ -70,8 +59,5 @@ fn main() {
         None => link_by_pkg_config(),
     };
     // Where a test finds the table of sizes and offsets.
-    println!(
-        "cargo:rustc-env=GOFNJERTA_LAYOUT={}",
-        headers.join("gofnjerta_layout.h").display()
-    );
+    println!("cargo:rustc-env=GOFNJERTA_LAYOUT={}", headers.join("gofnjerta_layout.h").display());
 }

@@ -3,7 +3,7 @@
 use crate::draw::{random, Drawn};
 use crate::error::{EndpointError, Error};
 use crate::ffi::{wait_for, Config, Peer};
-use crate::host::{Delivery, Event, Host};
+use crate::host::{Delivery, Event, Host, ENDLESS};
 use crate::line::{copied, Flights, Line, Way};
 use std::fmt;
 use std::io::{self, ErrorKind};
@@ -41,12 +41,7 @@ impl Simulation {
 }
 
 /// Puts a datagram on a simulated line.
-fn put(
-    flights: &mut Flights<(SocketAddrV4, Vec<u8>)>,
-    arrivals: (Option<u64>, Option<u64>),
-    address: SocketAddrV4,
-    bytes: &[u8],
-) {
+fn put(flights: &mut Flights<(SocketAddrV4, Vec<u8>)>, arrivals: (Option<u64>, Option<u64>), address: SocketAddrV4, bytes: &[u8]) {
     for due in [arrivals.0, arrivals.1].iter().flatten() {
         if let Some(copy) = copied(bytes) {
             flights.send(*due, (address, copy));
@@ -71,10 +66,7 @@ pub struct Endpoint {
 
 impl fmt::Debug for Endpoint {
     fn fmt(&self, f: &mut fmt::Formatter<'_>) -> fmt::Result {
-        f.debug_struct("Endpoint")
-            .field("address", &self.address())
-            .field("host", &self.host)
-            .finish_non_exhaustive()
+        f.debug_struct("Endpoint").field("address", &self.address()).field("host", &self.host).finish_non_exhaustive()
     }
 }
 
@@ -98,27 +90,15 @@ impl Endpoint {
         room.resize(LONGEST, 0);
         let socket = UdpSocket::bind(address_of(address)?)?;
         socket.set_nonblocking(true)?;
-        Ok(Endpoint {
-            host,
-            socket,
-            begun: Instant::now(),
-            clock: 0,
-            room,
-            unsent: 0,
-            simulation: None,
-        })
+        Ok(Endpoint { host, socket, begun: Instant::now(), clock: 0, room, unsent: 0, simulation: None })
     }
 
     /// Opens a server for so many players, 1 to 3,071, with at most so many channels each. It has 1,024 more slots for clients that ask,
-    /// of which the oldest gives way ([`Host::give_way`]), and `u32::MAX` generations.
-    pub fn server<A: ToSocketAddrs>(
-        address: A,
-        players: u16,
-        channels: u8,
-    ) -> Result<Endpoint, EndpointError> {
+    /// of which the oldest gives way ([`Host::give_way`]), and [`ENDLESS`](crate::ENDLESS) generations.
+    pub fn server<A: ToSocketAddrs>(address: A, players: u16, channels: u8) -> Result<Endpoint, EndpointError> {
         let slots = players.saturating_add(FOR_THOSE_THAT_ASK);
         let mut config = Config::standard(slots, channels);
-        config.generations = u32::MAX;
+        config.generations = ENDLESS;
         let mut endpoint = Endpoint::open(address, &config)?;
         endpoint.host.give_way()?;
         endpoint.host.set_most(players)?;
@@ -159,11 +139,7 @@ impl Endpoint {
     pub fn simulate(&mut self, loss: f64, delay: Duration) -> Result<(), EndpointError> {
         self.simulation = None;
         if loss > 0.0 || delay > Duration::ZERO {
-            let line = Line {
-                loss,
-                delay: u32::try_from(delay.as_millis()).unwrap_or(u32::MAX),
-                ..Line::default()
-            };
+            let line = Line { loss, delay: u32::try_from(delay.as_millis()).unwrap_or(u32::MAX), ..Line::default() };
             let seed = u64::from_ne_bytes(random()?);
             self.simulation = Some(Simulation::new(seed, line));
         }
@@ -172,12 +148,7 @@ impl Endpoint {
 
     /// Asks the host at an address of IPv4 for a connection with 1 to 255 channels, as [`Host::connect`] does, with a word that the system
     /// draws. The CONNECT is sent by the next [`service`](Endpoint::service).
-    pub fn connect<A: ToSocketAddrs>(
-        &mut self,
-        address: A,
-        channels: u8,
-        info: u32,
-    ) -> Result<Peer, EndpointError> {
+    pub fn connect<A: ToSocketAddrs>(&mut self, address: A, channels: u8, info: u32) -> Result<Peer, EndpointError> {
         let to = address_of(address)?;
         let word = u32::from_ne_bytes(random()?);
         Ok(self.host.connect(to, channels, info, word)?)
@@ -211,16 +182,11 @@ impl Endpoint {
         self.go_on()?;
         while let Some(datagram) = self.host.transmit()? {
             match &mut self.simulation {
-                None => {
-                    self.unsent += u64::from(is_refused(&self.socket, datagram.to, datagram.bytes))
-                }
+                None => self.unsent += u64::from(is_refused(&self.socket, datagram.to, datagram.data)),
                 Some(simulation) => {
                     let now = self.begun.elapsed().as_micros() as u64;
-                    let arrivals =
-                        simulation
-                            .outward
-                            .carry(&mut simulation.drawn, now, datagram.bytes.len());
-                    put(&mut simulation.going, arrivals, datagram.to, datagram.bytes);
+                    let arrivals = simulation.outward.carry(&mut simulation.drawn, now, datagram.data.len());
+                    put(&mut simulation.going, arrivals, datagram.to, datagram.data);
                 }
             }
         }
@@ -288,10 +254,7 @@ impl Endpoint {
         let mut ms = u64::from(self.host.due_in()?).min(left.as_millis() as u64 + 1);
         if let Some(simulation) = &self.simulation {
             let now = self.begun.elapsed().as_micros() as u64;
-            for due in [simulation.coming.due(), simulation.going.due()]
-                .iter()
-                .flatten()
-            {
+            for due in [simulation.coming.due(), simulation.going.due()].iter().flatten() {
                 ms = ms.min(due.saturating_sub(now) / 1000 + 1);
             }
         }
@@ -300,25 +263,13 @@ impl Endpoint {
     }
 
     /// As [`Host::submit`].
-    pub fn submit(
-        &mut self,
-        peer: Peer,
-        channel: u8,
-        delivery: Delivery,
-        body: &[u8],
-    ) -> Result<(), Error> {
-        self.host.submit(peer, channel, delivery, body)
+    pub fn submit(&mut self, peer: Peer, channel: u8, data: &[u8], delivery: Delivery) -> Result<(), Error> {
+        self.host.submit(peer, channel, data, delivery)
     }
 
     /// As [`Host::broadcast`].
-    pub fn broadcast(
-        &mut self,
-        peers: &[Peer],
-        channel: u8,
-        delivery: Delivery,
-        body: &[u8],
-    ) -> Result<(), Error> {
-        self.host.broadcast(peers, channel, delivery, body)
+    pub fn broadcast(&mut self, peers: &[Peer], channel: u8, data: &[u8], delivery: Delivery) -> Result<(), Error> {
+        self.host.broadcast(peers, channel, data, delivery)
     }
 
     /// As [`Host::disconnect`].
@@ -350,11 +301,5 @@ fn is_refused(socket: &UdpSocket, to: SocketAddrV4, bytes: &[u8]) -> bool {
 
 /// Whether a reception that failed so says nothing of the next one.
 fn is_passing(error: &io::Error) -> bool {
-    matches!(
-        error.kind(),
-        ErrorKind::Interrupted
-            | ErrorKind::ConnectionRefused
-            | ErrorKind::ConnectionReset
-            | ErrorKind::OutOfMemory
-    )
+    matches!(error.kind(), ErrorKind::Interrupted | ErrorKind::ConnectionRefused | ErrorKind::ConnectionReset | ErrorKind::OutOfMemory)
 }

@@ -111,10 +111,7 @@ struct RawAddress {
 
 impl From<SocketAddrV4> for RawAddress {
     fn from(address: SocketAddrV4) -> RawAddress {
-        RawAddress {
-            ip: u32::from(*address.ip()),
-            port: address.port(),
-        }
+        RawAddress { ip: u32::from(*address.ip()), port: address.port() }
     }
 }
 
@@ -126,10 +123,7 @@ impl From<RawAddress> for SocketAddrV4 {
 
 const NO_ADDRESS: RawAddress = RawAddress { ip: 0, port: 0 };
 
-const NO_PEER: Peer = Peer {
-    slot: 0,
-    generation: 0,
-};
+const NO_PEER: Peer = Peer { slot: 0, generation: 0 };
 
 /// A handle, whose fields only the library reads.
 #[repr(C)]
@@ -207,22 +201,8 @@ extern "C" {
     fn gofnjerta_standard(peers: u16, channels: u8) -> Config;
     fn gofnjerta_open(host: *mut RawHost, config: *const Config) -> u32;
     fn gofnjerta_close(host: *mut RawHost) -> u32;
-    fn gofnjerta_connect(
-        host: *mut RawHost,
-        to: RawAddress,
-        channels: u8,
-        info: u32,
-        word: u32,
-        peer: *mut Peer,
-    ) -> u32;
-    fn gofnjerta_submit(
-        host: *mut RawHost,
-        peer: Peer,
-        channel: u8,
-        flags: u8,
-        body: *const c_void,
-        length: usize,
-    ) -> u32;
+    fn gofnjerta_connect(host: *mut RawHost, to: RawAddress, channels: u8, info: u32, word: u32, peer: *mut Peer) -> u32;
+    fn gofnjerta_submit(host: *mut RawHost, peer: Peer, channel: u8, flags: u8, body: *const c_void, length: usize) -> u32;
     fn gofnjerta_broadcast(
         host: *mut RawHost,
         peers: *const Peer,
@@ -232,19 +212,8 @@ extern "C" {
         body: *const c_void,
         length: usize,
     ) -> u32;
-    fn gofnjerta_receive(
-        host: *mut RawHost,
-        from: RawAddress,
-        datagram: *const c_void,
-        length: usize,
-        received: *mut RawReceived,
-    ) -> u32;
-    fn gofnjerta_service(
-        host: *mut RawHost,
-        buffer: *mut c_void,
-        room: usize,
-        datagram: *mut RawDatagram,
-    ) -> u32;
+    fn gofnjerta_receive(host: *mut RawHost, from: RawAddress, datagram: *const c_void, length: usize, received: *mut RawReceived) -> u32;
+    fn gofnjerta_service(host: *mut RawHost, buffer: *mut c_void, room: usize, datagram: *mut RawDatagram) -> u32;
     fn gofnjerta_tick(host: *mut RawHost, ms: u32) -> u32;
     fn gofnjerta_due_in(host: *mut RawHost, ms: *mut u32) -> u32;
     fn gofnjerta_next_event(host: *mut RawHost, event: *mut RawEvent) -> u32;
@@ -256,21 +225,9 @@ extern "C" {
     fn gofnjerta_set_secret(host: *mut RawHost, key: *const u8) -> u32;
     fn gofnjerta_give_way(host: *mut RawHost) -> u32;
     fn gofnjerta_set_most(host: *mut RawHost, peers: u16) -> u32;
-    fn gofnjerta_throttle_configure(
-        host: *mut RawHost,
-        peer: Peer,
-        interval: u32,
-        acceleration: u32,
-        deceleration: u32,
-    ) -> u32;
+    fn gofnjerta_throttle_configure(host: *mut RawHost, peer: Peer, interval: u32, acceleration: u32, deceleration: u32) -> u32;
     fn gofnjerta_set_ping_interval(host: *mut RawHost, peer: Peer, ms: u32) -> u32;
-    fn gofnjerta_set_timeout(
-        host: *mut RawHost,
-        peer: Peer,
-        limit: u32,
-        minimum: u32,
-        maximum: u32,
-    ) -> u32;
+    fn gofnjerta_set_timeout(host: *mut RawHost, peer: Peer, limit: u32, minimum: u32, maximum: u32) -> u32;
     fn gofnjerta_read_peer(host: *mut RawHost, peer: Peer, reading: *mut RawReading) -> u32;
     fn gofnjerta_read_allowance(host: *mut RawHost, peer: Peer, bytes: *mut u32) -> u32;
     fn gofnjerta_read_totals(host: *mut RawHost, totals: *mut Totals) -> u32;
@@ -334,109 +291,41 @@ impl Handle {
     }
 
     pub(crate) fn open(config: &Config) -> Result<Handle, Error> {
-        let mut host = RawHost {
-            at: ptr::null_mut(),
-            is_open: false,
-        };
+        let mut host = RawHost { at: ptr::null_mut(), is_open: false };
         // SAFETY: the handle is all zero bytes; both pointers are to values of their types.
         answer(unsafe { gofnjerta_open(&mut host, config) })?;
         Ok(Handle(UnsafeCell::new(host)))
     }
 
-    pub(crate) fn connect(
-        &mut self,
-        to: SocketAddrV4,
-        channels: u8,
-        info: u32,
-        word: u32,
-    ) -> Result<Peer, Error> {
+    pub(crate) fn connect(&mut self, to: SocketAddrV4, channels: u8, info: u32, word: u32) -> Result<Peer, Error> {
         let mut peer = NO_PEER;
         // SAFETY: the handle is open, and `peer` is a value of its type.
-        answer(unsafe {
-            gofnjerta_connect(self.raw(), to.into(), channels, info, word, &mut peer)
-        })?;
+        answer(unsafe { gofnjerta_connect(self.raw(), to.into(), channels, info, word, &mut peer) })?;
         Ok(peer)
     }
 
-    pub(crate) fn submit(
-        &mut self,
-        peer: Peer,
-        channel: u8,
-        flags: u8,
-        body: &[u8],
-    ) -> Result<(), Error> {
+    pub(crate) fn submit(&mut self, peer: Peer, channel: u8, flags: u8, body: &[u8]) -> Result<(), Error> {
         // SAFETY: the handle is open, and as many bytes can be read as are named.
-        answer(unsafe {
-            gofnjerta_submit(
-                self.raw(),
-                peer,
-                channel,
-                flags,
-                body.as_ptr().cast(),
-                body.len(),
-            )
-        })
+        answer(unsafe { gofnjerta_submit(self.raw(), peer, channel, flags, body.as_ptr().cast(), body.len()) })
     }
 
-    pub(crate) fn broadcast(
-        &mut self,
-        peers: &[Peer],
-        channel: u8,
-        flags: u8,
-        body: &[u8],
-    ) -> Result<(), Error> {
+    pub(crate) fn broadcast(&mut self, peers: &[Peer], channel: u8, flags: u8, body: &[u8]) -> Result<(), Error> {
         // SAFETY: the handle is open, and as many peers and bytes can be read as are named.
-        answer(unsafe {
-            gofnjerta_broadcast(
-                self.raw(),
-                peers.as_ptr(),
-                peers.len(),
-                channel,
-                flags,
-                body.as_ptr().cast(),
-                body.len(),
-            )
-        })
+        answer(unsafe { gofnjerta_broadcast(self.raw(), peers.as_ptr(), peers.len(), channel, flags, body.as_ptr().cast(), body.len()) })
     }
 
-    pub(crate) fn receive(
-        &mut self,
-        from: SocketAddrV4,
-        datagram: &[u8],
-    ) -> Result<RawReceived, Error> {
+    pub(crate) fn receive(&mut self, from: SocketAddrV4, datagram: &[u8]) -> Result<RawReceived, Error> {
         let mut received = RawReceived::default();
         // SAFETY: the handle is open, as many bytes can be read as are named, and `received` is a value of its type.
-        answer(unsafe {
-            gofnjerta_receive(
-                self.raw(),
-                from.into(),
-                datagram.as_ptr().cast(),
-                datagram.len(),
-                &mut received,
-            )
-        })?;
+        answer(unsafe { gofnjerta_receive(self.raw(), from.into(), datagram.as_ptr().cast(), datagram.len(), &mut received) })?;
         Ok(received)
     }
 
     /// The next datagram is written to the front of the room: its length, where it is to be sent, and its peer.
-    pub(crate) fn service(
-        &mut self,
-        room: &mut [u8],
-    ) -> Result<Option<(usize, SocketAddrV4, Peer)>, Error> {
-        let mut datagram = RawDatagram {
-            length: 0,
-            to: NO_ADDRESS,
-            peer: NO_PEER,
-        };
+    pub(crate) fn service(&mut self, room: &mut [u8]) -> Result<Option<(usize, SocketAddrV4, Peer)>, Error> {
+        let mut datagram = RawDatagram { length: 0, to: NO_ADDRESS, peer: NO_PEER };
         // SAFETY: the handle is open, as many bytes can be written as are named, and `datagram` is a value of its type.
-        answer(unsafe {
-            gofnjerta_service(
-                self.raw(),
-                room.as_mut_ptr().cast(),
-                room.len(),
-                &mut datagram,
-            )
-        })?;
+        answer(unsafe { gofnjerta_service(self.raw(), room.as_mut_ptr().cast(), room.len(), &mut datagram) })?;
         Ok(match datagram.length {
             0 => None,
             length => Some((length as usize, datagram.to.into(), datagram.peer)),
@@ -456,14 +345,7 @@ impl Handle {
     }
 
     pub(crate) fn next_event(&mut self) -> Result<Option<RawEvent>, Error> {
-        let mut event = RawEvent {
-            kind: 0,
-            info: 0,
-            peer: NO_PEER,
-            channel: 0,
-            flags: 0,
-            length: 0,
-        };
+        let mut event = RawEvent { kind: 0, info: 0, peer: NO_PEER, channel: 0, flags: 0, length: 0 };
         // SAFETY: the handle is open, and `event` is a value of its type.
         answer(unsafe { gofnjerta_next_event(self.raw(), &mut event) })?;
         Ok(Some(event).filter(|event| event.kind != 0))
@@ -518,17 +400,9 @@ impl Handle {
         answer(unsafe { gofnjerta_set_most(self.raw(), peers) })
     }
 
-    pub(crate) fn throttle_configure(
-        &mut self,
-        peer: Peer,
-        interval: u32,
-        acceleration: u32,
-        deceleration: u32,
-    ) -> Result<(), Error> {
+    pub(crate) fn throttle_configure(&mut self, peer: Peer, interval: u32, acceleration: u32, deceleration: u32) -> Result<(), Error> {
         // SAFETY: the handle is open.
-        answer(unsafe {
-            gofnjerta_throttle_configure(self.raw(), peer, interval, acceleration, deceleration)
-        })
+        answer(unsafe { gofnjerta_throttle_configure(self.raw(), peer, interval, acceleration, deceleration) })
     }
 
     pub(crate) fn set_ping_interval(&mut self, peer: Peer, ms: u32) -> Result<(), Error> {
@@ -536,13 +410,7 @@ impl Handle {
         answer(unsafe { gofnjerta_set_ping_interval(self.raw(), peer, ms) })
     }
 
-    pub(crate) fn set_timeout(
-        &mut self,
-        peer: Peer,
-        limit: u32,
-        minimum: u32,
-        maximum: u32,
-    ) -> Result<(), Error> {
+    pub(crate) fn set_timeout(&mut self, peer: Peer, limit: u32, minimum: u32, maximum: u32) -> Result<(), Error> {
         // SAFETY: the handle is open.
         answer(unsafe { gofnjerta_set_timeout(self.raw(), peer, limit, minimum, maximum) })
     }
@@ -622,11 +490,7 @@ extern "C" {
 
 /// Waits until something came to the socket, for so many milliseconds at most.
 pub(crate) fn wait_for(socket: &UdpSocket, ms: u32) {
-    let mut asked = PollFd {
-        fd: socket.as_raw_fd(),
-        events: POLLIN,
-        revents: 0,
-    };
+    let mut asked = PollFd { fd: socket.as_raw_fd(), events: POLLIN, revents: 0 };
     let ms = c_int::try_from(ms).unwrap_or(c_int::MAX);
     // SAFETY: one entry is there, and the socket is open. An answer isn't needed: the socket is read in any case.
     unsafe { poll(&mut asked, 1, ms) };
@@ -640,11 +504,7 @@ mod tests {
 
     /// The lines of a structure as the header's table has them.
     fn structure<T>(name: &str) -> String {
-        format!(
-            "GOFNJERTA_STRUCT({name}, {}, {});",
-            size_of::<T>(),
-            align_of::<T>()
-        )
+        format!("GOFNJERTA_STRUCT({name}, {}, {});", size_of::<T>(), align_of::<T>())
     }
 
     /// How many bytes a field has, by a pointer to it.
@@ -675,42 +535,12 @@ mod tests {
     fn lines_here() -> Vec<String> {
         let mut lines = Vec::new();
         lines!(lines, "gofnjerta_host", RawHost, at, is_open);
-        lines!(
-            lines,
-            "gofnjerta_config",
-            Config,
-            peers,
-            channels,
-            mtu,
-            incoming,
-            outgoing,
-            max_packet,
-            max_waiting,
-            generations,
-            clock
-        );
+        lines!(lines, "gofnjerta_config", Config, peers, channels, mtu, incoming, outgoing, max_packet, max_waiting, generations, clock);
         lines!(lines, "gofnjerta_address", RawAddress, ip, port);
         lines!(lines, "gofnjerta_peer", Peer, slot, generation);
-        lines!(
-            lines,
-            "gofnjerta_received",
-            RawReceived,
-            status,
-            handled,
-            stop
-        );
+        lines!(lines, "gofnjerta_received", RawReceived, status, handled, stop);
         lines!(lines, "gofnjerta_datagram", RawDatagram, length, to, peer);
-        lines!(
-            lines,
-            "gofnjerta_event",
-            RawEvent,
-            kind,
-            info,
-            peer,
-            channel,
-            flags,
-            length
-        );
+        lines!(lines, "gofnjerta_event", RawEvent, kind, info, peer, channel, flags, length);
         lines!(
             lines,
             "gofnjerta_reading",
@@ -732,51 +562,17 @@ mod tests {
             incoming_session,
             outgoing_session
         );
-        lines!(
-            lines,
-            "gofnjerta_totals",
-            Totals,
-            datagrams_in,
-            bytes_in,
-            datagrams_out,
-            bytes_out
-        );
-        lines!(
-            lines,
-            "gofnjerta_held",
-            Held,
-            channels,
-            senders,
-            packets,
-            undispatched,
-            bytes,
-            acknowledgements,
-            memory,
-            most_memory
-        );
-        lines!(
-            lines,
-            "gofnjerta_slots",
-            Slots,
-            free,
-            spent,
-            connecting,
-            answering,
-            connected,
-            leaving
-        );
+        lines!(lines, "gofnjerta_totals", Totals, datagrams_in, bytes_in, datagrams_out, bytes_out);
+        lines!(lines, "gofnjerta_held", Held, channels, senders, packets, undispatched, bytes, acknowledgements, memory, most_memory);
+        lines!(lines, "gofnjerta_slots", Slots, free, spent, connecting, answering, connected, leaving);
         lines
     }
 
     #[test]
     fn sizes_and_offsets_are_those_of_the_header() {
         let table = std::fs::read_to_string(env!("GOFNJERTA_LAYOUT")).expect("gofnjerta_layout.h");
-        let wanted: Vec<&str> = table
-            .lines()
-            .filter(|line| {
-                line.starts_with("GOFNJERTA_STRUCT(") || line.starts_with("GOFNJERTA_FIELD(")
-            })
-            .collect();
+        let wanted: Vec<&str> =
+            table.lines().filter(|line| line.starts_with("GOFNJERTA_STRUCT(") || line.starts_with("GOFNJERTA_FIELD(")).collect();
         assert!(wanted.len() > 60, "the table has {} lines", wanted.len());
         assert_eq!(lines_here(), wanted);
     }
@@ -790,11 +586,7 @@ mod tests {
                 continue;
             }
             let name = format!("{error:?}");
-            assert!(
-                error.name().ends_with(&name),
-                "{} is no {name}",
-                error.name()
-            );
+            assert!(error.name().ends_with(&name), "{} is no {name}", error.name());
         }
         assert_eq!(Error::numbered(0), None);
         assert_eq!(RawReceived::default().status, 0);

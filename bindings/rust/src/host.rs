@@ -9,6 +9,12 @@ const RELIABLE: u8 = 1;
 const UNSEQUENCED: u8 = 2;
 const UNRELIABLE_FRAGMENT: u8 = 8;
 
+/// For [`Config::generations`]: no slot is ever spent.
+pub const ENDLESS: u32 = u32::MAX;
+
+/// The `info` of the `Disconnect` that a client gets from a server that is full ([`Host::set_most`]).
+pub const FULL: u32 = u32::MAX;
+
 /// The version of the library that was linked: major, minor and patch.
 pub fn version() -> (u32, u32, u32) {
     ffi::version()
@@ -91,7 +97,7 @@ pub enum Event {
         /// How it was carried. A long packet that was submitted without flag 8 of ENet may have been made reliable by its sender.
         delivery: Delivery,
         /// Its bytes.
-        body: Vec<u8>,
+        data: Vec<u8>,
     },
 }
 
@@ -99,18 +105,14 @@ impl Event {
     /// Whose event it is.
     pub fn peer(&self) -> Peer {
         match self {
-            Event::Connect { peer, .. }
-            | Event::Disconnect { peer, .. }
-            | Event::Receive { peer, .. } => *peer,
+            Event::Connect { peer, .. } | Event::Disconnect { peer, .. } | Event::Receive { peer, .. } => *peer,
         }
     }
 
     /// The address of its peer.
     pub fn address(&self) -> SocketAddrV4 {
         match self {
-            Event::Connect { address, .. }
-            | Event::Disconnect { address, .. }
-            | Event::Receive { address, .. } => *address,
+            Event::Connect { address, .. } | Event::Disconnect { address, .. } | Event::Receive { address, .. } => *address,
         }
     }
 }
@@ -132,7 +134,7 @@ pub struct Datagram<'a> {
     /// Whose it is.
     pub peer: Peer,
     /// Its bytes.
-    pub bytes: &'a [u8],
+    pub data: &'a [u8],
 }
 
 /// How far a connection is.
@@ -260,9 +262,7 @@ pub struct Host {
 
 impl fmt::Debug for Host {
     fn fmt(&self, f: &mut fmt::Formatter<'_>) -> fmt::Result {
-        f.debug_struct("Host")
-            .field("slots", &self.read_slots())
-            .finish_non_exhaustive()
+        f.debug_struct("Host").field("slots", &self.read_slots()).finish_non_exhaustive()
     }
 }
 
@@ -274,16 +274,9 @@ impl Host {
         room.resize(ROOM, 0);
         let slots = usize::from(config.peers);
         let mut addresses = Vec::new();
-        addresses
-            .try_reserve_exact(slots)
-            .map_err(|_| Error::Memory)?;
+        addresses.try_reserve_exact(slots).map_err(|_| Error::Memory)?;
         addresses.resize(slots, None);
-        Ok(Host {
-            handle: Handle::open(config)?,
-            room,
-            addresses,
-            told: None,
-        })
+        Ok(Host { handle: Handle::open(config)?, room, addresses, told: None })
     }
 
     /// Asks the host at an address for a connection with 1 to 255 channels, from the lowest free slot. `info` is a number for its user. A
@@ -291,41 +284,22 @@ impl Host {
     ///
     /// `word` names the connection: draw it by [`random`](crate::random), anew for each. A stranger who can guess it, and forges the
     /// server's address, can be taken for the server. [`Endpoint::connect`](crate::Endpoint::connect) draws it.
-    pub fn connect(
-        &mut self,
-        to: SocketAddrV4,
-        channels: u8,
-        info: u32,
-        word: u32,
-    ) -> Result<Peer, Error> {
+    pub fn connect(&mut self, to: SocketAddrV4, channels: u8, info: u32, word: u32) -> Result<Peer, Error> {
         let peer = self.handle.connect(to, channels, info, word)?;
         self.note(peer, to);
         Ok(peer)
     }
 
     /// Submits a packet, whose bytes are copied. `NoSuchPeer`, `NotConnected`, `NoSuchChannel`, `TooLarge`, `Memory`.
-    pub fn submit(
-        &mut self,
-        peer: Peer,
-        channel: u8,
-        delivery: Delivery,
-        body: &[u8],
-    ) -> Result<(), Error> {
-        self.handle.submit(peer, channel, delivery.flags(), body)
+    pub fn submit(&mut self, peer: Peer, channel: u8, data: &[u8], delivery: Delivery) -> Result<(), Error> {
+        self.handle.submit(peer, channel, delivery.flags(), data)
     }
 
     /// Submits a packet to each of these peers; they share one copy of its bytes. Peers that have gone or aren't connected are skipped. If
     /// one peer refuses it for another reason, the others still get it, and the first such reason is returned: `NoSuchChannel`, `TooLarge`,
     /// `Memory`. No peer gets it if there is no memory for the copy.
-    pub fn broadcast(
-        &mut self,
-        peers: &[Peer],
-        channel: u8,
-        delivery: Delivery,
-        body: &[u8],
-    ) -> Result<(), Error> {
-        self.handle
-            .broadcast(peers, channel, delivery.flags(), body)
+    pub fn broadcast(&mut self, peers: &[Peer], channel: u8, data: &[u8], delivery: Delivery) -> Result<(), Error> {
+        self.handle.broadcast(peers, channel, delivery.flags(), data)
     }
 
     /// Takes in a datagram that came from an address. Pass over what comes from port 0, to which nothing can be sent.
@@ -345,11 +319,7 @@ impl Host {
     pub fn transmit(&mut self) -> Result<Option<Datagram<'_>>, Error> {
         Ok(match self.handle.service(&mut self.room)? {
             None => None,
-            Some((length, to, peer)) => Some(Datagram {
-                to,
-                peer,
-                bytes: &self.room[..length],
-            }),
+            Some((length, to, peer)) => Some(Datagram { to, peer, data: &self.room[..length] }),
         })
     }
 
@@ -386,22 +356,14 @@ impl Host {
         let address = self.address_of(peer);
         let info = told.info;
         Ok(match told.kind {
-            1 => Event::Connect {
-                peer,
-                address,
-                info,
-            },
-            2 => Event::Disconnect {
-                peer,
-                address,
-                info,
-            },
+            1 => Event::Connect { peer, address, info },
+            2 => Event::Disconnect { peer, address, info },
             _ => Event::Receive {
                 peer,
                 address,
                 channel: told.channel,
                 delivery: Delivery::of(told.flags),
-                body: self.handle.body(told.length)?,
+                data: self.handle.body(told.length)?,
             },
         })
     }
@@ -455,14 +417,14 @@ impl Host {
     }
 
     /// From now on a CONNECT that finds no free slot takes that of the peer which has waited longest for its client to confirm the answer:
-    /// that peer is let go, with no event. A connected peer keeps its slot. Open the host with `u32::MAX` generations, since each CONNECT
+    /// that peer is let go, with no event. A connected peer keeps its slot. Open the host with [`ENDLESS`] generations, since each CONNECT
     /// that takes a slot uses one up.
     pub fn give_way(&mut self) -> Result<(), Error> {
         self.handle.give_way()
     }
 
     /// Sets how many peers that began by a CONNECT may be connected or leaving at once: 1 to the number of slots. A client that confirms
-    /// where as many are there is told that the host is full (a `Disconnect` with `u32::MAX`), and let go, with no event. Open the host
+    /// where as many are there is told that the host is full (a `Disconnect` with [`FULL`]), and let go, with no event. Open the host
     /// with more slots than that, for those that ask. `BadConfig`.
     pub fn set_most(&mut self, peers: u16) -> Result<(), Error> {
         self.handle.set_most(peers)
@@ -482,27 +444,14 @@ impl Host {
     /// command was first sent, or once two tries have failed that were made `minimum` milliseconds after that and after the last
     /// acknowledgement of any command, if 2 to the power of (sends - 1) is at least `limit`. 0 means the standard number: 32, 5,000 and
     /// 30,000. `NoSuchPeer`.
-    pub fn set_timeout(
-        &mut self,
-        peer: Peer,
-        limit: u32,
-        minimum: u32,
-        maximum: u32,
-    ) -> Result<(), Error> {
+    pub fn set_timeout(&mut self, peer: Peer, limit: u32, minimum: u32, maximum: u32) -> Result<(), Error> {
         self.handle.set_timeout(peer, limit, minimum, maximum)
     }
 
     /// Sets a connected peer's throttle: its interval in milliseconds, and by how much it rises and falls, in parts of 32. The other end is
     /// sent these. `NoSuchPeer`, `NotConnected`, `Memory`.
-    pub fn throttle_configure(
-        &mut self,
-        peer: Peer,
-        interval: u32,
-        acceleration: u32,
-        deceleration: u32,
-    ) -> Result<(), Error> {
-        self.handle
-            .throttle_configure(peer, interval, acceleration, deceleration)
+    pub fn throttle_configure(&mut self, peer: Peer, interval: u32, acceleration: u32, deceleration: u32) -> Result<(), Error> {
+        self.handle.throttle_configure(peer, interval, acceleration, deceleration)
     }
 
     /// Reads a peer. `NoSuchPeer`.

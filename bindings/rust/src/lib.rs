@@ -15,9 +15,9 @@
 //!     let mut server = Endpoint::server("0.0.0.0:7777", 32, 2)?; // 32 players, 2 channels
 //!     loop {
 //!         match server.service(Duration::from_secs(1))? {
-//!             Some(Event::Receive { peer, channel, delivery, body, .. }) => {
+//!             Some(Event::Receive { peer, channel, delivery, data, .. }) => {
 //!                 // A peer may have gone since its packet came.
-//!                 let _ = server.submit(peer, channel, delivery, &body);
+//!                 let _ = server.submit(peer, channel, &data, delivery);
 //!             }
 //!             _ => {}
 //!         }
@@ -50,6 +50,6 @@ pub use draw::random;
 pub use endpoint::Endpoint;
 pub use error::{EndpointError, Error, Stop};
 pub use ffi::{Config, Held, Peer, Slots, Totals};
-pub use host::{version, Datagram, Delivery, Event, Host, Reading, Received, State};
+pub use host::{version, Datagram, Delivery, Event, Host, Reading, Received, State, ENDLESS, FULL};
 pub use line::Line;
 pub use network::{Network, Node};

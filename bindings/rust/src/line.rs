@@ -36,15 +36,7 @@ pub struct Line {
 
 impl Default for Line {
     fn default() -> Line {
-        Line {
-            loss: 0.0,
-            delay: 0,
-            jitter: 0,
-            reorder: 0.0,
-            repeat: 0.0,
-            rate: 0,
-            queue: 100,
-        }
+        Line { loss: 0.0, delay: 0, jitter: 0, reorder: 0.0, repeat: 0.0, rate: 0, queue: 100 }
     }
 }
 
@@ -62,19 +54,11 @@ pub(crate) struct Way {
 
 impl Way {
     pub(crate) fn new(line: Line) -> Way {
-        Way {
-            line,
-            ..Way::default()
-        }
+        Way { line, ..Way::default() }
     }
 
     /// When a datagram of so many bytes arrives that is sent now, and when it arrives a second time. Each datagram takes as many draws.
-    pub(crate) fn carry(
-        &mut self,
-        drawn: &mut Drawn,
-        now: u64,
-        length: usize,
-    ) -> (Option<u64>, Option<u64>) {
+    pub(crate) fn carry(&mut self, drawn: &mut Drawn, now: u64, length: usize) -> (Option<u64>, Option<u64>) {
         let line = self.line;
         let is_lost = drawn.happens(line.loss);
         let jitter = drawn.below(u64::from(line.jitter) * 1000 + 1);
@@ -96,11 +80,7 @@ impl Way {
             due = due.max(self.last);
             self.last = due;
         }
-        let again = if is_repeated {
-            Some(due + repeated)
-        } else {
-            None
-        };
+        let again = if is_repeated { Some(due + repeated) } else { None };
         (Some(due), again)
     }
 
@@ -154,10 +134,7 @@ pub(crate) struct Flights<T> {
 
 impl<T> Flights<T> {
     pub(crate) fn new() -> Flights<T> {
-        Flights {
-            heap: BinaryHeap::new(),
-            number: 0,
-        }
+        Flights { heap: BinaryHeap::new(), number: 0 }
     }
 
     /// Sends something that arrives when it is due. It is lost if there is no memory for it.
@@ -197,18 +174,12 @@ mod tests {
 
     fn arrivals(line: Line, count: u64, gap: u64) -> Vec<(Option<u64>, Option<u64>)> {
         let (mut way, mut drawn) = (Way::new(line), Drawn::new(7));
-        (0..count)
-            .map(|i| way.carry(&mut drawn, i * gap, 972))
-            .collect()
+        (0..count).map(|i| way.carry(&mut drawn, i * gap, 972)).collect()
     }
 
     #[test]
     fn loss_and_repeats_are_shares() {
-        let line = Line {
-            loss: 0.2,
-            repeat: 0.1,
-            ..Line::default()
-        };
+        let line = Line { loss: 0.2, repeat: 0.1, ..Line::default() };
         let all = arrivals(line, 10_000, 1000);
         let lost = all.iter().filter(|at| at.0.is_none()).count();
         let twice = all.iter().filter(|at| at.1.is_some()).count();
@@ -218,32 +189,18 @@ mod tests {
 
     #[test]
     fn jitter_keeps_the_order_and_reordering_does_not() {
-        let jitter = Line {
-            delay: 10,
-            jitter: 50,
-            ..Line::default()
-        };
+        let jitter = Line { delay: 10, jitter: 50, ..Line::default() };
         let all = arrivals(jitter, 1000, 1000);
         assert!(all.windows(2).all(|two| two[0].0 <= two[1].0));
-        assert!(all
-            .iter()
-            .zip(0..)
-            .all(|(at, i)| at.0.map_or(false, |at| at >= i * 1000 + 10_000)));
-        let reorder = Line {
-            reorder: 0.2,
-            ..Line::default()
-        };
+        assert!(all.iter().zip(0..).all(|(at, i)| at.0.map_or(false, |at| at >= i * 1000 + 10_000)));
+        let reorder = Line { reorder: 0.2, ..Line::default() };
         let all = arrivals(reorder, 1000, 1000);
         assert!(all.windows(2).any(|two| two[0].0 > two[1].0));
     }
 
     #[test]
     fn a_rate_fills_a_queue() {
-        let line = Line {
-            rate: 100_000,
-            queue: 50,
-            ..Line::default()
-        };
+        let line = Line { rate: 100_000, queue: 50, ..Line::default() };
         // 1,000 bytes take 10 ms. One comes each 5 ms, so the queue grows by 5 ms for each until it is full, then each other is lost.
         let all = arrivals(line, 1000, 5000);
         let lost = all.iter().filter(|at| at.0.is_none()).count();

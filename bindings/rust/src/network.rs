@@ -59,11 +59,11 @@ struct Parcel {
 ///     let client = net.add(&Config::standard(1, 1))?;
 ///     let peer = net.connect(client, server, 1, 0)?;
 ///     net.pass(5_000)?;
-///     net.host(client).submit(peer, 0, Delivery::Reliable, b"hello")?;
+///     net.host(client).submit(peer, 0, b"hello", Delivery::Reliable)?;
 ///     net.pass(5_000)?;
 ///     assert!(matches!(net.host(server).next_event()?, Some(Event::Connect { .. })));
 ///     match net.host(server).next_event()? {
-///         Some(Event::Receive { body, .. }) => assert_eq!(body, b"hello"),
+///         Some(Event::Receive { data, .. }) => assert_eq!(data, b"hello"),
 ///         event => panic!("{event:?}"),
 ///     }
 ///     Ok(())
@@ -81,24 +81,14 @@ pub struct Network {
 
 impl fmt::Debug for Network {
     fn fmt(&self, f: &mut fmt::Formatter<'_>) -> fmt::Result {
-        f.debug_struct("Network")
-            .field("hosts", &self.members.len())
-            .field("now", &self.now())
-            .finish_non_exhaustive()
+        f.debug_struct("Network").field("hosts", &self.members.len()).field("now", &self.now()).finish_non_exhaustive()
     }
 }
 
 impl Network {
     /// A network without hosts, whose lines lose nothing and take no time.
     pub fn new(seed: u64) -> Network {
-        Network {
-            drawn: Drawn::new(seed),
-            line: Line::default(),
-            now: 0,
-            members: Vec::new(),
-            flights: Flights::new(),
-            capture: None,
-        }
+        Network { drawn: Drawn::new(seed), line: Line::default(), now: 0, members: Vec::new(), flights: Flights::new(), capture: None }
     }
 
     /// Adds a host, with a secret that is drawn. Its address is 10.0.0.1 for the first one, 10.0.0.2 for the second and so on, with port
@@ -194,13 +184,7 @@ impl Network {
     /// # Panics
     ///
     /// If a node is of another network that has more hosts.
-    pub fn connect(
-        &mut self,
-        from: Node,
-        to: Node,
-        channels: u8,
-        info: u32,
-    ) -> Result<Peer, Error> {
+    pub fn connect(&mut self, from: Node, to: Node, channels: u8, info: u32) -> Result<Peer, Error> {
         let word = self.drawn.next() as u32;
         let to = self.address(to);
         self.host(from).connect(to, channels, info, word)
@@ -273,7 +257,7 @@ impl Network {
             let Member { host, address, .. } = &mut self.members[from];
             let address = *address;
             let (to, bytes) = match host.transmit()? {
-                Some(datagram) => (datagram.to, copied(datagram.bytes)),
+                Some(datagram) => (datagram.to, copied(datagram.data)),
                 None => break,
             };
             if let Some(bytes) = bytes {
@@ -296,8 +280,7 @@ impl Network {
             Some(node) => node.0,
             None => return,
         };
-        let (first, second) =
-            self.members[from].ways[to].carry(&mut self.drawn, self.now, bytes.len());
+        let (first, second) = self.members[from].ways[to].carry(&mut self.drawn, self.now, bytes.len());
         if let (Some(due), Some(bytes)) = (second, copied(&bytes)) {
             self.flights.send(due, Parcel { from, to, bytes });
         }

@@ -14,10 +14,7 @@ pub(crate) struct Capture {
 
 impl Capture {
     pub(crate) fn new() -> Capture {
-        let mut capture = Capture {
-            bytes: Vec::new(),
-            is_cut: false,
-        };
+        let mut capture = Capture { bytes: Vec::new(), is_cut: false };
         let mut head = [0; 24];
         head[..4].copy_from_slice(&0xA1B2_C3D4u32.to_le_bytes());
         head[4..6].copy_from_slice(&2u16.to_le_bytes());
