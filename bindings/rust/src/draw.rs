@@ -1,13 +1,16 @@
 //! Random bytes of the system, and numbers drawn from a seed.
 
-use std::fs::File;
-use std::io::{self, Read};
+use crate::ffi;
+use std::io;
 
-/// Bytes that the system drew (`/dev/urandom`): for a secret, or by `u32::from_ne_bytes` for the word of a connection.
+/// Bytes that the system drew (`getentropy`), up to 256: for a secret, or by `u32::from_ne_bytes` for the word of a connection.
 pub fn random<const N: usize>() -> io::Result<[u8; N]> {
     let mut bytes = [0; N];
-    File::open("/dev/urandom")?.read_exact(&mut bytes)?;
-    Ok(bytes)
+    if ffi::draw(&mut bytes) {
+        Ok(bytes)
+    } else {
+        Err(io::Error::last_os_error())
+    }
 }
 
 /// Numbers drawn from a seed (splitmix64).

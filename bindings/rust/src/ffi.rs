@@ -485,6 +485,7 @@ struct PollFd {
 const POLLIN: i16 = 1;
 
 extern "C" {
+    fn getentropy(buffer: *mut c_void, length: usize) -> c_int;
     fn poll(fds: *mut PollFd, count: c_ulong, timeout: c_int) -> c_int;
 }
 
@@ -494,6 +495,12 @@ pub(crate) fn wait_for(socket: &UdpSocket, ms: u32) {
     let ms = c_int::try_from(ms).unwrap_or(c_int::MAX);
     // SAFETY: one entry is there, and the socket is open. An answer isn't needed: the socket is read in any case.
     unsafe { poll(&mut asked, 1, ms) };
+}
+
+/// Fills up to 256 bytes with bytes that the system drew. Whether it had some to give.
+pub(crate) fn draw(bytes: &mut [u8]) -> bool {
+    // SAFETY: as many bytes can be written as are named.
+    unsafe { getentropy(bytes.as_mut_ptr().cast(), bytes.len()) == 0 }
 }
 
 #[cfg(test)]
