@@ -49,8 +49,10 @@ impl Count {
     }
 }
 
-const A: SocketAddrV4 = SocketAddrV4::new(Ipv4Addr::new(10, 0, 0, 1), 7000);
-const B: SocketAddrV4 = SocketAddrV4::new(Ipv4Addr::new(10, 0, 0, 2), 7001);
+/// The address of one of two hosts.
+fn address(number: u8) -> SocketAddrV4 {
+    SocketAddrV4::new(Ipv4Addr::new(10, 0, 0, number), 7000)
+}
 
 fn carry(count: &mut Count, from: &mut Host, address: SocketAddrV4, to: &mut Host) {
     while let Some(datagram) = from.transmit().expect("no call is refused here") {
@@ -61,8 +63,8 @@ fn carry(count: &mut Count, from: &mut Host, address: SocketAddrV4, to: &mut Hos
 
 fn settle(count: &mut Count, a: &mut Host, b: &mut Host) {
     for _ in 0..60 {
-        carry(count, a, A, b);
-        carry(count, b, B, a);
+        carry(count, a, address(1), b);
+        carry(count, b, address(2), a);
         count.again(|| a.tick(100));
         count.again(|| b.tick(100));
     }
@@ -75,7 +77,7 @@ fn two_hosts(count: &mut Count, body: &[u8]) {
     count.again(|| a.set_secret(&[7; 32]));
     count.again(|| a.give_way());
     count.again(|| a.set_most(1));
-    let peer = count.again(|| b.connect(A, 2, 1, 2));
+    let peer = count.again(|| b.connect(address(1), 2, 1, 2));
     settle(count, &mut a, &mut b);
     count.again(|| b.submit(peer, 0, body, Delivery::Reliable));
     count.again(|| b.submit(peer, 1, &body[..50], Delivery::Reliable));
@@ -96,7 +98,7 @@ fn two_hosts(count: &mut Count, body: &[u8]) {
     settle(count, &mut a, &mut b);
     let (mut bytes, mut others, mut ends) = (0, 0, 0);
     while let Some(event) = count.again(|| a.next_event()) {
-        assert!(event.address() == B);
+        assert!(event.address() == address(2));
         match event {
             Event::Receive { data, .. } => {
                 assert!(body.starts_with(&data));
