@@ -1,8 +1,8 @@
 # What the scripts that run the programs of clients/ share; they source it at the top of the repository.
 . scripts/lib/packages.sh
 
-# Builds the programs into the directory $1, after installing a C compiler and the reference library where they are missing (as root,
-# from Debian's packages). What went wrong is on standard error.
+# Builds the programs into the directory $1, all or those that are named behind it, after installing a C compiler and the reference library where
+# they are missing (as root, from Debian's packages). What went wrong is on standard error.
 build_clients() {
     local missing=()
     [ -r /usr/include/enet/enet.h ] || missing+=(libenet-dev)
@@ -10,11 +10,13 @@ build_clients() {
     if [ ${#missing[@]} -gt 0 ]; then
         install_packages "${missing[@]}" > "$1/install" 2>&1 || { cat "$1/install" >&2; return 1; }
     fi
-    local source
-    for source in client crowd echo guess guests server steady soak proxy load tell hostile hoard swarm flood knock forge tally hold told passers \
-        gossip join; do
+    local source sources=("${@:2}")
+    [ ${#sources[@]} -gt 0 ] || sources=(client crowd echo guess guests server steady soak proxy load tell hostile hoard swarm flood knock forge
+        tally hold told passers gossip join many fray)
+    for source in "${sources[@]}"; do
         cc -std=gnu11 -O2 -Wall -Wextra -pthread -o "$1/$source" "clients/$source.c" -lenet || return 1
     done
+    [ $# -eq 1 ] || return 0
     cc -std=gnu11 -O2 -Wall -Wextra -shared -fPIC -o "$1/faults.so" clients/faults.c || return 1
     cc -std=gnu11 -O2 -Wall -Wextra -shared -fPIC -o "$1/calls.so" clients/calls.c
 }

@@ -1,0 +1,245 @@
+#!/usr/bin/env bash
+# The bindings of bindings/ over the library for C: `check-bindings.sh [FOLDER]`. FOLDER is one that scripts/by-hand/build-c.sh has made; by
+# default it is made over the proved part, crates/enet_c/out/libenet_c.a, which `rt lib` leaves there, or after `rt ci` scripts/lib/archive-c.sh.
+#
+# Rust (bindings/rust), by Debian's cargo, and clippy and the documentation also by the one that is first in PATH:
+# - its tests, of which one compares its structures with the lines of gofnjerta_layout.h; clippy and `cargo doc` without a word;
+# - linked by the archive, and by pkg-config with the shared library; where it finds neither, it names both ways;
+# - each growth of memory refused in turn, under valgrind: calls end in an error value, nothing is lost and nothing leaks;
+# - the echo server with four clients of the reference library that say 10,000 packets (clients/many.c) over a line that loses, repeats and
+#   reorders datagrams (clients/proxy.c), and with one straight, and with packets of 0 to 20,000 bytes (clients/echo.c);
+# - the arena with six such clients (clients/fray.c) over that line: who sends garbage is sent away, and who reads nothing is noticed;
+# - a game tested under 250 seeds over lines in memory.
+#
+# As root it installs what is missing of gcc, libenet-dev, pkg-config, valgrind, cargo and rust-clippy; what can't be had is SKIPPED, and counted.
+# Prints what failed, and as last line 'N passed, M failed'; the status is 1 if one failed. It takes a minute of a processor, sends only
+# within 127.0.0.1, and ends within 10 minutes.
+cd "$(dirname "$0")/../.." || exit 1
+. scripts/lib/clients.sh
+. scripts/lib/tally.sh
+made=${1:+$(realpath "$1")}
+archive=crates/enet_c/out/libenet_c.a
+skipped=0
+
+skip() {
+    echo "SKIPPED $1: $2"
+    skipped=$((skipped + 1))
+}
+
+# Whether the command $1 is there, installed with the packages behind it if it is missing.
+have() {
+    command -v "$1" > /dev/null || install_packages "${@:2}" > "$room/install" 2>&1
+    command -v "$1" > /dev/null
+}
+
+# Runs the command after the name $1, a program for 200 seconds at most, and counts whether it ended well.
+try() {
+    local name=$1 limited=(timeout 200)
+    shift
+    [ "$(type -t "$1")" != function ] || limited=()
+    if "${limited[@]}" "$@" > "$room/$name.out" 2>&1; then
+        passed=$((passed + 1))
+    else
+        fail "$name" "$(first_error "$room/$name.out")"
+    fi
+}
+
+# Starts the scenario that is the function $2, with the words behind it, beside others; $1 is its name. What a function starts it names in
+# `started`. Where it ends with status 2, since something came too late, as it may on a busy machine, it is tried once more.
+begin() {
+    names+=("$1")
+    scenario "$@" &
+}
+
+scenario() {
+    local name=$1 status
+    shift
+    started=
+    trap 'kill $started 2> /dev/null' EXIT
+    trap 'exit 1' TERM
+    for _ in 1 2; do
+        "$@" > "$room/$name.out" 2>&1
+        status=$?
+        kill $started 2> /dev/null
+        wait
+        started=
+        [ "$status" -eq 2 ] || break
+    done
+    [ "$status" -ne 0 ] || : > "$room/$name.passed"
+}
+
+# Waits for all scenarios, and counts them.
+count_scenarios() {
+    local name
+    wait
+    for name in "${names[@]}"; do
+        if [ -e "$room/$name.passed" ]; then passed=$((passed + 1)); else fail "$name" "$(head -c 2000 "$room/$name.out")"; fi
+    done
+    names=()
+}
+
+# Starts a server: the words from $2 on, in which ADDRESS stands for 127.0.0.1 with port $1, and PORT for that port, and waits until it is taken.
+serve() {
+    local at words=("${@:2}")
+    words=("${words[@]//ADDRESS/127.0.0.1:$1}")
+    "${words[@]//PORT/$1}" &
+    started="$started $!"
+    for _ in {1..100}; do
+        at=$(printf ':%04X ' "$1")
+        ! grep -q "$at" /proc/net/udp || return 0
+        sleep 0.1
+    done
+    echo "nobody serves port $1"
+    return 1
+}
+
+# Starts the line on port $2 to the server on port $1.
+lossy() {
+    "$room/proxy" "$2" "$1" 7 &
+    started="$started $!"
+}
+
+# Two free ports, into `first` and `port`.
+two_ports() {
+    free_port
+    first=$port
+    free_port
+}
+
+# 10,000 packets that come back: $3 clients with as many each, at the server that the words from $4 on start on port $1, by the line on port $2.
+echo_lossy() {
+    local client clients=() status=0
+    serve "$1" "${@:4}" && lossy "$1" "$2" || return
+    for ((client = 0; client < $3; client++)); do
+        timeout 110 "$room/many" "$2" $((10000 / $3)) &
+        clients+=($!)
+    done
+    for client in "${clients[@]}"; do
+        wait "$client" || status=$?
+    done
+    return "$status"
+}
+
+# The same straight, by one client, and then packets up to 20,000 bytes: the server that the words from $2 on start on port $1.
+echo_straight() {
+    serve "$1" "${@:2}" && timeout 110 "$room/many" "$1" 10000 && timeout 110 "$room/echo" "$1"
+}
+
+# Four players in the arena that the words from $4 on start on port $1, by the line on port $2; it writes to the file $3. It says who sent
+# garbage, as one of them did, and that the one who read nothing is slow.
+arena() {
+    local slot
+    serve "$1" "${@:4}" > "$3" && lossy "$1" "$2" || return
+    slot=$(timeout 110 "$room/fray" "$2" 4 6) || return
+    cat "$3"
+    [ "$(grep -c ' garbage$' "$3")" = 1 ] && grep -q "^$slot slow$" "$3"
+}
+
+# Starts the scenarios of the echo server and of the arena, which the words of the arrays `echo_server` and `arena_server` start; $1 is the
+# language. The straight echo server is started by `straight_server`.
+talk() {
+    two_ports
+    begin "$1-echo-lossy" echo_lossy "$first" "$port" 4 "${echo_server[@]}"
+    free_port
+    begin "$1-echo-straight" echo_straight "$port" "${straight_server[@]}"
+    two_ports
+    begin "$1-arena" arena "$first" "$port" "$room/$1-arena.said" "${arena_server[@]}"
+}
+
+# cargo in bindings/rust, without the user's own folder, so that its commands are found beside it: $1 is the folder of the compiler, $2 that of
+# what is built.
+cargo_by() {
+    (cd bindings/rust && PATH=$1:$PATH CARGO_HOME=$room/cargo CARGO_TARGET_DIR=$2 CARGO_NET_OFFLINE=true exec timeout 200 cargo "${@:3}")
+}
+
+# clippy and the documentation by the cargo in the folder $1; $2 is where it builds, $3 its name here.
+rust_lints() {
+    if [ -x "$1/cargo-clippy" ]; then
+        try "$3-clippy" cargo_by "$1" "$2" clippy --all-targets -- -D warnings
+    else
+        skip "$3-clippy" "there is no cargo-clippy"
+    fi
+    RUSTDOCFLAGS='-D warnings' try "$3-doc" cargo_by "$1" "$2" doc --no-deps
+}
+
+# Whether the crate, where it finds no library, names both ways to one.
+rust_names_both_ways() {
+    ! PKG_CONFIG=false cargo_by "$1" "$room/rust-none" build > "$room/rust-none.said" 2>&1 &&
+        grep -q 'GOFNJERTA_DIR=FOLDER links' "$room/rust-none.said" && grep -q 'pkg-config finds gofnjerta.pc' "$room/rust-none.said" && return
+    cat "$room/rust-none.said"
+    return 1
+}
+
+# The test of refused growths under valgrind, as it was built in the folder $1.
+rust_memory() {
+    local test
+    for test in "$1"/debug/deps/memory-*; do
+        [ -x "$test" ] && [[ $test != *.d ]] || continue
+        LD_PRELOAD=$room/refuse.so timeout 300 valgrind -q --soname-synonyms=somalloc=nouserintercepts --leak-check=full \
+            --errors-for-leak-kinds=definite,indirect,possible --error-exitcode=9 "$test" > "$room/rust-memory.said" 2>&1
+        local status=$?
+        cat "$room/rust-memory.said"
+        [ "$status" -eq 0 ] && grep -q '^endpoints: ' "$room/rust-memory.said"
+        return
+    done
+    echo 'it was not built'
+    return 1
+}
+
+rust() {
+    local first_cargo folder by target=$room/rust-target
+    first_cargo=$(command -v cargo)
+    [ -x /usr/bin/cargo-clippy ] || install_packages cargo rust-clippy > "$room/install" 2>&1
+    folder=/usr/bin
+    if ! [ -x /usr/bin/cargo ]; then
+        skip rust-debian "Debian's cargo can't be had"
+        folder=$(dirname "$first_cargo")
+        [ -n "$first_cargo" ] || { skip rust 'there is no cargo'; return; }
+    fi
+    export GOFNJERTA_DIR=$made
+    try rust-test cargo_by "$folder" "$target" test
+    rust_lints "$folder" "$target" rust
+    by=$(dirname "${first_cargo:-/usr/bin/cargo}")
+    [ "$by" = "$folder" ] || rust_lints "$by" "$room/rust-newest" rust-newest
+    echo_server=("$target/debug/examples/echo" ADDRESS)
+    straight_server=("${echo_server[@]}")
+    arena_server=("$target/debug/examples/arena" ADDRESS)
+    unset GOFNJERTA_DIR
+    try rust-names-both-ways rust_names_both_ways "$folder"
+    if have pkg-config pkg-config; then
+        PKG_CONFIG_PATH=$made/lib/pkgconfig try rust-pkg-config cargo_by "$folder" "$room/rust-shared" build --example echo
+        straight_server=(env "LD_LIBRARY_PATH=$made/lib" "$room/rust-shared/debug/examples/echo" ADDRESS)
+    else
+        skip rust-pkg-config 'there is no pkg-config'
+    fi
+    talk rust
+    begin rust-arena-test timeout 100 "$target/debug/examples/arena_test" 250
+    if have valgrind valgrind && cc -shared -fPIC -O1 -Wall -Wextra bindings/rust/tests/refuse.c -o "$room/refuse.so"; then
+        begin rust-memory rust_memory "$target"
+    else
+        skip rust-memory 'there is no valgrind'
+    fi
+    count_scenarios
+}
+
+# Of the library for C, the programs of clients/ and the bindings.
+all() {
+    if [ -z "$made" ]; then
+        made=$room/made
+        bash scripts/by-hand/build-c.sh "$made" "$archive" > "$room/made.out" 2>&1 || { fail build-c "$(first_error "$room/made.out")"; return; }
+    fi
+    build_clients "$room" many fray proxy echo || { fail clients "the C programs can't be built"; return; }
+    rust
+}
+
+room=$(mktemp -d) || exit 1
+trap 'kill $(jobs -p) 2> /dev/null; wait; rm -rf "$room"' EXIT
+names=()
+if [ -z "$made" ] && ! [ -r "$archive" ]; then
+    fail "$archive" "it isn't there: run 'rt lib' in crates/enet_c, or after 'rt ci' scripts/lib/archive-c.sh"
+else
+    all
+fi
+[ "$skipped" -eq 0 ] || echo "$skipped skipped"
+echo "$passed passed, $failed failed"
+[ "$failed" -eq 0 ]
