@@ -175,7 +175,7 @@ rust_memory() {
     local test
     for test in "$1"/debug/deps/memory-*; do
         [ -x "$test" ] && [[ $test != *.d ]] || continue
-        LD_PRELOAD=$room/refuse.so timeout 300 valgrind -q --soname-synonyms=somalloc=nouserintercepts --leak-check=full \
+        LD_PRELOAD=$room/refuse.so timeout 500 valgrind -q --soname-synonyms=somalloc=nouserintercepts --leak-check=full \
             --errors-for-leak-kinds=definite,indirect,possible --error-exitcode=9 "$test" > "$room/rust-memory.said" 2>&1
         local status=$?
         cat "$room/rust-memory.said"

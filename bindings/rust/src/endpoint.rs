@@ -19,6 +19,9 @@ const MOST_AT_ONCE: u32 = 256;
 /// How many slots a server has for clients that ask, beside those of its players.
 const FOR_THOSE_THAT_ASK: u16 = 1024;
 
+/// How many slots a host has at most.
+const MOST_SLOTS: u16 = 4095;
+
 /// Conditions for a socket: lines both ways, and what is under way.
 struct Simulation {
     drawn: Drawn,
@@ -93,10 +96,10 @@ impl Endpoint {
         Ok(Endpoint { host, socket, begun: Instant::now(), clock: 0, room, unsent: 0, simulation: None })
     }
 
-    /// Opens a server for so many players, 1 to 3,071, with at most so many channels each. It has 1,024 more slots for clients that ask,
-    /// of which the oldest gives way ([`Host::give_way`]), and [`ENDLESS`](crate::ENDLESS) generations.
+    /// Opens a server for so many players, 1 to 4,095, with at most so many channels each. It has up to 1,024 more slots, 4,095 in all, for
+    /// clients that ask, of which the oldest gives way ([`Host::give_way`]), and [`ENDLESS`](crate::ENDLESS) generations.
     pub fn server<A: ToSocketAddrs>(address: A, players: u16, channels: u8) -> Result<Endpoint, EndpointError> {
-        let slots = players.saturating_add(FOR_THOSE_THAT_ASK);
+        let slots = players.saturating_add(FOR_THOSE_THAT_ASK).min(MOST_SLOTS);
         let mut config = Config::standard(slots, channels);
         config.generations = ENDLESS;
         let mut endpoint = Endpoint::open(address, &config)?;

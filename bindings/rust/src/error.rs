@@ -39,6 +39,7 @@ pub enum Error {
 
 impl Error {
     /// The error with this number; `None` for 0, which means success.
+    #[inline]
     pub(crate) fn numbered(number: u32) -> Option<Error> {
         Some(match number {
             0 => return None,

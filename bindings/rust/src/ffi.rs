@@ -237,6 +237,7 @@ extern "C" {
 }
 
 /// What a number that a call returned means.
+#[inline]
 fn answer(number: u32) -> Result<(), Error> {
     match Error::numbered(number) {
         None => Ok(()),
@@ -286,6 +287,7 @@ impl Drop for Handle {
 }
 
 impl Handle {
+    #[inline]
     fn raw(&self) -> *mut RawHost {
         self.0.get()
     }
@@ -304,16 +306,19 @@ impl Handle {
         Ok(peer)
     }
 
+    #[inline]
     pub(crate) fn submit(&mut self, peer: Peer, channel: u8, flags: u8, body: &[u8]) -> Result<(), Error> {
         // SAFETY: the handle is open, and as many bytes can be read as are named.
         answer(unsafe { gofnjerta_submit(self.raw(), peer, channel, flags, body.as_ptr().cast(), body.len()) })
     }
 
+    #[inline]
     pub(crate) fn broadcast(&mut self, peers: &[Peer], channel: u8, flags: u8, body: &[u8]) -> Result<(), Error> {
         // SAFETY: the handle is open, and as many peers and bytes can be read as are named.
         answer(unsafe { gofnjerta_broadcast(self.raw(), peers.as_ptr(), peers.len(), channel, flags, body.as_ptr().cast(), body.len()) })
     }
 
+    #[inline]
     pub(crate) fn receive(&mut self, from: SocketAddrV4, datagram: &[u8]) -> Result<RawReceived, Error> {
         let mut received = RawReceived::default();
         // SAFETY: the handle is open, as many bytes can be read as are named, and `received` is a value of its type.
@@ -322,6 +327,7 @@ impl Handle {
     }
 
     /// The next datagram is written to the front of the room: its length, where it is to be sent, and its peer.
+    #[inline]
     pub(crate) fn service(&mut self, room: &mut [u8]) -> Result<Option<(usize, SocketAddrV4, Peer)>, Error> {
         let mut datagram = RawDatagram { length: 0, to: NO_ADDRESS, peer: NO_PEER };
         // SAFETY: the handle is open, as many bytes can be written as are named, and `datagram` is a value of its type.
@@ -332,11 +338,13 @@ impl Handle {
         })
     }
 
+    #[inline]
     pub(crate) fn tick(&mut self, ms: u32) -> Result<(), Error> {
         // SAFETY: the handle is open.
         answer(unsafe { gofnjerta_tick(self.raw(), ms) })
     }
 
+    #[inline]
     pub(crate) fn due_in(&self) -> Result<u32, Error> {
         let mut ms = 0;
         // SAFETY: the handle is open, and `ms` is a value of its type.
@@ -344,6 +352,7 @@ impl Handle {
         Ok(ms)
     }
 
+    #[inline]
     pub(crate) fn next_event(&mut self) -> Result<Option<RawEvent>, Error> {
         let mut event = RawEvent { kind: 0, info: 0, peer: NO_PEER, channel: 0, flags: 0, length: 0 };
         // SAFETY: the handle is open, and `event` is a value of its type.
@@ -353,6 +362,7 @@ impl Handle {
 
     /// The bytes of the packet that the last event told of, which are so many. `Memory` if there is no room for them: then the call may be
     /// repeated.
+    #[inline]
     pub(crate) fn body(&mut self, length: u64) -> Result<Vec<u8>, Error> {
         let length = usize::try_from(length).map_err(|_| Error::TooLarge)?;
         let mut body: Vec<u8> = Vec::new();
@@ -415,6 +425,7 @@ impl Handle {
         answer(unsafe { gofnjerta_set_timeout(self.raw(), peer, limit, minimum, maximum) })
     }
 
+    #[inline]
     pub(crate) fn read_peer(&self, peer: Peer) -> Result<RawReading, Error> {
         let mut reading = RawReading {
             state: 0,

@@ -42,6 +42,7 @@ pub enum Delivery {
 
 impl Delivery {
     /// The flags by which a packet is submitted.
+    #[inline]
     fn flags(self) -> u8 {
         match self {
             Delivery::Reliable => RELIABLE,
@@ -51,6 +52,7 @@ impl Delivery {
     }
 
     /// How a packet with these flags came.
+    #[inline]
     fn of(flags: u8) -> Delivery {
         match flags {
             RELIABLE => Delivery::Reliable,
@@ -291,6 +293,7 @@ impl Host {
     }
 
     /// Submits a packet, whose bytes are copied. `NoSuchPeer`, `NotConnected`, `NoSuchChannel`, `TooLarge`, `Memory`.
+    #[inline]
     pub fn submit(&mut self, peer: Peer, channel: u8, data: &[u8], delivery: Delivery) -> Result<(), Error> {
         self.handle.submit(peer, channel, delivery.flags(), data)
     }
@@ -298,11 +301,13 @@ impl Host {
     /// Submits a packet to each of these peers; they share one copy of its bytes. Peers that have gone or aren't connected are skipped. If
     /// one peer refuses it for another reason, the others still get it, and the first such reason is returned: `NoSuchChannel`, `TooLarge`,
     /// `Memory`. No peer gets it if there is no memory for the copy.
+    #[inline]
     pub fn broadcast(&mut self, peers: &[Peer], channel: u8, data: &[u8], delivery: Delivery) -> Result<(), Error> {
         self.handle.broadcast(peers, channel, delivery.flags(), data)
     }
 
     /// Takes in a datagram that came from an address. Pass over what comes from port 0, to which nothing can be sent.
+    #[inline]
     pub fn receive(&mut self, from: SocketAddrV4, datagram: &[u8]) -> Result<Received, Error> {
         let received = self.handle.receive(from, datagram)?;
         Ok(Received {
@@ -316,6 +321,7 @@ impl Host {
 
     /// The next datagram to send; `None` if there is none. Call it until then: after each tick, after datagrams came, and after calls that
     /// send. What can't be sent may be dropped.
+    #[inline]
     pub fn transmit(&mut self) -> Result<Option<Datagram<'_>>, Error> {
         Ok(match self.handle.service(&mut self.room)? {
             None => None,
@@ -325,17 +331,20 @@ impl Host {
 
     /// The clock goes on by so many milliseconds, 60,000 at most. Commands whose timeout is over are resent, quiet peers pinged, and peers
     /// that are silent too long dropped. Tick every few milliseconds, or when [`due_in`](Host::due_in) says.
+    #[inline]
     pub fn tick(&mut self, ms: u32) -> Result<(), Error> {
         self.handle.tick(ms)
     }
 
     /// In how many milliseconds time brings something, at most 1,000: a shorter tick only changes the clock. A program that has sent all
     /// that [`transmit`](Host::transmit) gives may sleep that long, unless a datagram comes.
+    #[inline]
     pub fn due_in(&self) -> Result<u32, Error> {
         self.handle.due_in()
     }
 
     /// The next event; `None` if there is none. After `Memory` the next call returns the same event.
+    #[inline]
     pub fn next_event(&mut self) -> Result<Option<Event>, Error> {
         let told = match self.told.take() {
             Some(told) => told,
@@ -351,6 +360,7 @@ impl Host {
         event.map(Some)
     }
 
+    #[inline]
     fn event_of(&mut self, told: &RawEvent) -> Result<Event, Error> {
         let peer = told.peer;
         let address = self.address_of(peer);
@@ -375,6 +385,7 @@ impl Host {
     }
 
     /// The address of a peer that has an event: as it was noted, or else as the library has it.
+    #[inline]
     fn address_of(&mut self, peer: Peer) -> SocketAddrV4 {
         if let Some(Some((generation, address))) = self.addresses.get(usize::from(peer.slot)) {
             if *generation == peer.generation {
@@ -455,6 +466,7 @@ impl Host {
     }
 
     /// Reads a peer. `NoSuchPeer`.
+    #[inline]
     pub fn read_peer(&self, peer: Peer) -> Result<Reading, Error> {
         self.handle.read_peer(peer).map(Reading::from)
     }

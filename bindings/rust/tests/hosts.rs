@@ -248,6 +248,8 @@ fn a_host_goes_to_another_thread() -> Result<(), Error> {
     .join()
     .expect("the thread");
     assert_eq!(net.host(server).read_peer(here)?.state, State::Connected);
+    fn is_send<T: Send>() {}
+    is_send::<Endpoint>();
     assert_eq!(version(), (0, 1, 0));
     Ok(())
 }
@@ -324,6 +326,9 @@ fn an_endpoint_waits_as_long_as_it_is_told() -> Result<(), EndpointError> {
     assert_eq!(server.service(Duration::from_millis(20))?, None);
     assert_eq!(server.host().read_totals()?.datagrams_in, 4);
     assert!(matches!(Endpoint::open(server.address()?, &Config::standard(1, 1)), Err(EndpointError::System(_))));
+    for (players, is_right) in [(0, false), (1, true), (4095, true), (4096, false)] {
+        assert_eq!(Endpoint::server((Ipv4Addr::LOCALHOST, 0), players, 1).is_ok(), is_right);
+    }
     assert_ne!(random::<16>()?, random::<16>()?);
     Ok(())
 }
