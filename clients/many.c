@@ -2,7 +2,8 @@
 // each four three on channel 0, reliable ones, and one of up to 1,200 bytes on channel 1, unreliable or unsequenced, 48 reliable ones at most
 // on the way. Status 0 where each reliable packet came back once, in order and whole, no other packet came that wasn't said, the unreliable
 // ones that came back did so in order, and the connection ended as it asked; else it says why on standard error, with status 2 where
-// something came too late, and status 1 where anything else is amiss. Prints how many came back of those that might be lost.
+// something came too late or the connection ended before, and status 1 where anything else is amiss. Prints how many came back of those
+// that might be lost.
 #include "visitor.h"
 
 enum { LONGEST = 3000, SHORT = 1200, ON_THE_WAY = 48, LIMIT = 100 };
@@ -77,8 +78,10 @@ int main(int count, char **words)
         for (; status > 0; status = enet_host_check_events(host, &event)) {
             if (event.type == ENET_EVENT_TYPE_CONNECT)
                 is_in = 1;
-            if (event.type == ENET_EVENT_TYPE_DISCONNECT && !leaves)
-                give_up("the connection ended after %u reliable packets of %u", reliable_came, reliable_said);
+            if (event.type == ENET_EVENT_TYPE_DISCONNECT && !leaves) {
+                fprintf(stderr, "the connection ended after %u reliable packets of %u\n", reliable_came, reliable_said);
+                return 2;
+            }
             if (event.type == ENET_EVENT_TYPE_DISCONNECT) {
                 printf("%u of %u\n", loose_came, loose_said);
                 return 0;

@@ -149,7 +149,7 @@ talk() {
 # cargo in bindings/rust, without the user's own folder, so that its commands are found beside it: $1 is the folder of the compiler, $2 that of
 # what is built.
 cargo_by() {
-    (cd bindings/rust && PATH=$1:$PATH CARGO_HOME=$room/cargo CARGO_TARGET_DIR=$2 CARGO_NET_OFFLINE=true exec timeout 200 cargo "${@:3}")
+    (cd bindings/rust && PATH=$1:$PATH CARGO_HOME=$room/cargo CARGO_TARGET_DIR=$2 CARGO_NET_OFFLINE=true exec timeout 500 cargo "${@:3}")
 }
 
 # clippy and the documentation by the cargo in the folder $1; $2 is where it builds, $3 its name here.
