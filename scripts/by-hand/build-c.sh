@@ -1,6 +1,6 @@
 #!/usr/bin/env bash
 # The host as a library for C, and libenet's API over it: `build-c.sh FOLDER [ARCHIVE]` makes of FOLDER, as /usr/local,
-#   include/gofnjerta.h   include/gofnjerta_layout.h
+#   include/gofnjerta.h   include/gofnjerta_layout.h   include/gofnjerta.hpp
 #   lib/libgofnjerta.a   lib/libgofnjerta.so.0   lib/libgofnjerta.so   lib/pkgconfig/gofnjerta.pc
 # and, for programs that are written for libenet,
 #   include/gofnjerta/enet/*.h   lib/libgofnjerta_enet.a   lib/gofnjerta/libenet.so.7   lib/pkgconfig/gofnjerta-enet.pc
@@ -55,7 +55,7 @@ ar rcs "$folder/lib/libgofnjerta_enet.a" "$room/enet.o" "$room/gofnjerta.o" "$ro
 # It stays loaded, since a thread that ends later calls it (c/pool.c).
 compile -shared -Wl,-soname,libenet.so.7 -Wl,-z,nodelete -Wl,--version-script=c/enet/enet.map -o "$folder/lib/gofnjerta/libenet.so.7" \
     "$room/enet.o" "$room/gofnjerta.o" "$room/pool.o" "$room"/parts/*.o
-cp c/gofnjerta.h c/gofnjerta_layout.h "$folder/include/"
+cp c/gofnjerta.h c/gofnjerta_layout.h bindings/cpp/gofnjerta.hpp "$folder/include/"
 ln -sf libenet.so.7 "$folder/lib/gofnjerta/libenet.so"
 for header in c/enet/*.h; do
     [ "$header" = c/enet/layer.h ] || cp "$header" "$folder/include/gofnjerta/enet/"

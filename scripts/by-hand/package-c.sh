@@ -1,7 +1,7 @@
 #!/usr/bin/env bash
 # Debian packages of the libraries for C: `package-c.sh FOLDER [ARCHIVE]` makes of them, in FOLDER, with the version in VERSION,
 #   libgofnjerta0_VERSION_ARCH.deb           libgofnjerta.so.0
-#   libgofnjerta-dev_VERSION_ARCH.deb        gofnjerta.h, libgofnjerta.so and .a, the table gofnjerta_layout.h, and libenet's API by its own name
+#   libgofnjerta-dev_VERSION_ARCH.deb        gofnjerta.h and .hpp, the table gofnjerta_layout.h, libgofnjerta.so and .a, and libenet's API by its name
 # and, as 1.3.17+gofnjertaVERSION,
 #   libenet7-gofnjerta_.._ARCH.deb           libenet.so.7 where Debian has it, for programs that are there
 #   libenet-gofnjerta-dev_.._ARCH.deb        enet/*.h, libenet.so, libenet.a and libenet.pc
@@ -47,7 +47,7 @@ END
 
 dev=$room/libgofnjerta-dev
 mkdir -p "$dev/$libs/pkgconfig" "$dev/usr/include/gofnjerta/enet" "$dev/usr/share/doc/libgofnjerta-dev"
-install -m 644 "$made/include/gofnjerta.h" "$made/include/gofnjerta_layout.h" "$dev/usr/include/"
+install -m 644 "$made/include/gofnjerta.h" "$made/include/gofnjerta_layout.h" "$made/include/gofnjerta.hpp" "$dev/usr/include/"
 install -m 644 "$made"/include/gofnjerta/enet/*.h "$dev/usr/include/gofnjerta/enet/"
 install -m 644 "$made/lib/libgofnjerta.a" "$made/lib/libgofnjerta_enet.a" "$dev/$libs/"
 ln -s libgofnjerta.so.0 "$dev/$libs/libgofnjerta.so"

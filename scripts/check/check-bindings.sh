@@ -6,14 +6,27 @@
 # - its tests, of which one compares its structures with the lines of gofnjerta_layout.h; clippy and `cargo doc` without a word;
 # - linked by the archive, and by pkg-config with the shared library; where it finds neither, it names both ways;
 # - each growth of memory refused in turn, under valgrind: calls end in an error value, nothing is lost and nothing leaks;
-# - the echo server with four clients of the reference library that say 10,000 packets (clients/many.c) over a line that loses, repeats and
-#   reorders datagrams (clients/proxy.c), and with one straight, and with packets of 0 to 20,000 bytes (clients/echo.c);
-# - the arena with six such clients (clients/fray.c) over that line: who sends garbage is sent away, and who reads nothing is noticed;
 # - a game tested under 250 seeds over lines in memory.
 #
-# As root it installs what is missing of gcc, libenet-dev, pkg-config, valgrind, cargo and rust-clippy; what can't be had is SKIPPED, and counted.
-# Prints what failed, and as last line 'N passed, M failed'; the status is 1 if one failed. It takes a minute of a processor, sends only
-# within 127.0.0.1, and ends within 10 minutes.
+# C++ (bindings/cpp), by g++, and by clang++ if there is one:
+# - its header and all that is built over it, without a warning; gofnjerta_layout.h asserts the structures;
+# - two hosts in memory and two endpoints, by each call, with AddressSanitizer and UndefinedBehaviorSanitizer, and the same with each growth of
+#   memory refused in turn: calls end in an error value, and nothing leaks.
+#
+# Python (bindings/python), by Debian's python3, of the wheel that is built here:
+# - the wheel's name, the library in it, and its types by mypy;
+# - its tests, of which one compares its structures with the lines of gofnjerta_layout.h; each growth of memory refused in turn: calls raise E1,
+#   and no block is left;
+# - a game tested under 1,000 seeds over lines in memory, and with a fault, which is found.
+#
+# Each of them:
+# - the echo server with four clients of the reference library that say 10,000 packets (clients/many.c) over a line that loses, repeats and
+#   reorders datagrams (clients/proxy.c), with one straight, and with packets of 0 to 20,000 bytes (clients/echo.c);
+# - the arena with six such clients (clients/fray.c) over that line: who sends garbage is sent away, and who reads nothing is noticed.
+#
+# As root it installs what is missing of gcc, libenet-dev, pkg-config, valgrind, cargo, rust-clippy, g++, python3-build, python3-setuptools,
+# python3-wheel and mypy; what can't be had is SKIPPED, and counted. Prints what failed, and as last line 'N passed, M failed'; the status is
+# 1 if one failed. It takes two minutes of a processor, sends only within 127.0.0.1, and ends within 10 minutes.
 cd "$(dirname "$0")/../.." || exit 1
 . scripts/lib/clients.sh
 . scripts/lib/tally.sh
@@ -222,6 +235,99 @@ rust() {
     count_scenarios
 }
 
+# Compiles the source $2 of bindings/cpp to the program $3 by the compiler $1, with the words behind them.
+cpp_compile() {
+    "$1" -std=c++17 -O1 -g -Wall -Wextra -Wpedantic -Werror "-I$made/include" "bindings/cpp/$2" -o "$room/$3" "${@:4}"
+}
+
+# Block $3 in the language $2 of the document $1.
+shown() {
+    awk -v language="$2" -v wanted="$3" '/^```/ { inside = $0 == "```" language && ++found == wanted; next } inside' "$1"
+}
+
+cpp() {
+    local checked=(-fsanitize=address,undefined -fno-sanitize-recover=all) wrap=-Wl,--wrap=malloc,--wrap=realloc clang=
+    have g++ g++ || { skip cpp 'there is no g++'; return; }
+    try cpp-host-built cpp_compile g++ tests/host.cpp cpp-host "${checked[@]}" "$wrap" "$made/lib/libgofnjerta.a"
+    try cpp-echo-built cpp_compile g++ examples/echo.cpp cpp-echo -fno-exceptions -fno-rtti "-L$made/lib" -lgofnjerta
+    try cpp-arena-built cpp_compile g++ examples/arena.cpp cpp-arena "${checked[@]}" "$made/lib/libgofnjerta.a"
+    shown bindings/cpp/README.md cpp 1 > "$room/shown.cpp"
+    try cpp-readme g++ -std=c++17 -Wall -Wextra -Wpedantic -Werror "-I$made/include" "$room/shown.cpp" -o "$room/shown" "-L$made/lib" \
+        -lgofnjerta
+    for clang in clang++-14 clang++ ''; do
+        ! command -v "$clang" > /dev/null || break
+    done
+    if [ -n "$clang" ]; then
+        try cpp-clang cpp_compile "$clang" tests/host.cpp cpp-clang-host "$wrap" "$made/lib/libgofnjerta.a"
+        try cpp-clang-syntax cpp_compile "$clang" examples/arena.cpp cpp-clang-arena -fsyntax-only
+    else
+        skip cpp-clang 'there is no clang++'
+    fi
+    echo_server=(env "LD_LIBRARY_PATH=$made/lib" "$room/cpp-echo" ADDRESS)
+    straight_server=("${echo_server[@]}")
+    arena_server=("$room/cpp-arena" ADDRESS)
+    talk cpp
+    begin cpp-host timeout 100 "$room/cpp-host"
+    begin cpp-memory timeout 100 "$room/cpp-host" refuse
+    count_scenarios
+}
+
+# The wheel, built of a copy of the package, so that nothing is left there.
+python_wheel() {
+    cp -r bindings/python "$room/package" && rm -rf "$room/package/dist" "$room/package/build" &&
+        GOFNJERTA_DIR=$made "$python" -m build --no-isolation --outdir "$room/wheel" "$room/package" && cat "$room/wheel/"*.whl > /dev/null &&
+        [ "$(cd "$room/wheel" && echo *.whl)" = "gofnjerta-$(<VERSION)-py3-none-manylinux_2_34_x86_64.whl" ] &&
+        "$python" -m zipfile -e "$room/wheel/"*.whl "$room/site" && [ -r "$room/site/gofnjerta/libgofnjerta.so.0" ]
+}
+
+# A library that refuses growths of memory, and each call of the package over it.
+python_memory() {
+    mkdir -p "$room/refusing/lib"
+    cc -O1 -shared -fPIC -Wall -Wextra -o "$room/refusing/lib/libgofnjerta.so.0" bindings/python/tests/refuse.c \
+        -Wl,--wrap=malloc,--wrap=realloc,--wrap=free -Wl,--whole-archive "$made/lib/libgofnjerta.a" -Wl,--no-whole-archive &&
+        GOFNJERTA_DIR=$room/refusing PYTHONPATH=bindings/python timeout 100 "$python" bindings/python/tests/refuse.py
+}
+
+# The game's 1,000 seeds go well. Where its server tells who has a coin unreliably, a seed is found and named, and its datagrams are left.
+python_game() {
+    local game=bindings/python/examples/coins.py
+    timeout 100 "${packaged[@]}" "$game" && sed 's/^DELIVERY = .*/DELIVERY = Delivery.UNRELIABLE/' "$game" > "$room/coins.py" || return
+    mkdir -p "$room/coins"
+    (cd "$room/coins" && ! "${packaged[@]}" "$room/coins.py" > said) && cat "$room/coins/said" && grep -q '^seed [0-9]*: ' "$room/coins/said" &&
+        [ -s "$(echo "$room/coins/coins-"*.pcap)" ]
+}
+
+# The network of the README, whose server gets a packet.
+python_readme() {
+    shown bindings/python/README.md python 2 > "$room/shown.py" && (cd "$room" && "${packaged[@]}" shown.py > shown.said) &&
+        grep -q "b'hello'" "$room/shown.said" && [ -s "$room/seed-17.pcap" ]
+}
+
+python() {
+    local python=/usr/bin/python3 packaged
+    "$python" -c 'import build, setuptools, wheel' 2> /dev/null ||
+        install_packages python3 python3-build python3-setuptools python3-wheel > "$room/install" 2>&1
+    "$python" -c 'import build, setuptools, wheel' 2> /dev/null || { skip python "Debian's python3 can't be had, or its build"; return; }
+    try python-wheel python_wheel
+    packaged=(env -u GOFNJERTA_DIR "PYTHONPATH=$room/site" PYTHONDONTWRITEBYTECODE=1 "HEADERS=$PWD/c" "$python")
+    if have mypy mypy; then
+        try python-types mypy --strict --python-executable "$python" --cache-dir "$room/mypy" bindings/python/gofnjerta bindings/python/examples \
+            bindings/python/tests/test_gofnjerta.py
+        MYPYPATH=bindings/python try python-types-refuse mypy --strict --cache-dir "$room/mypy" bindings/python/tests/refuse.py
+    else
+        skip python-types 'there is no mypy'
+    fi
+    echo_server=("${packaged[@]}" -m gofnjerta echo ADDRESS)
+    straight_server=("${echo_server[@]}")
+    arena_server=("${packaged[@]}" bindings/python/examples/arena.py ADDRESS)
+    talk python
+    begin python-tests timeout 100 "${packaged[@]}" -W error -m unittest discover -s bindings/python/tests
+    begin python-memory python_memory
+    begin python-game python_game
+    begin python-readme python_readme
+    count_scenarios
+}
+
 # Of the library for C, the programs of clients/ and the bindings.
 all() {
     if [ -z "$made" ]; then
@@ -230,6 +336,8 @@ all() {
     fi
     build_clients "$room" many fray proxy echo || { fail clients "the C programs can't be built"; return; }
     rust
+    cpp
+    python
 }
 
 room=$(mktemp -d) || exit 1
