@@ -1,6 +1,7 @@
 /* A host of ENet 1.3 without a socket or a clock: datagrams, calls and time go in, datagrams and events come out. It talks with
- * programs that use libenet 1.3. It is proved (crates/enet_c of Gofnjerta says what): the library has no state except that of its
- * handles, starts no thread, and calls nothing of the C library except malloc, realloc, free and what copies memory.
+ * programs that use libenet 1.3. The host is proved (crates/enet_c of Gofnjerta says what); the C in front of it (c/gofnjerta.c), which
+ * tests pointers and lengths, is tested only. The library has no state except that of its handles, starts no thread, and calls nothing of
+ * the C library except malloc, realloc, free and what copies memory.
  *
  * What the caller must keep, since nothing can test it:
  * - A handle is all zero bytes before it is opened. From then until it is closed only this library writes it. It is one object: it may be
@@ -17,8 +18,8 @@
  * memory. Only gofnjerta_close frees what a handle holds.
  *
  * A call with a uint32_t result returns 0 if it succeeded, otherwise the number of the first reason that applies; GOFNJERTA_MEMORY is
- * the last of these. It has then changed nothing in the handle, and has written to the caller's memory only if its comment says so. Each
- * call with a handle may return GOFNJERTA_NULL and GOFNJERTA_CLOSED.
+ * the last of these. It has then changed nothing in the handle, except for gofnjerta_broadcast, and has written to the caller's memory only
+ * if its comment says so. Each call with a handle may return GOFNJERTA_NULL and GOFNJERTA_CLOSED.
  *
  * As long as the library is libgofnjerta.so.0, no structure, call or number of this header changes. What is added is a new call, with a new
  * structure if it needs one. gofnjerta_layout.h says where each field lies. */
@@ -113,11 +114,14 @@ typedef struct gofnjerta_datagram {
 
 enum { GOFNJERTA_NONE = 0, GOFNJERTA_CONNECT = 1, GOFNJERTA_DISCONNECT = 2, GOFNJERTA_RECEIVE = 3 };
 
-/* An event. Each connection has one CONNECT, then its packets in order, then one DISCONNECT, after which the peer's name is spent. */
+/* An event. Each connection has one CONNECT, then its packets in order, then one DISCONNECT, after which the peer's name is spent. If what
+ * gofnjerta_connect asked for doesn't come about, the DISCONNECT is its only event. After gofnjerta_disconnect_now, or a disconnect before
+ * the connection is there, no event comes. */
 typedef struct gofnjerta_event {
     uint32_t kind;
-    uint32_t info; /* CONNECT: the number of the end that connected, at that end itself 0. DISCONNECT: the other end's number, 0 if
-                      this end asked or the peer timed out */
+    uint32_t info; /* CONNECT: at the end that was asked, the `info` given to gofnjerta_connect; at the end that asked, 0.
+                      DISCONNECT: the number that the other end gave, 0 if this end asked or the peer timed out. A program can tell these
+                      apart if it disconnects with numbers above 0, and notes which peers it disconnects itself */
     gofnjerta_peer peer;
     uint8_t channel, flags; /* RECEIVE */
     uint64_t length;        /* RECEIVE: how many bytes the packet has */
@@ -235,7 +239,7 @@ uint32_t gofnjerta_service(gofnjerta_host *host, void *buffer, size_t room, gofn
  * are silent too long dropped. Tick every few milliseconds, or when gofnjerta_due_in says. */
 uint32_t gofnjerta_tick(gofnjerta_host *host, uint32_t ms);
 
-/* In how many milliseconds time brings something, at most 1,000: a shorter tick only changes the clock. A program that has sent all that
+/* Milliseconds until timed work is due, at most 1,000: a shorter tick only changes the clock. A program that has sent all that
  * gofnjerta_service gives may sleep that long, unless a datagram comes. */
 uint32_t gofnjerta_due_in(gofnjerta_host *host, uint32_t *ms);
 
@@ -267,9 +271,9 @@ uint32_t gofnjerta_set_secret(gofnjerta_host *host, const uint8_t key[32]);
  * UINT32_MAX generations, since each CONNECT that takes a slot uses one up. */
 uint32_t gofnjerta_give_way(gofnjerta_host *host);
 
-/* Sets how many peers that began by a CONNECT may be connected or leaving at once: 1 to the number of slots. A client that confirms where as
- * many are there is told that the host is full (a DISCONNECT with 0xFFFFFFFF), and let go, with no event. Open the host with more slots than
- * that, for those that ask. BAD_CONFIG. */
+/* Sets how many peers that began by a CONNECT may be connected or leaving at once: 1 to the number of slots. A client that confirms when that
+ * many are there is told that the host is full (a DISCONNECT with 0xFFFFFFFF), with no event here. It keeps its slot, as ANSWERING, for up to
+ * 7.5 seconds, in which it is told again. Open the host with more slots than that, for those that ask. BAD_CONFIG. */
 uint32_t gofnjerta_set_most(gofnjerta_host *host, uint16_t peers);
 
 /* Sets a connected peer's throttle: its interval in milliseconds, and by how much it rises and falls, in parts of 32. The other end is
