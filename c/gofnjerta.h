@@ -120,8 +120,8 @@ enum { GOFNJERTA_NONE = 0, GOFNJERTA_CONNECT = 1, GOFNJERTA_DISCONNECT = 2, GOFN
 typedef struct gofnjerta_event {
     uint32_t kind;
     uint32_t info; /* CONNECT: at the end that was asked, the `info` given to gofnjerta_connect; at the end that asked, 0.
-                      DISCONNECT: the number that the other end gave, 0 if this end asked or the peer timed out. A program can tell these
-                      apart if it disconnects with numbers above 0, and notes which peers it disconnects itself */
+                      DISCONNECT: the number that the other end gave, 0 if this end asked or the peer timed out. To tell these apart, let both
+                      ends disconnect with numbers above 0, and note which peers you disconnect */
     gofnjerta_peer peer;
     uint8_t channel, flags; /* RECEIVE */
     uint64_t length;        /* RECEIVE: how many bytes the packet has */
