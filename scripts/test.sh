@@ -3,7 +3,7 @@
 # the text, the definitions that documents quote, the names, files and commits that they cite, the trials of the crates, the worked scripts
 # and captured datagrams through the built program, each growth of memory of worked rows refused in turn, the instructions of the
 # benchmark's jobs, clients of the reference library that talk through the program, what its operator's lines do, whom it lets in, what
-# strangers may make it do and what that costs, what it tells of itself, what deploy/ has, the dissector for Wireshark, and the library for C. Each test but the
+# strangers may make it do and what that costs, what it tells of itself, what deploy/ has, the dissector for Wireshark, the library for C, and its bindings. Each test but the
 # gate ends with a line 'N passed, M failed'; the status is other than 0 where anything failed.
 # They run side by side, in rows, so that two processors have something to do to the end: what needs no program runs beside the gate; once
 # that passed, what counts runs beside what talks through sockets. A row's output is shown once all of it ended. At the end out/tests.txt has the
@@ -83,6 +83,7 @@ bash scripts/check/check-strangers.sh
 bash scripts/check/check-prices.sh
 bash scripts/check/check-speed.sh
 library
+bash scripts/check/check-bindings.sh
 END
 row talks << 'END'
 bash scripts/check/check-clients.sh

@@ -1,6 +1,6 @@
 #!/usr/bin/env bash
 # A release: `release.sh [--after-tests] FOLDER` makes of the commit that is checked out, in FOLDER,
-#   gofnjerta-VERSION-linux-x86_64.tar.gz   the program, the libraries for C, manual, completion, examples, deploy/, docs/ and tools/, to unpack anywhere
+#   gofnjerta-VERSION-linux-x86_64.tar.gz   the program, the libraries for C, manual, completion, examples, bindings/, deploy/, docs/ and tools/, to unpack anywhere
 #   *.deb                                   the five packages of package-relay.sh and package-c.sh
 #   gofnjerta-VERSION-proved-libraries.tar.zst   what the gate left of the libraries, for take-libraries.py; only where it has at most 300 MB
 #   PROVED.txt                              commit, kit, how many functions were proved of each crate, what was tested, what is trusted
@@ -137,7 +137,7 @@ pack_archive() {
     write_manuals "$there/bin/enet_relay" "$there/share/man/man1"
     install -m 644 deploy/bash/enet_relay "$there/share/bash-completion/completions/"
     write_examples "$there/examples"
-    git archive HEAD deploy docs tools README.md CHANGELOG.md SECURITY.md | tar -xf - -C "$there"
+    git archive HEAD bindings deploy docs tools README.md CHANGELOG.md SECURITY.md | tar -xf - -C "$there"
     write_copyright > "$there/COPYRIGHT.txt"
     cp "$room/PROVED.txt" "$room/THIRD-PARTY.txt" "$there/"
     chmod -R u=rwX,go=rX "$there"
