@@ -284,8 +284,8 @@ uint32_t gofnjerta_throttle_configure(gofnjerta_host *host, gofnjerta_peer peer,
 uint32_t gofnjerta_set_ping_interval(gofnjerta_host *host, gofnjerta_peer peer, uint32_t ms);
 
 /* Sets how long a peer may leave a command unacknowledged. It is dropped when a try fails `maximum` milliseconds or more after the command
- * was first sent, or once two tries have failed that were made `minimum` milliseconds after that and after the last acknowledgement of any
- * command, if 2^(sends - 1) is at least `limit`. 0 means the standard number: 32, 5,000 and 30,000. NO_SUCH_PEER. */
+ * was first sent, or when one fails that was made `minimum` milliseconds plus its own timeout after that and after the last acknowledgement
+ * of any command, if 2^(sends - 1) is at least `limit`. 0 means the standard number: 32, 5,000 and 30,000. NO_SUCH_PEER. */
 uint32_t gofnjerta_set_timeout(gofnjerta_host *host, gofnjerta_peer peer, uint32_t limit, uint32_t minimum, uint32_t maximum);
 
 /* Reads a peer. NO_SUCH_PEER. */

@@ -452,7 +452,7 @@ impl Host {
     }
 
     /// Sets how long a peer may leave a command unacknowledged. It is dropped when a try fails `maximum` milliseconds or more after the
-    /// command was first sent, or once two tries have failed that were made `minimum` milliseconds after that and after the last
+    /// command was first sent, or when one fails that was made `minimum` milliseconds plus its own timeout after that and after the last
     /// acknowledgement of any command, if 2 to the power of (sends - 1) is at least `limit`. 0 means the standard number: 32, 5,000 and
     /// 30,000. `NoSuchPeer`.
     pub fn set_timeout(&mut self, peer: Peer, limit: u32, minimum: u32, maximum: u32) -> Result<(), Error> {
