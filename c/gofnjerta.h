@@ -73,8 +73,8 @@ typedef struct gofnjerta_config {
     uint32_t incoming;    /* bytes per second that this host can take in; 0: no limit is known */
     uint32_t outgoing;    /* bytes per second that this host can send; 0: no limit is known */
     uint32_t max_packet;  /* the longest packet that is received or submitted, in bytes: 1 to 33,554,432 */
-    uint32_t max_waiting; /* bytes of a peer's waiting packets at which further ones are refused: 1 to 33,554,432. So are further ones
-                             if a 128th of that many packets wait, or 1,024 if that is more */
+    uint32_t max_waiting; /* bytes of a peer's waiting packets at which further ones are stopped (10): 1 to 33,554,432. So are further ones
+                             once max(1,024, max_waiting / 128) packets wait */
     uint32_t generations; /* how many peers a slot has one after another: 1 and more */
     uint32_t clock;       /* the clock at the opening, in milliseconds; it wraps */
 } gofnjerta_config;
@@ -158,7 +158,7 @@ typedef struct gofnjerta_reading {
 
 /* How much went through a host. Each number stops at its greatest value. */
 typedef struct gofnjerta_totals {
-    uint64_t datagrams_in, bytes_in; /* refused ones included */
+    uint64_t datagrams_in, bytes_in; /* stopped ones included */
     uint64_t datagrams_out, bytes_out;
 } gofnjerta_totals;
 

@@ -119,7 +119,7 @@ class Config:
     outgoing: int = 0
     #: The longest packet that is received or submitted, in bytes.
     max_packet: int = MAX_PACKET
-    #: Bytes of a peer's waiting packets at which further ones are refused.
+    #: Bytes of a peer's waiting packets at which further ones are stopped (S10).
     max_waiting: int = MAX_PACKET
     #: How many peers a slot has one after another.
     generations: int = 1_000_000
@@ -222,7 +222,7 @@ class Reading:
 
 
 class Totals(NamedTuple):
-    """How much went through a host, refused datagrams included."""
+    """How much went through a host, stopped datagrams included."""
 
     datagrams_in: int
     bytes_in: int
