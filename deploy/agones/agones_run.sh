@@ -7,9 +7,9 @@
 #   - `stop` to the program, where SHUTDOWN_EMPTY is 1, once the game is over: it was allocated JOIN_SECONDS (60) ago or more, and for
 #     EMPTY_SECONDS (10) nobody was there; at SIGTERM and SIGINT always;
 #   - /shutdown whenever the program has ended.
-# Whether it was allocated the sidecar says (/gameserver), and how many players are there the figure enet_peers, each HEALTH_SECONDS anew. Who
-# comes before the allocation counts for nothing, and where one of both can't be asked the game isn't over. So a stranger who connects can keep
-# a server going while he stays, but end no game.
+# The sidecar's /gameserver says whether it's allocated, the figure enet_peers how many play; both are asked each HEALTH_SECONDS. Players before
+# the allocation don't count, and if one of both can't be asked the game isn't over. So a stranger who connects can keep a server going while
+# he stays, but end no game.
 # It passes on what the program says on standard error. It needs curl and mkfifo. Without AGONES_SDK_HTTP_PORT it tells nobody, and asks nobody:
 # then no game is over. Without --metrics among the words SHUTDOWN_EMPTY and ALLOCATE_SELF are refused, with status 2.
 sdk=${AGONES_SDK_HTTP_PORT:-}

@@ -53,7 +53,7 @@ install -m 644 "$made/lib/libgofnjerta.a" "$made/lib/libgofnjerta_enet.a" "$dev/
 ln -s libgofnjerta.so.0 "$dev/$libs/libgofnjerta.so"
 describe pkgconfig/gofnjerta.pc '' gofnjerta > "$dev/$libs/pkgconfig/gofnjerta.pc"
 describe pkgconfig/gofnjerta-enet.pc /gofnjerta gofnjerta_enet > "$dev/$libs/pkgconfig/gofnjerta-enet.pc"
-install -m 644 docs/C.md docs/ERRORS.md "$dev/usr/share/doc/libgofnjerta-dev/"
+install -m 644 SECURITY.md docs/{C,ERRORS,MEMORY,PROTOCOL}.md "$dev/usr/share/doc/libgofnjerta-dev/"
 write_examples "$dev/usr/share/doc/libgofnjerta-dev/examples"
 make_package libgofnjerta-dev "$folder" "$version" libdevel "libgofnjerta0 (= $version)" 'proved host of ENet 1.3: headers and static libraries' << 'END'
 Multi-Arch: same

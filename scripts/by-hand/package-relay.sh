@@ -25,8 +25,8 @@ install -m 644 deploy/systemd/enet-relay.default "$root/etc/default/enet-relay"
 install -m 644 deploy/bash/enet_relay "$root/usr/share/bash-completion/completions/"
 write_manuals "$root/usr/bin/enet_relay" "$root/usr/share/man/man1"
 gzip -9n "$root"/usr/share/man/man1/*.1
-install -m 644 SECURITY.md docs/OPERATING.md docs/ERRORS.md docs/MEMORY.md docs/CAPTURES.md docs/LAB.md docs/PROTOCOL.md "$doc/"
-cp -r deploy/grafana deploy/prometheus deploy/agones/agones_run.sh deploy/agones/fleet.yaml "$doc/examples/"
+install -m 644 SECURITY.md docs/{OPERATING,ERRORS,FAQ,MEMORY,FIGURES,C,CAPTURES,LAB,PROTOCOL}.md "$doc/"
+cp -r deploy/grafana deploy/prometheus deploy/agones/agones_run.sh deploy/agones/fleet.yaml deploy/agones/allocation.yaml "$doc/examples/"
 echo /etc/default/enet-relay > "$root/DEBIAN/conffiles"
 cat > "$root/DEBIAN/postinst" << 'END'
 #!/bin/sh
