@@ -19,7 +19,8 @@
  *
  * A call with a uint32_t result returns 0 if it succeeded, otherwise the number of the first reason that applies; GOFNJERTA_MEMORY is
  * the last of these. It has then changed nothing in the handle, except for gofnjerta_broadcast, and has written to the caller's memory only
- * if its comment says so. Each call with a handle may return GOFNJERTA_NULL and GOFNJERTA_CLOSED.
+ * if its comment says so. Each call with a handle may return GOFNJERTA_NULL, and each except gofnjerta_open and gofnjerta_close may
+ * return GOFNJERTA_CLOSED.
  *
  * As long as the library is libgofnjerta.so.0, no structure, call or number of this header changes. What is added is a new call, with a new
  * structure if it needs one. gofnjerta_layout.h says where each field lies. */
@@ -50,11 +51,13 @@ typedef struct gofnjerta_host {
 /* Why a call was refused. No call of this library returns 6 or 9 to 17, which are other numbers of the proved host. */
 enum {
     GOFNJERTA_OK = 0,
-    GOFNJERTA_MEMORY = 1,          /* malloc or realloc refused; the call may be repeated */
+    GOFNJERTA_MEMORY = 1,          /* malloc or realloc refused; the call may be repeated, except gofnjerta_broadcast, which some
+                                      peers may have got */
     GOFNJERTA_NO_SUCH_PEER = 2,    /* the slot is free or out of range, or has another generation: the peer is gone */
     GOFNJERTA_NOT_CONNECTED = 3,   /* the peer's state doesn't allow the call */
     GOFNJERTA_NO_SUCH_CHANNEL = 4, /* the channel isn't below the peer's channel count */
-    GOFNJERTA_TOO_LARGE = 5,       /* the packet is above max_packet, or would be cut into more than 16,384 pieces */
+    GOFNJERTA_TOO_LARGE = 5,       /* the packet is above max_packet, or would be cut into more than 16,384 pieces; or a length or a count is
+                                      larger than any object */
     GOFNJERTA_NO_SLOT = 7,         /* no slot is free that has a generation left */
     GOFNJERTA_BAD_CONFIG = 8,      /* a setting is out of its range, or no channel was asked for */
     GOFNJERTA_CLOSED = 32,         /* the handle holds no host */
@@ -114,9 +117,9 @@ typedef struct gofnjerta_datagram {
 
 enum { GOFNJERTA_NONE = 0, GOFNJERTA_CONNECT = 1, GOFNJERTA_DISCONNECT = 2, GOFNJERTA_RECEIVE = 3 };
 
-/* An event. Each connection has one CONNECT, then its packets in order, then one DISCONNECT, after which the peer's name is spent. If what
- * gofnjerta_connect asked for doesn't come about, the DISCONNECT is its only event. After gofnjerta_disconnect_now, or a disconnect before
- * the connection is there, no event comes. */
+/* An event. Each connection has one CONNECT, then its packets (in order, except unsequenced ones), then one DISCONNECT, after which the
+ * peer's name is spent. If what gofnjerta_connect asked for doesn't come about, the DISCONNECT is its only event. After
+ * gofnjerta_disconnect_now, or a disconnect before the connection is there, no event comes. */
 typedef struct gofnjerta_event {
     uint32_t kind;
     uint32_t info; /* CONNECT: at the end that was asked, the `info` given to gofnjerta_connect; at the end that asked, 0.
@@ -164,7 +167,7 @@ typedef struct gofnjerta_totals {
 
 /* How much a host holds of what others sent. Whatever datagrams come, each number is within what the host's settings allow. */
 typedef struct gofnjerta_held {
-    uint64_t channels, senders; /* channels of the peers: on which packets come, and on which they are sent to */
+    uint64_t channels, senders; /* channels of the peers: `channels` those that packets come on, `senders` those that packets are sent on */
     uint64_t packets;           /* that came, whole or in part, and weren't taken */
     uint64_t undispatched;      /* those of them that can't be taken yet */
     uint64_t bytes;             /* of the packets, each counted whole from its first piece on */
@@ -215,7 +218,7 @@ uint32_t gofnjerta_submit(gofnjerta_host *host, gofnjerta_peer peer, uint8_t cha
 /* Submits a packet to each of `count` peers: a copy of `length` bytes at `body`, which they share. Peers that have gone or aren't
  * connected are skipped. If one peer refuses it for another reason, the others still get it, and the first such reason is returned:
  * NO_SUCH_CHANNEL, TOO_LARGE, MEMORY. No peer gets it if there is no memory for the copy (MEMORY), or if length is above
- * GOFNJERTA_MAX_PACKET or there can't be so many peers (TOO_LARGE). */
+ * GOFNJERTA_MAX_PACKET or `count` peers are larger than any object (TOO_LARGE). */
 uint32_t gofnjerta_broadcast(gofnjerta_host *host, const gofnjerta_peer *peers, size_t count, uint8_t channel, uint8_t flags,
                              const void *body, size_t length);
 
@@ -291,8 +294,8 @@ uint32_t gofnjerta_set_timeout(gofnjerta_host *host, gofnjerta_peer peer, uint32
 /* Reads a peer. NO_SUCH_PEER. */
 uint32_t gofnjerta_read_peer(gofnjerta_host *host, gofnjerta_peer peer, gofnjerta_reading *reading);
 
-/* Reads a peer's allowance, 2,800 to 131,072 bytes, at first 65,536: as much may be in transit to it, where each command of a reliable packet
- * counts 28 more than it carries. From 65,536 on it limits nothing. It falls if the line drops packets, and grows as they are acknowledged.
+/* Reads a peer's allowance, 2,800 to 131,072 bytes, at first 65,536: the most that may be in transit to it. Each command of a reliable packet
+ * counts by its payload and 28. From 65,536 on it limits nothing. It falls if the line drops packets, and grows as they are acknowledged.
  * NO_SUCH_PEER. */
 uint32_t gofnjerta_read_allowance(gofnjerta_host *host, gofnjerta_peer peer, uint32_t *bytes);
 

@@ -4,8 +4,8 @@
 // and the system's clock.
 //
 // Nothing here throws: a call that may be refused returns a `Result`, which has the value or an `Error`. A refused call has changed nothing.
-// Memory comes from malloc; if there is none, the answer is the error E1, and the call may be repeated. It compiles with -fno-exceptions
-// and -fno-rtti.
+// Memory comes from malloc; if there is none, the answer is the error E1, and the call may be repeated, except a broadcast, which some
+// peers may have got. It compiles with -fno-exceptions and -fno-rtti.
 //
 // Hosts, endpoints and packets are moved, never copied. What was moved from is closed. Calls on a host may come from any thread, one after
 // another.

@@ -7,7 +7,7 @@ use std::{fmt, io};
 #[derive(Clone, Copy, Debug, PartialEq, Eq, Hash)]
 #[non_exhaustive]
 pub enum Error {
-    /// No memory was to be had (1). The call may be repeated.
+    /// No memory was to be had (1). The call may be repeated, except a broadcast, which some peers may have got.
     Memory,
     /// The slot is free or out of range, or has another generation: the peer is gone (2).
     NoSuchPeer,
