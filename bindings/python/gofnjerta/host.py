@@ -298,8 +298,8 @@ def _from_c(address: CAddress) -> Address:
 class Host:
     """A host. Calls may come from any thread, one after another. It is closed by `close`, at the end of a `with`, or with its last use.
 
-    Each call may raise `Error`: E1 if memory is short, and then it may be repeated, except a broadcast, which some peers may have got; 32 if
-    the host is closed."""
+    Each call may raise `Error`: E1 if memory is short, and then it may be repeated, except a broadcast, which some peers may have got; 32
+    if the host is closed."""
 
     def __init__(self, config: Config) -> None:
         """Opens a host. E8 if a setting is out of its range."""

@@ -27,8 +27,8 @@
 //!
 //! Proved is the host behind the calls. This crate and the C code between are tested.
 //!
-//! **Memory.** A call that finds no memory returns [`Error::Memory`] and may be repeated, except a broadcast, which some peers may have got.
-//! It doesn't abort the program, except where Rust's own library does: for an address that is given as text, and in
+//! **Memory.** A call that finds no memory returns [`Error::Memory`] and may be repeated, except a broadcast, which some peers may have
+//! got. It doesn't abort the program, except where Rust's own library does: for an address that is given as text, and in
 //! [`Network::write_capture`].
 //!
 //! **Threads.** A host, an endpoint or a network may be moved to another thread, and is used by one at a time.
