@@ -152,14 +152,14 @@ mtu() {
 # Packets of as many bytes as `--max-packet` says are taken, longer ones aren't.
 longest_packet() {
     local length
-    begin --max-packet 3000
-    for length in 3000 3001; do
+    begin --max-packet 1000
+    for length in 1000 1001; do
         timeout 20 "$room/steady" "$port" 2 1 "$length" 0 1 > "$room/packets-$length" 2>&1
     done
-    grep -Eq '^lost 0 and 0, came ([1-9][0-9]*) of \1 and [1-9]' "$room/packets-3000" && passed=$((passed + 1)) ||
-        fail "longest-packet in $threads threads" "$(<"$room/packets-3000")"
-    grep -Eq '^lost 0 and 0, came 0 of [1-9][0-9]* and 0,' "$room/packets-3001" && passed=$((passed + 1)) ||
-        fail "longer-packet in $threads threads" "$(<"$room/packets-3001")"
+    grep -Eq '^lost 0 and 0, came ([1-9][0-9]*) of \1 and [1-9]' "$room/packets-1000" && passed=$((passed + 1)) ||
+        fail "longest-packet in $threads threads" "$(<"$room/packets-1000")"
+    grep -Eq '^lost 0 and 0, came 0 of [1-9][0-9]* and 0,' "$room/packets-1001" && passed=$((passed + 1)) ||
+        fail "longer-packet in $threads threads" "$(<"$room/packets-1001")"
     finish
 }
 
