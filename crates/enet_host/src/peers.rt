@@ -118,10 +118,10 @@ impl HostCore {
         calls::set(&mut self.slots, peer, Setting::PingInterval { ms })
     }
 
-    /// Sets how long the other end may leave a command unacknowledged: the connection ends `maximum` milliseconds (30,000 by
-    /// the standard) after its first send, or once two tries have failed that were made `minimum` milliseconds (5,000) after that and
-    /// after the last matching acknowledgement, where 2^(attempts - 1) is at least `limit` (32). A 0 stands for the standard number. E2 where there is
-    /// no such peer.
+    /// Sets how long the other end may leave a command unacknowledged. The connection ends when a try fails `maximum` milliseconds or more
+    /// (30,000 by the standard) after the command was first sent; or when one fails that was made `minimum` milliseconds (5,000) plus its own
+    /// timeout after that and after the last acknowledgement of any command, if 2^(sends - 1) is at least `limit` (32). A 0 stands for the
+    /// standard number. E2 where there is no such peer.
     pub fn set_timeout(
         &mut self,
         peer: PeerRef,

@@ -71,9 +71,10 @@ impl Peer {
         self.ping_interval = if ms == 0 { 500 } else { ms };
     }
 
-    /// Sets how long the other end may leave a command unacknowledged: the connection ends `maximum` milliseconds (30,000 by
-    /// the standard) after its first send, or once two tries have failed that were made `minimum` milliseconds (5,000) after that and
-    /// after the last matching acknowledgement, where 2^(attempts - 1) is at least `limit` (32). A 0 stands for the standard number.
+    /// Sets how long the other end may leave a command unacknowledged. The connection ends when a try fails `maximum` milliseconds or more
+    /// (30,000 by the standard) after the command was first sent; or when one fails that was made `minimum` milliseconds (5,000) plus its own
+    /// timeout after that and after the last acknowledgement of any command, if 2^(sends - 1) is at least `limit` (32). A 0 stands for the
+    /// standard number.
     pub fn timeout(&mut self, limit: u32, minimum: u32, maximum: u32)
         ensures peer { self.new.peer ≡ with_timeout self.old.peer limit minimum maximum }
         ensures room { self.new.room ≡ self.old.room }
