@@ -25,8 +25,8 @@
 //! # Only tested, or neither
 //!
 //! - By `check_queues`: that the calls succeed where there is memory, and that orders of packets that follow one another are grouped by
-//!   receiver, in the relay in its service's thread; that a list of events takes what there is room for, and refusals of orders always. By scripts/check/check-clients.sh, through `enet_relay serve`: that the thread gets
-//!   on.
+//!   receiver, in the relay in its service's thread; that a list of events takes what there is room for, and refusals of orders always. By
+//!   scripts/check/check-clients.sh, through `enet_relay serve`: that the thread gets on.
 //! - Neither: that the bodies of the orders share their bytes, so that no copy is made; that events are kept while the service has orders
 //!   left; that the thread goes on until it is told that the service has ended (one that ends where it first finds no event meets the same
 //!   contract); which seat and numbers an [`OrderList`] gives its orders; that one [`LoneRelay::expand`] stops at 256 orders (one that takes

@@ -103,8 +103,8 @@ impl ChatServer {
 
     /// A server at this address, with no peer.
     ///
-    /// E8 where `peers`, `channels`, `mtu`, `max_packet` or `max_waiting` is out of its range (`queue_capacity` is tested by [`ChatServer::serve`]), E14 where the address can't be had,
-    /// with what the system says of it, E1 for want of memory.
+    /// E8 where `peers`, `channels`, `mtu`, `max_packet` or `max_waiting` is out of its range (`queue_capacity` is tested by
+    /// [`ChatServer::serve`]), E14 where the address can't be had, with what the system says of it, E1 for want of memory.
     pub fn open<R: Net + AllocGlobal>(rt: &R, settings: Settings) -> Result<ChatServer, Unopened>
         ensures out_of_range { is_in_range settings ≡ false → result ≡ Err (record { why = Refusal.BadConfig; reason = None }) }
         ensures in_range { is_in_range settings ≡ true → IfErr result (λ unopened. (unopened.why ≡ Refusal.WireFault) ⊎ (unopened.why ≡ Refusal.Memory)) }
