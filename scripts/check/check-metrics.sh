@@ -292,29 +292,26 @@ hung() {
     same hung "$hung" 1
 }
 
-# For how many milliseconds at most this machine stood still until its standard input ended: the longest time by which a sleep of 20 ms was late.
-watch_machine() {
-    python3 -c '
-import select, sys, time
-late, then = 0, time.monotonic()
-while not select.select([sys.stdin], [], [], 0.02)[0]:
-    now = time.monotonic()
-    late, then = max(late, now - then - 0.02), now
-print(round(1000 * late))'
-}
-
 # Goes through the function $1, and again, three times at most, if something failed while the machine stood still for 300 ms or more: a guest
-# that its host stops, or too much other work, looks like a thread that hangs.
+# that its host stops, or too much other work, looks like a thread that hangs. It stood still for as long as a sleep of 20 ms was late.
 patiently() {
     local try before=$passed fell=$failed late watch
     for try in 1 2 3; do
         passed=$before failed=$fell
-        coproc WATCH { watch_machine; }
-        watch=$WATCH_PID
+        : > "$room/watched"
+        python3 -c '
+import os, sys, time
+late, then = 0, time.monotonic()
+while os.path.exists(sys.argv[1]):
+    time.sleep(0.02)
+    now = time.monotonic()
+    late, then = max(late, now - then - 0.02), now
+print(round(1000 * late))' "$room/watched" > "$room/late" &
+        watch=$!
         "$1" > "$room/said"
-        exec {WATCH[1]}>&-
-        read -r late <&"${WATCH[0]}"
+        rm "$room/watched"
         wait "$watch"
+        late=$(<"$room/late")
         [ "$failed" -gt "$fell" ] && [ "${late:-0}" -ge 300 ] && [ "$try" -lt 3 ] || break
         echo "again: $1 in $threads threads, since the machine stood still for $late ms"
     done
