@@ -402,7 +402,7 @@ renewed-none clock key at moments none each k p low there waits =
     ]
 
 -- a command goes, and waits from now on
-written-same : (slots : List (Option Sent)) (key : ℕ) (p q : Sent) → get_or slots key None ≡ Some p → get_or (set slots key (Some q)) key None ≡ Some q
+pub written-same : (slots : List (Option Sent)) (key : ℕ) (p q : Sent) → get_or slots key None ≡ Some p → get_or (set slots key (Some q)) key None ≡ Some q
 written-same slots key p q there =
     elim (cases_lt key (length slots)) [
       | inl inside ↦ get_or-set_same slots key (Some q) None inside

@@ -12,6 +12,7 @@ pub mod Sending
 pub mod Queueing
 pub mod Submitting
 pub mod Summing
+pub mod Weighing
 pub mod Piecing
 pub mod Skipping
 pub mod Rounds

@@ -7,6 +7,7 @@ pub mod Counting
 pub mod Pending
 pub mod Foretold
 pub mod Late
+pub mod Outstanding
 pub mod Rings
 pub mod Private
 pub mod Waiting

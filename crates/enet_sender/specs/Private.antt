@@ -8,3 +8,4 @@ pub mod Rounds
 pub mod Trims
 pub mod Foretold
 pub mod Late
+pub mod Outstanding

@@ -6,7 +6,9 @@ ghost use Rattle.enet_rtt.specs.Clock.{HappensIn};
 ghost use Rattle.enet_rtt.specs.Transmission.{went_at};
 ghost use Rattle.slab.specs.Slab.{get, slab_len, Updates, SameValues, HasRoomFor};
 ghost use Rattle.enet_sender.specs.Late.{IsLate};
+ghost use Rattle.enet_sender.specs.Outstanding.{outstanding_at};
 ghost use Rattle.enet_sender.specs.Pending.{vacant, most_unused};
+ghost use Rattle.enet_sender.specs.Private.Invariant.{IsShort};
 ghost use Rattle.enet_sender.specs.Private.Pending.{queued};
 ghost use Rattle.enet_sender.specs.Private.Rounds.{test_at};
 ghost use Rattle.enet_sender.specs.declared.sent.Sent.{Sent};
@@ -16,7 +18,7 @@ ghost use Rattle.enet_sender.specs.Sender.{again, begun, ends, is_late, marked};
 ghost use Rattle.enet_sender.specs.Rings.{is_due, IsEmpty};
 
 use crate::timed::TimedSlab;
-use crate::{Late, Sent};
+use crate::{Late, Outstanding, Sent};
 use enet_codec::Refusal;
 use enet_fragment::DataCommand;
 use enet_rtt::{Patience, Tick};
@@ -57,6 +59,7 @@ impl Pending {
     pub(crate) fn insert(&mut self, command: DataCommand) -> u32
         requires room { HasRoomFor self.old.slab 1 }
         requires keys { self.old.slab.capacity ≤ vacant }
+        requires short { IsShort command }
         ensures low { result < vacant }
         ensures none { get self.old.slab result ≡ None }
         ensures updates { Updates self.old.slab self.new.slab result (Some (queued command)) }
@@ -172,6 +175,15 @@ impl Pending {
         ensures { (p : Sent) → get self.old.slab key ≡ Some p → Updates self.old.slab self.new.slab key (Some (begun now timeout p.command)) }
     {
         self.slab.begin(key, now, timeout);
+    }
+
+    /// How many commands there are, queued or sent and not acknowledged, on all channels, and the bytes of their payloads. It looks at none.
+    #[inline(always)]
+    pub fn outstanding(&self) -> Outstanding
+        ensures value { result ≡ outstanding_at self.now.slab }
+        ensures low { (key : ℕ) (p : Sent) → get self.now.slab key ≡ Some p → key < vacant }
+    {
+        self.slab.outstanding()
     }
 
     /// Whether at the moment `now`, in milliseconds, a command of any channel has waited out its timeout, and is not due to go again

@@ -6,14 +6,16 @@ ghost use Rattle.std.specs.Option.{option_map};
 ghost use Rattle.enet_sender.specs.declared.sent.Sent.{Sent};
 ghost use Rattle.enet_sender.specs.Foretold.{IsLateIn, NonePasses, SomePasses};
 ghost use Rattle.enet_sender.specs.Late.{IsLate};
+ghost use Rattle.enet_sender.specs.Outstanding.{outstanding_at};
 ghost use Rattle.enet_sender.specs.Pending.{vacant, most_unused};
+ghost use Rattle.enet_sender.specs.Private.Invariant.{IsShort};
 ghost use Rattle.enet_sender.specs.Private.Pending.{queued};
 ghost use Rattle.enet_sender.specs.Sender.{again, begun, ends, is_late, marked};
 
 use crate::lateness::{
     BEGINNING, advance, any_ends, any_late, first_late, mark_all, mark_under, moment_of,
 };
-use crate::{Late, Sent};
+use crate::{Late, Outstanding, Sent};
 use enet_deadlines::{Deadlines, moment_at};
 use enet_fragment::DataCommand;
 use enet_rtt::{Patience, Tick, Transmission};
@@ -28,7 +30,7 @@ const FEWEST: usize = 4;
 pub(crate) const MOST_UNUSED: usize = 64;
 
 /// The commands of a peer, each under a key, and of each that is sent and not due to go again the moment at which it is late. Contracts
-/// see the commands alone, with room for as many as have a place for their moment.
+/// see the commands alone, with room for as many as have a place for their moment. Their bytes are counted.
 #[derive(Drop)]
 pub(crate) struct TimedSlab {
     slab: Slab<Sent>,
@@ -36,6 +38,8 @@ pub(crate) struct TimedSlab {
     deadlines: Deadlines,
     /// The time that was last told, on a clock that does not wrap.
     clock: u64,
+    /// The bytes of all their bodies.
+    bytes: u64,
     alloc: Global,
 }
 
@@ -43,12 +47,13 @@ impl Model for TimedSlab {
     ghost use Rattle.slab.specs.Slab.{Slab};
     ghost use Rattle.enet_sender.specs.declared.sent.Sent.{Sent};
     ghost use Rattle.enet_sender.specs.Foretold.{KeepsTime, timed};
+    ghost use Rattle.enet_sender.specs.Private.Outstanding.{KeepsBytes};
 
     ghost Value = { Slab Sent };
 
     ghost view = { λ t. timed t.slab t.deadlines };
 
-    ghost invariant = { λ t. KeepsTime t.slab t.deadlines t.clock };
+    ghost invariant = { λ t. KeepsTime t.slab t.deadlines t.clock × KeepsBytes t.slab t.bytes };
 }
 
 /// For how many commands room is made where so many need it, there is room for `room`, and `places` have places for their moments: for
@@ -91,6 +96,7 @@ impl TimedSlab {
             slab: Slab::new(alloc),
             deadlines: Deadlines::none(alloc),
             clock: BEGINNING,
+            bytes: 0,
             alloc,
         }
     }
@@ -129,7 +135,8 @@ impl TimedSlab {
 
     /// Keeps a command that is queued under a key of its own.
     pub(crate) fn insert(&mut self, command: DataCommand) -> u32
-        requires { HasRoomFor self.old 1 }
+        requires room { HasRoomFor self.old 1 }
+        requires short { IsShort command }
         ensures low { result < vacant }
         ensures none { get self.old result ≡ None }
         ensures updates { Updates self.old self.new result (Some (queued command)) }
@@ -138,6 +145,7 @@ impl TimedSlab {
     {
         let mut transmission = Transmission::begin(0, 0);
         transmission.due = true;
+        self.bytes += command.body.len() as u64;
         self.slab.insert_reserved(Sent {
             command,
             transmission,
@@ -149,6 +157,18 @@ impl TimedSlab {
         ensures { option_copied result ≡ get self.now key }
     {
         self.slab.get(key as usize)
+    }
+
+    /// How many commands there are, and the bytes of their bodies.
+    #[inline(always)]
+    pub(crate) fn outstanding(&self) -> Outstanding
+        ensures value { result ≡ outstanding_at self.now }
+        ensures low { (key : ℕ) (p : Sent) → get self.now key ≡ Some p → key < vacant }
+    {
+        Outstanding {
+            commands: self.slab.len() as u64,
+            bytes: self.bytes,
+        }
     }
 
     /// Gives most of the room back, where there is no command.
@@ -170,6 +190,7 @@ impl TimedSlab {
         ensures absent { IfNone result (self.new ≡ self.old) }
     {
         let sent = self.slab.try_remove(key as usize)?;
+        self.bytes -= sent.command.body.len() as u64;
         if !sent.transmission.due {
             self.deadlines.clear(key as usize);
         }
@@ -185,6 +206,7 @@ impl TimedSlab {
     {
         self.slab = Slab::new(self.alloc);
         self.deadlines = Deadlines::none(self.alloc);
+        self.bytes = 0;
     }
 
     /// The command under a key goes for the first time.
