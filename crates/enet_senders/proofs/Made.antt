@@ -14,8 +14,11 @@ use Rattle.enet_sender.specs.Late.{capped}
 use Rattle.enet_sender.specs.Sender.{late_bytes, late_price, lost_price}
 use Rattle.enet_sender.specs.Due.{SendingEnd, new_end}
 use Rattle.enet_senders.specs.declared.channel_set.ChannelSet.{ChannelSet}
+use Rattle.enet_sender.specs.Outstanding.{outstanding_bytes, outstanding_commands}
+use Rattle.enet_senders.specs.Outstanding.{outstanding_over}
 use Rattle.enet_senders.specs.Senders.{IsStill, IsLateOver, sum_over}
 use Rattle.enet_senders.specs.Sets.{KeepsSets}
+use Rattle.enet_senders.proofs.Sums.{so_much}
 use Rattle.enet_senders.specs.Made.{all_ends}
 
 -- ends to which nothing was submitted
@@ -266,3 +269,9 @@ late_of_all count tick es late is = record {
   prices = is.prices ∙ ap capped (sym (none-late (late_price tick) count es));
   lost = is.lost ∙ ap capped (sym (none-late (lost_price tick) count es));
 }
+
+-- what is outstanding on all
+pub outstanding_of_all : (count : ℕ) (es : List SendingEnd) → outstanding_over es ≡ outstanding_over (all_ends count es)
+outstanding_of_all count es =
+    ap₂ so_much
+    (sym (all_sum count es (λ (s : SendingEnd). outstanding_commands s.sender) (λ n. refl))) (sym (all_sum count es (λ (s : SendingEnd). outstanding_bytes s.sender) (λ n. refl)))

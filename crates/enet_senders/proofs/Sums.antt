@@ -1,24 +1,29 @@
 -- What the commands of a peer weigh together, by their keys and by their channels.
-use Rattle.std.proofs.Common.{inl, inr, ◌≡◌, ℕ, zero, suc, ◌+◌, ◌*◌, ◌<◌, ◌≤◌, true, cond, ◌&&◌, eqb, ltb, List, [], ◌∷◌, take, Option, Some, None, is_some, refl, sym, ap, ◌∙◌, arith, All}
-use Rattle.std.specs.List.{cons_option, sum_by}
+use Rattle.std.proofs.Common.{inl, inr, ◌≡◌, ℕ, zero, suc, ◌+◌, ◌*◌, ◌<◌, ◌≤◌, true, cond, ◌&&◌, eqb, ltb, List, [], ◌∷◌, length, map, take, Option, Some, None, is_some, refl, sym, ap, ap₂, ◌∙◌, arith, All}
+use Rattle.std.specs.List.{cons_option, count_by, sum_by}
 use Rattle.std.proofs.Math.Nat.{add-mul}
 use Rattle.std.proofs.lemmas.Bool.{cases_eq, cases_lt, eq-eqb, ne_eqb, lt-ltb, le-ltb}
+use Rattle.std.proofs.lemmas.List.{length-map}
 use Rattle.std.proofs.lemmas.List.Sums.{sum_by-cons, sum_by-append}
 use Rattle.std.proofs.lemmas.List.Elements.{All-head, All-tail}
-use Rattle.slab.specs.Slab.{Slab, get}
+use Rattle.slab.specs.Slab.{Slab, get, slab_len}
 use Rattle.enet_rtt.specs.Transmission.{is_heard_since}
 use Rattle.enet_rtt.specs.declared.transmission.Tick.{Tick}
 use Rattle.enet_sender.specs.declared.lateness.Late.{Late}
 use Rattle.enet_sender.specs.declared.outgoing.Outgoing.{Outgoing}
+use Rattle.enet_sender.specs.declared.outstanding.Outstanding.{Outstanding}
 use Rattle.enet_sender.specs.declared.sent.Sent.{Sent}
+use Rattle.enet_fragment.specs.declared.data.DataCommand.{DataCommand}
 use Rattle.enet_sender.specs.Due.{SendingEnd}
 use Rattle.enet_sender.specs.Late.{IsLate, capped, sum_at, weight_at}
+use Rattle.enet_sender.specs.Outstanding.{outstanding_at, outstanding_bytes, outstanding_commands, payload}
 use Rattle.enet_sender.specs.Pending.{vacant, named, times, held}
-use Rattle.enet_sender.specs.Rings.{Keeps, rings_of, keys_of, end_of}
+use Rattle.enet_sender.specs.Rings.{Keeps, command_of, rings_of, keys_of, end_of}
 use Rattle.enet_sender.specs.Sender.{bytes_of, late_bytes, late_price, lost_price, price_of}
 use Rattle.enet_sender.proofs.Foretelling.{due-not_late}
 use Rattle.enet_sender.proofs.Named.{times-cons}
 use Rattle.enet_sender.proofs.Summing.{sum-suc, sum-whole}
+use Rattle.enet_senders.specs.Outstanding.{outstanding_over}
 use Rattle.enet_senders.specs.Senders.{IsLateOver, KeepsAll, ends_of, sum_over, times_in}
 
 -- what the command under a key weighs
@@ -178,6 +183,92 @@ sum-same w s channels n none each names low =
     by : (key : ℕ) → n ≤ key → (o : Option Sent) → get s key ≡ o → weight_at w o ≡ 0
     by key more None e = refl
     by key more (Some p) e = absurd (let less = low key p e in omega arith)
+
+-- ---- what is queued counts, too
+
+-- what the commands of a channel weigh, queued or sent
+abbrev pub weight_on : (Sent → ℕ) → Slab Sent → Outgoing → ℕ
+weight_on w s o = sum_by w (named (get s) o.queued.items) + sum_by w (named (get s) o.sent.items)
+
+channel-all : (w : Sent → ℕ) (s : Slab Sent) (o : Outgoing) (n : ℕ) → ((key : ℕ) → n ≤ key → at_key w (get s) key ≡ 0) → part_in (at_key w (get s)) n o ≡ weight_on w s o
+channel-all w s o n past =
+    let h = at_key w (get s) in
+    let whole = part-all h n (keys_of (rings_of o)) past in
+    let both = sum_by-append h o.queued.items o.sent.items in
+    let queued = keys-named w (get s) o.queued.items in
+    let sent = keys-named w (get s) o.sent.items in
+    omega arith
+
+-- a number of each end that is what its commands weigh
+abbrev pub Weighs : (Sent → ℕ) → (SendingEnd → ℕ) → Slab Sent → Type 0
+Weighs w g s = (o : Outgoing) → g (end_of s o) ≡ weight_on w s o
+
+channels-all : (w : Sent → ℕ) (g : SendingEnd → ℕ) (s : Slab Sent) (channels : List Outgoing) (n : ℕ) → Weighs w g s → ((key : ℕ) → n ≤ key → at_key w (get s) key ≡ 0)
+    → sum_by (part_in (at_key w (get s)) n) channels ≡ sum_by g (ends_of s channels)
+channels-all w g s [] n weighs past = refl
+channels-all w g s (o ∷ os) n weighs past =
+    let e = sum_by-cons (part_in (at_key w (get s)) n) o os in
+    let f = sum_by-cons g (end_of s o) (ends_of s os) in
+    let here = channel-all w s o n past in
+    let is = weighs o in
+    let rest = channels-all w g s os n weighs past in
+    omega arith
+
+whole-same : (w : Sent → ℕ) (g : SendingEnd → ℕ) (s : Slab Sent) (channels : List Outgoing) (n : ℕ) → Weighs w g s
+    → ((key : ℕ) → key < n → sum_by (times_in key) channels ≡ held (get s) key) → ((key : ℕ) (p : Sent) → get s key ≡ Some p → key < n) → sum_at w s.slots ≡ sum_by g (ends_of s channels)
+whole-same w g s channels n weighs names low =
+    sum-whole w s.slots n (λ key more. by key more (get s key) refl) ∙ sym (parts-slots w s channels n names) ∙ channels-all w g s channels n weighs (λ key more. by key more (get s key) refl)
+  where
+    by : (key : ℕ) → n ≤ key → (o : Option Sent) → get s key ≡ o → weight_at w o ≡ 0
+    by key more None e = refl
+    by key more (Some p) e = absurd (let less = low key p e in omega arith)
+
+-- how many there are
+abbrev one : Sent → ℕ
+one p = 1
+
+count-slots : (slots : List (Option Sent)) → count_by is_some slots ≡ sum_at one slots
+count-slots [] = refl
+count-slots (None ∷ slots) = sum_by-cons (λ (o : Option Sent). cond (is_some o) 1 0) None slots ∙ ap (λ n. 0 + n) (count-slots slots) ∙ sym (sum_by-cons (weight_at one) None slots)
+count-slots (Some p ∷ slots) = sum_by-cons (λ (o : Option Sent). cond (is_some o) 1 0) (Some p) slots ∙ ap (λ n. 1 + n) (count-slots slots) ∙ sym (sum_by-cons (weight_at one) (Some p) slots)
+
+count-list : (ps : List Sent) → length ps ≡ sum_by one ps
+count-list [] = refl
+count-list (p ∷ ps) = let e = sum_by-cons one p ps in let rest = count-list ps in omega arith
+
+counts-on : (s : Slab Sent) → Weighs one (λ (e : SendingEnd). outstanding_commands e.sender) s
+counts-on s o =
+    let queued = named (get s) o.queued.items in
+    let sent = named (get s) o.sent.items in
+    let long : length (map command_of queued) ≡ length queued = length-map queued command_of in
+    let a = count-list queued in
+    let b = count-list sent in
+    omega arith
+
+bodies : (ps : List Sent) → sum_by (λ (c : DataCommand). length c.body) (map command_of ps) ≡ sum_by payload ps
+bodies [] = refl
+bodies (p ∷ ps) =
+    let e = sum_by-cons (λ (c : DataCommand). length c.body) p.command (map command_of ps) in
+    let f = sum_by-cons payload p ps in
+    let rest = bodies ps in
+    omega arith
+
+bytes-on : (s : Slab Sent) → Weighs payload (λ (e : SendingEnd). outstanding_bytes e.sender) s
+bytes-on s o =
+    let queued = bodies (named (get s) o.queued.items) in
+    omega arith
+
+abbrev pub so_much : ℕ → ℕ → Outstanding
+so_much n m = record { commands = n; bytes = m }
+
+pub outstanding-is : (s : Slab Sent) (channels : List Outgoing) → KeepsAll (get s) channels → ((key : ℕ) (p : Sent) → get s key ≡ Some p → key < vacant)
+    → outstanding_at s ≡ outstanding_over (ends_of s channels)
+outstanding-is s channels all low =
+    let commands : slab_len s ≡ (outstanding_over (ends_of s channels)).commands =
+    count-slots s.slots ∙ whole-same one (λ (e : SendingEnd). outstanding_commands e.sender) s channels vacant (counts-on s) all.names low in
+    let bytes : sum_at payload s.slots ≡ (outstanding_over (ends_of s channels)).bytes =
+    whole-same payload (λ (e : SendingEnd). outstanding_bytes e.sender) s channels vacant (bytes-on s) all.names low in
+    ap₂ so_much commands bytes
 
 due-bytes : (tick : Tick) → WeighsNothing (late_bytes tick)
 due-bytes tick p due = ap (λ b. cond b (bytes_of p.command) 0) (due-not_late tick.now p due)

@@ -11,6 +11,7 @@ ghost use Rattle.enet_sender.specs.Due.{SendingEnd, Did, with_submitted, new_end
 ghost use Rattle.enet_sender.specs.Waiting.{Waits};
 ghost use Rattle.enet_sender.specs.Counting.{added};
 ghost use Rattle.enet_senders.specs.Counting.{count_over};
+ghost use Rattle.enet_senders.specs.Outstanding.{outstanding_over};
 ghost use Rattle.enet_senders.specs.Senders.{IsLateOver, IsStill, marked_end, cleared_end};
 
 use crate::senders::MadeSenders;
@@ -18,7 +19,7 @@ use bytes::Bytes;
 use enet_codec::Refusal;
 use enet_fragment::plan;
 use enet_rtt::{Patience, Tick};
-use enet_sender::{Acknowledged, Due, Late, Occasion};
+use enet_sender::{Acknowledged, Due, Late, Occasion, Outstanding};
 use std::alloc::Global;
 use std::marker::Model;
 
@@ -213,6 +214,14 @@ impl Senders {
         ensures { result ≡ added so_far (count_over self.now) }
     {
         self.made.count_sent_again(so_far)
+    }
+
+    /// How many commands are queued, or sent and not acknowledged, on all channels, and the bytes of their payloads. It looks at none of them.
+    #[inline(always)]
+    pub fn outstanding(&self) -> Outstanding
+        ensures { result ≡ outstanding_over self.now }
+    {
+        self.made.outstanding()
     }
 
     /// All that is late at the moment `tick` is due to go again, and has its next timeout (`Transmission::mark`); tells what it is

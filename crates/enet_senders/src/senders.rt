@@ -15,6 +15,7 @@ ghost use Rattle.enet_sender.specs.declared.sent.Sent.{Sent};
 ghost use Rattle.enet_sender.specs.Rings.{end_in};
 ghost use Rattle.enet_sender.specs.Counting.{added};
 ghost use Rattle.enet_senders.specs.Counting.{count_over};
+ghost use Rattle.enet_senders.specs.Outstanding.{outstanding_over};
 ghost use Rattle.enet_senders.specs.Senders.{ends_in, IsLateOver, IsStill, KeepsAllIn, marked_end, cleared_end};
 ghost use Rattle.enet_senders.specs.Made.{all_ends};
 ghost use Rattle.enet_senders.specs.Sets.{Lacks};
@@ -24,7 +25,7 @@ use crate::channel_set::ChannelSet;
 use bytes::Bytes;
 use enet_codec::Refusal;
 use enet_rtt::{Patience, Tick};
-use enet_sender::{Acknowledged, Due, Late, Occasion, Outgoing, Pending};
+use enet_sender::{Acknowledged, Due, Late, Occasion, Outgoing, Outstanding, Pending};
 use std::alloc::Global;
 use std::marker::Model;
 
@@ -507,6 +508,14 @@ impl MadeSenders {
         ensures { result ≡ added so_far (count_over self.now) }
     {
         count_each(&self.channels, &self.pending, so_far)
+    }
+
+    /// `Senders::outstanding`, of the channels that are made.
+    #[inline(always)]
+    pub(crate) fn outstanding(&self) -> Outstanding
+        ensures { result ≡ outstanding_over self.now }
+    {
+        self.pending.outstanding()
     }
 
     /// `Senders::mark`, of the channels that are made.
