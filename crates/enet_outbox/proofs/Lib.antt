@@ -14,6 +14,7 @@ pub mod Senders
 pub mod Spelled
 pub mod Stages
 pub mod Submitting
+pub mod Outstanding
 pub mod Turns
 pub mod ChannelTurns
 pub mod Answering

@@ -1,6 +1,7 @@
 pub mod Allowance
 pub mod Outbox
 pub mod Counting
+pub mod Outstanding
 pub mod Emission
 pub mod Invariant
 pub mod Resting

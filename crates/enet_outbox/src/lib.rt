@@ -11,6 +11,8 @@
 //! By specs/Allowance: how much may be in transit beside the window, and how that grows with what is acknowledged and shrinks with what was
 //! lost while the peer answered (`Allowance`).
 //! By specs/Room: the room in transit is kept for a channel only while something of it may wait for room (`room_is_kept_for_something`).
+//! By specs/Outstanding: `outstanding`, how many commands are queued or unacknowledged and their bytes, which are counted as they come and go;
+//! and `is_full`, whether that is as much as a limit says. Where nothing is, no limit is reached (`one_always_goes`).
 //! What later calls need has its room before, told as a number: `acknowledge` and `queue_control` ask for room, and `narrow`
 //! that nothing is in transit.
 //! Laws: the bytes of a datagram spell its header and its commands, in their order, and nothing else
@@ -25,7 +27,10 @@ mod outbox;
 mod packing;
 mod parts;
 mod readings;
+mod unsequenced;
 
-pub use laws::{oldest_goes_first, room_is_kept_for_something, what_goes_is_spelled};
+pub use laws::{
+    oldest_goes_first, one_always_goes, room_is_kept_for_something, what_goes_is_spelled,
+};
 pub use outbox::Outbox;
-pub use parts::{Acknowledgement, Destination, Matched, Pace, Unsequenced};
+pub use parts::{Acknowledgement, Destination, Matched, Pace, SendLimit, Unsequenced};

@@ -12,7 +12,8 @@ ghost use Rattle.enet_senders.specs.Controlling.{is_idle};
 ghost use Rattle.enet_outbox.specs.Outbox.{acknowledgement_limit, acknowledging, after_holding, after_lateness, after_match, as_control, cleared, empty_outbox, is_answer, is_control, is_crowded, is_done, has_nothing_reliable, has_waited, lateness, marked, matched_by, narrowed, prices_of, sampled, submitted, transit_of, with_control, with_unsequenced, without_controls};
 
 use crate::allowance::Allowance;
-use crate::{Acknowledgement, Matched, Unsequenced, lists};
+use crate::unsequenced::UnsequencedQueue;
+use crate::{Acknowledgement, Matched, lists};
 use bytes::Bytes;
 use enet_codec::{CONTROL_CHANNEL, RELIABLE, Refusal, UNSEQUENCED};
 use enet_fragment::piece_length;
@@ -23,7 +24,6 @@ use enet_throttle::Throttle;
 use std::alloc::Global;
 use std::collections::VecDeque;
 use std::marker::Model;
-use std::mem;
 
 /// How many acknowledgements of a peer wait to be put out at most (our profile): as many as a turn of a service can take in, 256 datagrams
 /// of 32 commands, and can put out.
@@ -46,7 +46,7 @@ fn is_verify_connect(sent: Option<Control>) -> bool
 pub struct Outbox {
     pub(crate) acknowledgements: VecDeque<Acknowledgement>,
     pub(crate) control: ControlChannel,
-    pub(crate) unsequenced: VecDeque<Unsequenced>,
+    pub(crate) unsequenced: UnsequencedQueue,
     pub(crate) group: u16,
     pub(crate) senders: Senders,
     pub(crate) throttle: Throttle,
@@ -77,7 +77,7 @@ impl Model for Outbox {
       outbox = record {
         acknowledgements = o.acknowledgements.items;
         control = o.control.commands;
-        unsequenced = o.unsequenced.items;
+        unsequenced = o.unsequenced;
         group = o.group;
         senders = o.senders;
         throttle = o.throttle;
@@ -110,7 +110,7 @@ impl Outbox {
         Ok(Outbox {
             acknowledgements: VecDeque::new(alloc),
             control,
-            unsequenced: VecDeque::new(alloc),
+            unsequenced: UnsequencedQueue::new(alloc),
             group: 0,
             senders,
             throttle,
@@ -171,16 +171,11 @@ impl Outbox {
         ensures acknowledgement_room { self.new.acknowledgement_room ≡ self.old.acknowledgement_room }
         ensures control_room { self.new.control_room ≡ self.old.control_room }
     {
-        if self.unsequenced.reserve(1).is_err() {
+        let group = after(self.group, 1);
+        if !self.unsequenced.push(channel, group, body) {
             return Err(Refusal::Memory);
         }
-        let group = after(self.group, 1);
         self.group = group;
-        self.unsequenced.push_back_reserved(Unsequenced {
-            channel,
-            group,
-            body: mem::replace(body, Bytes::new()),
-        });
         Ok(())
     }
 

@@ -5,7 +5,7 @@
 //! A label names its loop for the proofs, here and in the other crates: its goals are called by it (`turns-preserved`), also
 //! if no `break` or `continue` names it.
 
-ghost use Rattle.std.specs.Prelude.{◌≡◌, ℕ, true, ◌||◌, IsTrue, ◌≤◌, ◌+◌, ◌-◌, ◌%◌, ◌<◌, ◌^◌, ◌++◌, length, take, drop, slice_get, slice_set, Some, slice_range, unwrap_or};
+ghost use Rattle.std.specs.Prelude.{◌≡◌, ℕ, true, ◌||◌, IsTrue, ◌≤◌, ◌+◌, ◌-◌, ◌%◌, ◌<◌, ◌^◌, ◌++◌, length, take, slice_get, slice_set, Some, slice_range, unwrap_or};
 ghost use Rattle.std.specs.Option.{option_map};
 ghost use Rattle.std.specs.VecDeque.{deque_len, deque_capacity};
 ghost use Rattle.enet_codec.specs.Header.{header_text};
@@ -15,8 +15,9 @@ ghost use Rattle.enet_outbox.specs.Emission.{acknowledgement_of, is_barred, unse
 ghost use Rattle.enet_outbox.specs.Invariant.{HasNothing};
 ghost use Rattle.enet_outbox.specs.Resting.{IsAtRest};
 ghost use Rattle.enet_senders.specs.Senders.{IsStill};
-ghost use Rattle.enet_outbox.specs.Private.Packing.{header_asking, is_reliable, kept_after, most_unused, Leads, taken_in, place_in, asked_for, refuses, told, GoesIn, PacksAcknowledgements, PacksControls, PacksUnsequenced, PacksChannel, PacksChannels};
+ghost use Rattle.enet_outbox.specs.Private.Packing.{header_asking, is_reliable, kept_after, Leads, taken_in, place_in, asked_for, refuses, told, GoesIn, PacksAcknowledgements, PacksControls, PacksUnsequenced, PacksChannel, PacksChannels};
 
+use crate::unsequenced::UnsequencedQueue;
 use crate::{Acknowledgement, Destination, Outbox, Pace, Unsequenced, lists};
 use enet_codec::{Command, Head, Header, NO_PEER, write_acknowledge, write_command, write_header};
 use enet_rtt::told_time;
@@ -24,9 +25,6 @@ use enet_sender::{Due, Kind, Occasion};
 use enet_senders::{ControlChannel, Senders, Written};
 use enet_throttle::Throttle;
 use std::collections::VecDeque;
-
-/// For no more than so many unsequenced packets room is kept where none waits.
-const MOST_UNUSED: usize = 8;
 
 /// Where a datagram stands that is being filled.
 #[derive(Clone, Copy)]
@@ -214,36 +212,18 @@ pub(crate) fn pack_controls(
     }
 }
 
-fn drop_first(unsequenced: &mut VecDeque<Unsequenced>)
-    ensures rest { unsequenced.new.items ≡ drop 1 unsequenced.old.items }
-    ensures less { deque_len unsequenced.new ≡ deque_len unsequenced.old - 1 }
-{
-    let _ = unsequenced.pop_front();
-}
-
-/// Gives most of the room back of a list in which nothing is.
-#[inline(always)]
-fn give_unused_back(unsequenced: &mut VecDeque<Unsequenced>)
-    ensures same { unsequenced.new.items ≡ unsequenced.old.items }
-    ensures room { deque_len unsequenced.new ≡ 0 → deque_capacity unsequenced.new ≤ most_unused }
-{
-    if unsequenced.is_empty() && unsequenced.capacity() > MOST_UNUSED {
-        unsequenced.shrink_to_fit();
-    }
-}
-
 /// Puts the unsequenced packets into the datagram in the order of their submission, as far as they fit, and tells the channel
 /// of the last one. The throttle is asked of each that fits, and may drop it. A closed datagram stays as it is.
 pub(crate) fn pack_unsequenced(
-    unsequenced: &mut VecDeque<Unsequenced>,
+    unsequenced: &mut UnsequencedQueue,
     throttle: &mut Throttle,
     last: &mut Option<u8>,
     buf: &mut [u8],
     from: Progress,
 ) -> Progress
     requires { length buf.old ≤ 4096 }
-    ensures { PacksUnsequenced (record { packets = unsequenced.old.items; throttle = throttle.old; last = last.old })
-        (record { packets = unsequenced.new.items; throttle = throttle.new; last = last.new }) (record { progress = from; buf = buf.old }) (record { progress = result; buf = buf.new }) }
+    ensures { PacksUnsequenced (record { packets = unsequenced.old; throttle = throttle.old; last = last.old })
+        (record { packets = unsequenced.new; throttle = throttle.new; last = last.new }) (record { progress = from; buf = buf.old }) (record { progress = result; buf = buf.new }) }
 {
     if from.closed {
         return from;
@@ -257,9 +237,9 @@ pub(crate) fn pack_unsequenced(
             *last = Some(packet.channel);
             progress = next;
         }
-        drop_first(unsequenced);
+        unsequenced.drop_first();
     }
-    give_unused_back(unsequenced);
+    unsequenced.give_unused_back();
     progress
 }
 

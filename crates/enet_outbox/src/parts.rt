@@ -59,3 +59,12 @@ pub enum Matched {
     /// This command of channel 0xFF.
     Control(Control),
 }
+
+/// How much may be queued, or sent and not acknowledged, for a peer when another packet is submitted to it.
+#[derive(Clone, Copy, Debug, PartialEq, Eq)]
+pub struct SendLimit {
+    /// The bytes of the payloads.
+    pub bytes: u64,
+    /// The commands: a packet that is cut counts as many as it has pieces.
+    pub commands: u64,
+}

@@ -6,10 +6,27 @@ ghost use Rattle.enet_rtt.specs.Clock.{HappensIn};
 ghost use Rattle.enet_sender.specs.Counting.{added};
 ghost use Rattle.enet_sender.specs.Due.{SendingEnd};
 ghost use Rattle.enet_sender.specs.Sender.{is_late};
+ghost use Rattle.enet_sender.specs.declared.outstanding.Outstanding.{Outstanding};
 ghost use Rattle.enet_outbox.specs.Counting.{count_in};
 ghost use Rattle.enet_outbox.specs.Outbox.{has_late, transit_of};
+ghost use Rattle.enet_outbox.specs.Outstanding.{capped, is_full, outstanding_of, reaches};
 
-use crate::Outbox;
+use crate::{Outbox, SendLimit};
+use enet_sender::Outstanding;
+
+/// Whether so much is as much as a limit says.
+fn reaches(limit: SendLimit, there: Outstanding) -> bool
+    ensures { result ≡ reaches limit there }
+{
+    there.commands > 0 && (there.bytes >= limit.bytes || there.commands >= limit.commands)
+}
+
+/// Whether what is told as so much is as much as a limit says: its numbers stopped at the greatest one, and so does a limit.
+fn meets(bytes: u64, commands: u64, there: Outstanding) -> bool
+    ensures { (full : Outstanding) → there ≡ capped full → result ≡ reaches (record { bytes = bytes; commands = commands }) full }
+{
+    reaches(SendLimit { bytes, commands }, there)
+}
 
 impl Outbox {
     /// How many payload bytes of reliable packets are in transit: sent, not acknowledged and not due to go again.
@@ -31,6 +48,32 @@ impl Outbox {
         ensures { result ≡ self.now.outbox.throttle.value }
     {
         self.throttle.value()
+    }
+
+    /// How many commands are queued, or sent and not acknowledged, and the bytes of their payloads, those of unsequenced packets that wait
+    /// among them; commands of channel 0xFF and acknowledgements are not. Each number stops at 2^64 - 1. It looks at none of them.
+    #[inline(always)]
+    pub fn outstanding(&self) -> Outstanding
+        ensures { result ≡ capped (outstanding_of self.now.outbox) }
+    {
+        let on_channels = self.senders.outstanding();
+        Outstanding {
+            commands: on_channels
+                .commands
+                .saturating_add(self.unsequenced.len() as u64),
+            bytes: on_channels.bytes.saturating_add(self.unsequenced.bytes()),
+        }
+    }
+
+    /// Whether it is as much as this limit says, in bytes or in commands. Where nothing is queued or unacknowledged it isn't, whatever the
+    /// limit.
+    pub fn is_full(&self, limit: Option<SendLimit>) -> bool
+        ensures { result ≡ is_full limit self.now.outbox }
+    {
+        match limit {
+            None => false,
+            Some(limit) => meets(limit.bytes, limit.commands, self.outstanding()),
+        }
     }
 
     /// So many, and the commands of all channels that are sent, not acknowledged, and were sent more than once; it stops at 2^64 - 1. It

@@ -15,8 +15,8 @@ pub returns-then-from : goal.returns-then-from
 returns-then-from c = λ f h e1 e2 e3.
     leads-by (repeated-closed (length f.outbox.unsequenced) with_one_unsequenced f (h.is_closed ∙ c.if-from.true)) h
     (ap (λ (us : List Unsequenced). record f.outbox { unsequenced = us }) e1
-    ∙ ap (λ (t : Throttling). record f.outbox { unsequenced = c.args.unsequenced.now.items; throttle = t }) e2
-    ∙ ap (λ (l : Option ℕ). record f.outbox { unsequenced = c.args.unsequenced.now.items; throttle = c.args.throttle.now; last = l }) e3)
+    ∙ ap (λ (t : Throttling). record f.outbox { unsequenced = c.args.unsequenced.now; throttle = t }) e2
+    ∙ ap (λ (l : Option ℕ). record f.outbox { unsequenced = c.args.unsequenced.now; throttle = c.args.throttle.now; last = l }) e3)
 
 pub packets-preserved : goal.packets-preserved
 packets-preserved c = λ f h e1 e2 e3.
@@ -24,8 +24,8 @@ packets-preserved c = λ f h e1 e2 e3.
     let g = i.0 in
     let u = c.in-Some.packet.now in
     let m = unsequenced_of u in
-    let xs = c.packets.unsequenced.items in
-    let ys = c.drop_first.new.unsequenced.items in
+    let xs = c.packets.unsequenced in
+    let ys = c.drop_first.new.self in
     let some : 0 < length xs = grind arith in
     let is : slice_get xs 0 ≡ Some u = slice_get_read xs (length xs) 0 u refl some c.in-Some.ensures.lookup in
     let rest : ys ≡ drop 1 xs = c.drop_first.ensures.rest in
@@ -60,7 +60,7 @@ pub returns-in_default-put_packet : goal.returns-in_default-put_packet
 returns-in_default-put_packet c = λ f h e1 e2 e3.
     let i = c.packets.invariant f h e1 e2 e3 in
     let u = c.in-Some.packet.now in
-    let xs = c.packets.unsequenced.items in
+    let xs = c.packets.unsequenced in
     let some : 0 < length xs = grind arith in
     let is : slice_get xs 0 ≡ Some u = slice_get_read xs (length xs) 0 u refl some c.in-Some.ensures.lookup in
     let t = c.in_default-put_packet.ensures in
@@ -69,7 +69,7 @@ returns-in_default-put_packet c = λ f h e1 e2 e3.
 pub returns : goal.returns
 returns c = λ f h e1 e2 e3.
     let i = c.packets.invariant f h e1 e2 e3 in
-    let xs = c.packets.unsequenced.items in
+    let xs = c.packets.unsequenced in
     let none : length xs ≤ 0 = grind arith in
     leads-by (i.4 ∙ unsequenced-end xs i.0 (slice_get_past xs 0 none)) i.1
-    (i.3 ∙ ap (λ (us : List Unsequenced). record f.outbox { unsequenced = us; throttle = c.packets.throttle; last = c.packets.last }) (sym c.give_unused_back.ensures.same))
+    (i.3 ∙ ap (λ (us : List Unsequenced). record f.outbox { unsequenced = us; throttle = c.packets.throttle; last = c.packets.last }) (sym c.give_unused_back.ensures))

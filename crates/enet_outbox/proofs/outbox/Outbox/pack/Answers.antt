@@ -9,7 +9,7 @@ use Rattle.enet_outbox.proofs.outbox.Outbox.pack.Goals as goal
 
 abbrev left : After-pack_channels-sent → Outbox
 left c =
-    left_by (the_view c.self.inside).outbox c.pack_acknowledgements-acknowledged.new.acknowledgements.items c.pack_controls-controlled.new.control.commands c.pack_unsequenced-unsequenced.new.unsequenced.items
+    left_by (the_view c.self.inside).outbox c.pack_acknowledgements-acknowledged.new.acknowledgements.items c.pack_controls-controlled.new.control.commands c.pack_unsequenced-unsequenced.new.unsequenced
     c.pack_channels-sent.new.senders c.pack_channels-sent.new.flow
 
 led : (c : After-pack_channels-sent) → Leads (filled c.args.pace (the_view c.self.inside).outbox) (left c) c.pack_channels-sent.result c.pack_channels-sent.new.buf × Counts (left c) c.pack_channels-sent.new.flow
@@ -20,7 +20,7 @@ led c =
     (record { progress = c.pack_controls-controlled.result; buf = c.pack_controls-controlled.new.buf })
     (record { progress = c.pack_unsequenced-unsequenced.result; buf = c.pack_unsequenced-unsequenced.new.buf })
     (record { progress = c.pack_channels-sent.result; buf = c.pack_channels-sent.new.buf })
-    c.pack_acknowledgements-acknowledged.new.acknowledgements.items c.pack_controls-controlled.new.control.commands c.pack_unsequenced-unsequenced.new.unsequenced.items
+    c.pack_acknowledgements-acknowledged.new.acknowledgements.items c.pack_controls-controlled.new.control.commands c.pack_unsequenced-unsequenced.new.unsequenced
     c.pack_unsequenced-unsequenced.new.throttle c.pack_unsequenced-unsequenced.new.last c.pack_channels-sent.new.senders c.pack_channels-sent.new.flow
     c.requires.long c.requires.whole c.first_channel-first.ensures.value (sym c.self.invariant.0.counted) (sym c.self.invariant.0.priced) (sym c.limit.ensures)
     c.pack_acknowledgements-acknowledged.ensures.packs c.pack_controls-controlled.ensures.packs c.pack_unsequenced-unsequenced.ensures c.pack_channels-sent.ensures.packs
