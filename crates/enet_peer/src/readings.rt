@@ -2,12 +2,15 @@
 
 ghost use Rattle.std.specs.Prelude.{◌≡◌, is_some, IsTrue};
 ghost use Rattle.enet_outbox.specs.Outbox.{transit_of};
+ghost use Rattle.enet_outbox.specs.Outstanding.{capped, is_full, outstanding_of};
 ghost use Rattle.enet_sender.specs.Counting.{added};
 ghost use Rattle.enet_peer.specs.Calls.{next_event};
 ghost use Rattle.enet_peer.specs.Counting.{count_by_peer};
 ghost use Rattle.enet_peer.specs.Waiting.{is_steady, Waits};
 
 use crate::{Peer, PeerState};
+use enet_outbox::SendLimit;
+use enet_sender::Outstanding;
 
 /// How long a peer's acknowledgements take, in milliseconds.
 #[derive(Clone, Copy, Debug, PartialEq, Eq)]
@@ -42,6 +45,22 @@ impl Peer {
         ensures { result ≡ self.now.peer.outbox.allowance.bytes }
     {
         self.outbox.allowance()
+    }
+
+    /// How many commands are queued, or sent and not acknowledged, and the bytes of their payloads, those of unsequenced packets that wait
+    /// among them; commands of channel 0xFF and acknowledgements are not. Each number stops at 2^64 - 1. It looks at none of them.
+    pub fn outstanding(&self) -> Outstanding
+        ensures { result ≡ capped (outstanding_of self.now.peer.outbox) }
+    {
+        self.outbox.outstanding()
+    }
+
+    /// Whether that is as much as this limit says, in bytes or in commands. Where nothing is queued or unacknowledged it isn't, whatever the
+    /// limit.
+    pub fn is_full(&self, limit: Option<SendLimit>) -> bool
+        ensures { result ≡ is_full limit self.now.peer.outbox }
+    {
+        self.outbox.is_full(limit)
     }
 
     /// So many, and its commands on all channels that are sent, not acknowledged, and were sent more than once; it stops at 2^64 - 1. It
