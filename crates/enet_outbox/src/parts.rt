@@ -60,7 +60,7 @@ pub enum Matched {
     Control(Control),
 }
 
-/// How much may be queued, or sent and not acknowledged, for a peer when another packet is submitted to it.
+/// At how much that is queued, or sent and not acknowledged, a peer takes no further packet.
 #[derive(Clone, Copy, Debug, PartialEq, Eq)]
 pub struct SendLimit {
     /// The bytes of the payloads.

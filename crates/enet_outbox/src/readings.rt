@@ -13,6 +13,7 @@ ghost use Rattle.enet_outbox.specs.Outstanding.{capped, is_full, outstanding_of,
 
 use crate::{Outbox, SendLimit};
 use enet_sender::Outstanding;
+use enet_throttle::Lows;
 
 /// Whether so much is as much as a limit says.
 fn reaches(limit: SendLimit, there: Outstanding) -> bool
@@ -48,6 +49,13 @@ impl Outbox {
         ensures { result ≡ self.now.outbox.throttle.value }
     {
         self.throttle.value()
+    }
+
+    /// The lowest estimates of the round trip in the throttle's running interval and in the one before, in milliseconds.
+    pub fn lows(&self) -> Lows
+        ensures { result ≡ record { running = self.now.outbox.throttle.lowest_round_trip; last = self.now.outbox.throttle.last_round_trip } }
+    {
+        self.throttle.lows()
     }
 
     /// How many commands are queued, or sent and not acknowledged, and the bytes of their payloads, those of unsequenced packets that wait

@@ -15,4 +15,4 @@ mod bandwidth;
 mod throttle;
 
 pub use bandwidth::{budget_of, limit_of, window_of};
-pub use throttle::{Throttle, throttle_shares_out};
+pub use throttle::{Lows, Throttle, throttle_shares_out};

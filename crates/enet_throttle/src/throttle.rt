@@ -24,6 +24,15 @@ pub struct Throttle {
     highest_variance: u32,
 }
 
+/// The lowest estimates of the round trip in an interval of the throttle, in milliseconds.
+#[derive(Clone, Copy, Debug, PartialEq, Eq)]
+pub struct Lows {
+    /// Since the running interval began; 500 before the first sample. ENet: lowestRoundTripTime.
+    pub running: u32,
+    /// In the interval before; 500 before one ended. ENet: lastRoundTripTime.
+    pub last: u32,
+}
+
 impl Model for Throttle {
     ghost use Rattle.std.specs.Prelude.{◌<◌, ◌≤◌};
     ghost use Rattle.enet_throttle.specs.Throttle.{Throttling};
@@ -170,6 +179,16 @@ impl Throttle {
         ensures scale { self.now.limit ≤ 32 }
     {
         self.value
+    }
+
+    /// The lowest estimates of the round trip in the running interval and in the one before.
+    pub fn lows(&self) -> Lows
+        ensures { result ≡ record { running = self.now.lowest_round_trip; last = self.now.last_round_trip } }
+    {
+        Lows {
+            running: self.lowest_round_trip,
+            last: self.last_round_trip,
+        }
     }
 
     /// How many bytes of reliable packets may be in transit: of the window as much as the throttle's limit says, and at
