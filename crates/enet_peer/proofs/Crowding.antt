@@ -15,6 +15,7 @@ use Rattle.enet_outbox.specs.declared.parts.Acknowledgement.{Acknowledgement}
 use Rattle.enet_outbox.specs.declared.parts.Matched.{Matched}
 use Rattle.enet_outbox.specs.declared.parts.Matched.TheVariants as matched
 use Rattle.enet_outbox.specs.Outbox.{is_crowded, is_done, matched_by}
+use Rattle.enet_peer.specs.declared.parts.Ending.TheVariants.{BadAnswer}
 use Rattle.enet_peer.specs.declared.parts.PeerState.{PeerState}
 use Rattle.enet_peer.specs.declared.parts.PeerState.TheVariants as state
 use Rattle.enet_peer.specs.Peering.{Peering}
@@ -77,7 +78,7 @@ acknowledge-fewer p now channel number told = by (is_connecting p.state)
 welcome-fewer : (p : Peering) (v : Verify) (o : Option Terms) → waiting (welcomed p v o) ≤ waiting p
 welcome-fewer p v None =
     let same : waiting p ≤ waiting p = omega arith in
-    let none : waiting (ended p 0) ≤ waiting p = omega arith in
+    let none : waiting (ended p BadAnswer 0) ≤ waiting p = omega arith in
     unwelcomed-holds (λ (q : Peering). waiting q ≤ waiting p) p v same none
 welcome-fewer p v (Some terms) = omega arith
 

@@ -6,6 +6,7 @@ use Rattle.enet_peer.specs.Peering.{Peering}
 use Rattle.enet_codec.specs.declared.command.Verify.{Verify}
 use Rattle.enet_codec.specs.Message.{Message}
 use Rattle.enet_peer.specs.Endings.{ended}
+use Rattle.enet_peer.specs.declared.parts.Ending.TheVariants.{BadAnswer}
 use Rattle.enet_peer.specs.CommandEffect.{Outcome, Obeys, is_crowded_out, is_unasked, stopped, unless_refused, unwelcomed}
 
 -- what holds of the peer as it was and as the command leaves it holds after the call, memory refused or not
@@ -35,9 +36,9 @@ unless-holds P p m o was is = by (is_unasked p m.body) (is_crowded_out p m)
     by false false = is
 
 -- what holds of a client as it was and of one whose connection has ended holds where a server's answer isn't accepted
-pub unwelcomed-holds : (P : Peering → Type 0) (p : Peering) (v : Verify) → P p → P (ended p 0) → P (unwelcomed p v)
+pub unwelcomed-holds : (P : Peering → Type 0) (p : Peering) (v : Verify) → P p → P (ended p BadAnswer 0) → P (unwelcomed p v)
 unwelcomed-holds P p v was is = by (p.offer.connect_id == v.connect_id)
   where
-    by : (b : Bool) → P (cond b (ended p 0) p)
+    by : (b : Bool) → P (cond b (ended p BadAnswer 0) p)
     by true = is
     by false = was

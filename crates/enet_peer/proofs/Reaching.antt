@@ -50,13 +50,15 @@ use Rattle.enet_outbox.specs.Outbox as outbox
 use Rattle.enet_outbox.specs.Emission.{Filling, filled}
 use Rattle.enet_outbox.proofs.Filled.{by-filling}
 use Rattle.enet_peer.specs.Peering.{Peering, joined, connecting, answering}
+use Rattle.enet_peer.specs.declared.parts.Ending.{Ending}
+use Rattle.enet_peer.specs.declared.parts.Ending.TheVariants.{AskedHere, AskedThere, BadAnswer}
 use Rattle.enet_peer.specs.declared.parts.PeerState.{PeerState}
 use Rattle.enet_peer.specs.declared.parts.PeerState.TheVariants as state
 use Rattle.enet_peer.specs.declared.parts.Limits.{Limits}
 use Rattle.enet_peer.specs.declared.parts.Offsets.{Offsets}
 use Rattle.enet_peer.specs.declared.parts.PeerEvent.{PeerEvent}
 use Rattle.enet_peer.specs.declared.parts.PeerEvent.TheVariants as event
-use Rattle.enet_peer.specs.Endings.{ended, freed, disconnecting, parting, settled, is_later, cut_off_in}
+use Rattle.enet_peer.specs.Endings.{ended, freed, disconnecting, parting, settled, is_later, silence_ending, cut_off_in}
 use Rattle.enet_peer.specs.CommandEffect.{Outcome, Obeys, unless_refused, wants_memory, answered, answered_at, is_answered_in, is_allowed, is_connect, obeyed, by_body, by_answer, by_arrival, on_data, stopped, sampled, with_answer, on_match, accepted, is_connecting, on_acknowledge, welcomed, on_verify_in, on_last_disconnect, on_disconnect_in}
 use Rattle.enet_peer.specs.Calls.{Leave, AtOnce, TellsOnce, Asks, AsksLater, Refused, Leaves, left, Submits, submitted, PutsOut, after_timeouts, after_timeouts_by, expiry_of, held_back, is_held_back, is_pinged, moved, tick_of, ticked, is_connected, pace_of, gone_on_in, Taken, Takes, next_event, event_after, packet_event, last_event, with_bandwidth, with_throttle}
 use Rattle.enet_peer.specs.Reachable.{IsReachable, IsStill, IsStillIn, KeepsHoldings, WaitsIn, holdings_of}
@@ -159,8 +161,8 @@ places-cleared ss h = at-map InPlace InPlace cleared_sender ss (λ i s e. e) h
 handed-cleared : (rs : List ReceivingEnd) → At HandedOver rs → At HandedOver (map cleared_receiver rs)
 handed-cleared rs h = at-map HandedOver HandedOver cleared_receiver rs (λ i r e. e) h
 
-ended-keeps : (p : Peering) (info : ℕ) → IsReachable p → IsReachable (ended p info)
-ended-keeps p info h = record {
+ended-keeps : (p : Peering) (why : Ending) (info : ℕ) → IsReachable p → IsReachable (ended p why info)
+ended-keeps p why info h = record {
   still = stilled (controlling.cleared p.outbox.control) p.outbox.senders refl;
   waits = (refl, refl);
   places = places-cleared p.outbox.senders h.places;
@@ -263,7 +265,7 @@ connected-keeps s q e t places handed = absurd (let x : false ≡ true = t in cc
 
 with-answer-keeps : (p : Peering) (s : PeerState) (what : Control) → IsReachable p → IsReachable (with_answer s what p)
 with-answer-keeps p state.Answering (control.VerifyConnect verify) h = record { still = tt; waits = tt; places = h.places; handed_over = h.handed_over }
-with-answer-keeps p state.Disconnecting (control.Disconnect info) h = ended-keeps p 0 h
+with-answer-keeps p state.Disconnecting (control.Disconnect info) h = ended-keeps p AskedHere 0 h
 with-answer-keeps p s what h = h
 
 acknowledged-keeps : (p : Peering) (now channel number told : ℕ) → IsReachable p → IsReachable (on_acknowledge p now channel number told)
@@ -290,7 +292,7 @@ acknowledged-keeps p now channel number told h = by-state (is_connecting p.state
     by-state false = by (matched_by p.outbox channel number meant)
 
 welcomed-keeps : (p : Peering) (v : Verify) (o : Option Terms) → IsReachable p → IsReachable (welcomed p v o)
-welcomed-keeps p v None h = unwelcomed-holds IsReachable p v h (ended-keeps p 0 h)
+welcomed-keeps p v None h = unwelcomed-holds IsReachable p v h (ended-keeps p BadAnswer 0 h)
 welcomed-keeps p v (Some terms) h = record {
   still = tt;
   waits = tt;
@@ -305,21 +307,21 @@ verified-keeps p v s h = h
 -- a DISCONNECT that can be acknowledged is
 last-keeps : (p : Peering) (h : Head) (a : Bool) (sent : Option ℕ) (info : ℕ) → IsReachable p
     → IsReachable (answered (on_last_disconnect p (a && is_some sent) info) (record { head = record h { acknowledge = a }; body = disconnect info }) sent true).after
-last-keeps p h true None info k = ended-keeps p info k
+last-keeps p h true None info k = ended-keeps p AskedThere info k
 last-keeps p h true (Some time) info k = record {
   still = stilled (controlling.cleared p.outbox.control) p.outbox.senders refl;
   waits = (record { channel = h.channel; number = h.number; time = time }, [], refl, refl);
   places = places-cleared p.outbox.senders k.places;
   handed_over = handed-cleared p.inbox.receivers k.handed_over;
 }
-last-keeps p h false sent info k = ended-keeps p info k
+last-keeps p h false sent info k = ended-keeps p AskedThere info k
 
 disconnected-keeps : (p : Peering) (s : PeerState) (h : Head) (sent : Option ℕ) (info : ℕ) → IsReachable p
     → IsReachable (answered (on_disconnect_in s p (h.acknowledge && is_some sent) info) (record { head = h; body = disconnect info }) sent true).after
 disconnected-keeps p state.Connected h sent info k = last-keeps p h h.acknowledge sent info k
 disconnected-keeps p state.DisconnectLater h sent info k = last-keeps p h h.acknowledge sent info k
-disconnected-keeps p state.Connecting h sent info k = answered-keeps (ended p info) (record { head = h; body = disconnect info }) sent true (ended-keeps p info k)
-disconnected-keeps p state.Disconnecting h sent info k = answered-keeps (ended p info) (record { head = h; body = disconnect info }) sent true (ended-keeps p info k)
+disconnected-keeps p state.Connecting h sent info k = answered-keeps (ended p AskedThere info) (record { head = h; body = disconnect info }) sent true (ended-keeps p AskedThere info k)
+disconnected-keeps p state.Disconnecting h sent info k = answered-keeps (ended p AskedThere info) (record { head = h; body = disconnect info }) sent true (ended-keeps p AskedThere info k)
 disconnected-keeps p state.Answering h sent info k = answered-keeps (freed p) (record { head = h; body = disconnect info }) sent true (freed-keeps p k)
 disconnected-keeps p s h sent info k = answered-keeps p (record { head = h; body = disconnect info }) sent true k
 
@@ -538,7 +540,7 @@ put-out-keeps now len p q buf h out = subst IsReachable (sym out.after) (went-ke
 
 cut-off-keeps : (p : Peering) (s : PeerState) → IsReachable p → IsReachable (cut_off_in s p)
 cut-off-keeps p state.Answering h = freed-keeps p h
-cut-off-keeps p s h = ended-keeps p 0 h
+cut-off-keeps p s h = ended-keeps p (silence_ending s) 0 h
 
 marked-keeps : (p : Peering) (tick : Tick) → IsReachable p → IsReachable (record p { outbox = outbox.marked p.outbox tick })
 marked-keeps p tick h =

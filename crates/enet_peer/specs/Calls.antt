@@ -19,6 +19,7 @@ use Rattle.enet_outbox.specs.declared.parts.Destination.{Destination}
 use Rattle.enet_outbox.specs.Outbox.{has_nothing_reliable, with_control, has_late, has_waited, lateness, marked}
 use Rattle.enet_outbox.specs.Outbox as outbox
 use Rattle.enet_outbox.specs.Emission.{filled, Emits}
+use Rattle.enet_peer.specs.declared.parts.Ending.TheVariants.{AskedThere}
 use Rattle.enet_peer.specs.declared.parts.PeerState.{PeerState}
 use Rattle.enet_peer.specs.declared.parts.PeerState.TheVariants as state
 use Rattle.enet_peer.specs.declared.parts.PeerEvent.{PeerEvent}
@@ -70,7 +71,7 @@ destination_of p = record { slot = p.terms.slot; session = p.terms.outgoing_sess
 -- a datagram has gone, if there was one to go: the first acknowledgement that goes in AckDisconnect is that of the DISCONNECT;
 -- once its last DISCONNECT has gone a parting peer is free
 abbrev pub gone_on_in : PeerState → Peering → Peering
-gone_on_in state.AckDisconnect p = ended p p.info
+gone_on_in state.AckDisconnect p = ended p AskedThere p.info
 gone_on_in state.Parting p = if nat_lt 0 (length p.outbox.control.queued) then p else freed p
 gone_on_in _ p = settled p
 

@@ -20,6 +20,7 @@ use Rattle.enet_outbox.specs.declared.parts.Matched.{Matched}
 use Rattle.enet_outbox.specs.declared.parts.Matched.TheVariants as matched
 use Rattle.enet_outbox.specs.Outbox.{is_crowded, with_acknowledgement, matched_by, after_acknowledgement, told_by, with_growth}
 use Rattle.enet_outbox.specs.Outbox as outbox
+use Rattle.enet_peer.specs.declared.parts.Ending.TheVariants.{AskedHere, AskedThere, BadAnswer}
 use Rattle.enet_peer.specs.declared.parts.PeerState.{PeerState}
 use Rattle.enet_peer.specs.declared.parts.PeerState.TheVariants as state
 use Rattle.enet_peer.specs.Peering.{Peering}
@@ -89,7 +90,7 @@ sampled p now time = measured p now (sample_of now time) (after_sample p.estimat
 -- an acknowledged command of channel 0xFF: VERIFY_CONNECT completes a server's connection, DISCONNECT ends one
 abbrev pub with_answer : PeerState → Control → Peering → Peering
 with_answer state.Answering (control.VerifyConnect verify) p = record p { state = state.Connected; greeting = Some p.info }
-with_answer state.Disconnecting (control.Disconnect info) p = ended p 0
+with_answer state.Disconnecting (control.Disconnect info) p = ended p AskedHere 0
 with_answer _ _ p = p
 
 -- the command that is acknowledged is gone, the allowance grows by it, and its round trip is measured
@@ -121,7 +122,7 @@ on_acknowledge p now channel number told =
 -- a server's answer that isn't accepted ends the connection. One with another connect id than was asked with can't be this server's,
 -- and has no effect
 abbrev pub unwelcomed : Peering → Verify → Peering
-unwelcomed p v = if p.offer.connect_id == v.connect_id then ended p 0 else p
+unwelcomed p v = if p.offer.connect_id == v.connect_id then ended p BadAnswer 0 else p
 
 -- a server's answer comes to a client. Where it is accepted, the connection stands, and the answer is the acknowledgement of CONNECT,
 -- which is all that the client had to send
@@ -143,13 +144,13 @@ on_verify_in _ p v = p
 -- DISCONNECT that can be acknowledged leaves its acknowledgement to be sent; else the connection has ended
 abbrev pub on_last_disconnect : Peering → Bool → ℕ → Peering
 on_last_disconnect p true info = record (dropped p) { state = state.AckDisconnect; info = info }
-on_last_disconnect p false info = ended p info
+on_last_disconnect p false info = ended p AskedThere info
 
 abbrev pub on_disconnect_in : PeerState → Peering → Bool → ℕ → Peering
 on_disconnect_in state.Connected p answerable info = on_last_disconnect p answerable info
 on_disconnect_in state.DisconnectLater p answerable info = on_last_disconnect p answerable info
-on_disconnect_in state.Connecting p answerable info = ended p info
-on_disconnect_in state.Disconnecting p answerable info = ended p info
+on_disconnect_in state.Connecting p answerable info = ended p AskedThere info
+on_disconnect_in state.Disconnecting p answerable info = ended p AskedThere info
 on_disconnect_in state.Answering p answerable info = freed p
 on_disconnect_in _ p answerable info = p
 

@@ -1,10 +1,12 @@
 -- How a connection ends.
-use Rattle.std.specs.Prelude.{ℕ, Bool, true, false, ◌&&◌, if◌then◌else◌, None}
+use Rattle.std.specs.Prelude.{ℕ, Bool, true, false, ◌&&◌, if◌then◌else◌, Some, None}
 use Rattle.enet_senders.specs.declared.control.Control.TheVariants as control
 use Rattle.enet_inbox.specs.Inbox.{forgotten}
 use Rattle.enet_inbox.specs.Inbox as inbox
 use Rattle.enet_outbox.specs.Outbox.{with_control, is_done}
 use Rattle.enet_outbox.specs.Outbox as outbox
+use Rattle.enet_peer.specs.declared.parts.Ending.{Ending}
+use Rattle.enet_peer.specs.declared.parts.Ending.TheVariants.{AskedHere, AskedThere, TimedOut, NeverAnswered}
 use Rattle.enet_peer.specs.declared.parts.PeerState.{PeerState}
 use Rattle.enet_peer.specs.declared.parts.PeerState.TheVariants as state
 use Rattle.enet_peer.specs.Peering.{Peering}
@@ -13,9 +15,9 @@ use Rattle.enet_peer.specs.Peering.{Peering}
 abbrev pub dropped : Peering → Peering
 dropped p = record p { inbox = inbox.cleared p.inbox; outbox = outbox.cleared p.outbox }
 
--- the connection has ended, and the user is told this word
-abbrev pub ended : Peering → ℕ → Peering
-ended p info = record (dropped p) { state = state.Ended; info = info }
+-- the connection has ended for this reason, and the user is told this word
+abbrev pub ended : Peering → Ending → ℕ → Peering
+ended p why info = record (dropped p) { state = state.Ended; info = info; ending = Some why }
 
 -- the user is told nothing more
 abbrev pub silent : Peering → Peering
@@ -48,10 +50,17 @@ is_later _ = false
 abbrev pub settled : Peering → Peering
 settled p = if is_later p.state && is_done p.outbox then disconnecting p p.info else p
 
+-- why the connection of a peer in this state ends once its patience is over
+abbrev pub silence_ending : PeerState → Ending
+silence_ending state.Connecting = NeverAnswered
+silence_ending state.Disconnecting = AskedHere
+silence_ending state.AckDisconnect = AskedThere
+silence_ending _ = TimedOut
+
 -- a peer whose patience is over: a server that waits for the client is free at once
 abbrev pub cut_off_in : PeerState → Peering → Peering
 cut_off_in state.Answering p = freed p
-cut_off_in _ p = ended p 0
+cut_off_in s p = ended p (silence_ending s) 0
 
 abbrev pub cut_off : Peering → Peering
 cut_off p = cut_off_in p.state p

@@ -12,6 +12,7 @@ use Rattle.enet_connect.specs.Verification.{asked, verification_of}
 use Rattle.enet_senders.specs.declared.control.Control.TheVariants as control
 use Rattle.enet_inbox.specs.Inbox.{Inbox, empty_inbox}
 use Rattle.enet_outbox.specs.Outbox.{Outbox, empty_outbox, with_control}
+use Rattle.enet_peer.specs.declared.parts.Ending.{Ending}
 use Rattle.enet_peer.specs.declared.parts.PeerState.{PeerState}
 use Rattle.enet_peer.specs.declared.parts.PeerState.TheVariants as state
 use Rattle.enet_peer.specs.declared.parts.Limits.{Limits}
@@ -33,6 +34,7 @@ pub record Peering : Type 0 where
   pub refused : Bool  -- its host was full when its client confirmed: it is told so, and let go
   pub other_incoming : ℕ  -- the other's incoming bandwidth as last told, in bytes per second
   pub greeting : Option ℕ  -- a Connect event that wasn't taken
+  pub ending : Option Ending  -- why the connection has ended
   pub inbox : Inbox
   pub outbox : Outbox
 
@@ -74,6 +76,7 @@ joined now terms limits = record {
   refused = false;
   other_incoming = 0;
   greeting = None;
+  ending = None;
   inbox = empty_inbox terms.channels limits.max_packet limits.max_waiting;
   outbox = empty_outbox terms.channels 1 (throttle_for terms);
 }

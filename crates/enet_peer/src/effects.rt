@@ -12,7 +12,7 @@ ghost use Rattle.enet_peer.specs.Private.Peered.{places_of};
 ghost use Rattle.enet_outbox.specs.Outbox.{is_crowded};
 ghost use Rattle.enet_peer.specs.CommandEffect.{obeyed, wants_memory, is_kept, is_crowded_out, is_unasked, drops_acknowledgements, Obeys, answered, is_allowed, is_answered_in, accepted, on_acknowledge, on_verify_in, on_disconnect_in, on_bandwidth, on_throttle, sampled, unwelcomed, with_answer};
 
-use crate::{Peer, PeerState};
+use crate::{Ending, Peer, PeerState};
 use enet_codec::{Acknowledged, Command, Head, Stop, Verify};
 use enet_connect::confirm;
 use enet_inbox::Foreseen;
@@ -396,7 +396,9 @@ impl Peer {
                 self.state = PeerState::Connected;
                 self.greeting = Some(self.info);
             }
-            (PeerState::Disconnecting, Control::Disconnect { .. }) => self.end(0),
+            (PeerState::Disconnecting, Control::Disconnect { .. }) => {
+                self.end(Ending::AskedHere, 0);
+            }
             _ => {}
         }
     }
@@ -431,7 +433,7 @@ impl Peer {
         ensures places { places_of self.old ≤ places_of self.new }
     {
         if verify.connect_id == self.offer.connect_id {
-            self.end(0);
+            self.end(Ending::BadAnswer, 0);
         }
     }
 
@@ -448,10 +450,12 @@ impl Peer {
                     self.state = PeerState::AckDisconnect;
                     self.info = info;
                 } else {
-                    self.end(info);
+                    self.end(Ending::AskedThere, info);
                 }
             }
-            PeerState::Connecting | PeerState::Disconnecting => self.end(info),
+            PeerState::Connecting | PeerState::Disconnecting => {
+                self.end(Ending::AskedThere, info);
+            }
             PeerState::Answering => self.free(),
             _ => {}
         }

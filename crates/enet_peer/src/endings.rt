@@ -4,7 +4,7 @@ ghost use Rattle.std.specs.Prelude.{◌≡◌, ◌≤◌};
 ghost use Rattle.enet_peer.specs.Endings.{dropped, ended, freed, settled, disconnecting, parting};
 ghost use Rattle.enet_peer.specs.Private.Peered.{places_of};
 
-use crate::{Peer, PeerState};
+use crate::{Ending, Peer, PeerState};
 use enet_senders::Control;
 
 impl Peer {
@@ -20,15 +20,16 @@ impl Peer {
         self.outbox.clear();
     }
 
-    /// Ends the connection, of which the user is told this word.
-    pub(crate) fn end(&mut self, info: u32)
-        ensures peer { self.new.peer ≡ ended self.old.peer info }
+    /// Ends the connection for this reason, of which the user is told this word.
+    pub(crate) fn end(&mut self, why: Ending, info: u32)
+        ensures peer { self.new.peer ≡ ended self.old.peer why info }
         ensures acknowledgement_room { self.old.acknowledgement_room ≤ self.new.acknowledgement_room }
         ensures places { places_of self.old ≤ places_of self.new }
     {
         self.drop_all();
         self.state = PeerState::Ended;
         self.info = info;
+        self.ending = Some(why);
     }
 
     /// Ends the connection, of which the user is told nothing more.

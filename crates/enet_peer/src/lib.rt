@@ -52,6 +52,6 @@ pub use datagram::{may_confirm, receive, what_was_put_out_comes};
 pub use heading::{read_heading, read_offer};
 pub use held::Held;
 pub use laws::{disconnect_is_answered, reachable_stays, sample_is_no_longer};
-pub use parts::{Limits, Offsets, PeerEvent, PeerState};
+pub use parts::{Ending, Limits, Offsets, PeerEvent, PeerState};
 pub use peer::Peer;
 pub use readings::RoundTrip;

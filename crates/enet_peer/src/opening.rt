@@ -115,6 +115,7 @@ impl Peer {
             refused: false,
             other_incoming: 0,
             greeting: None,
+            ending: None,
             inbox,
             outbox,
         })

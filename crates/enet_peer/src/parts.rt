@@ -25,6 +25,22 @@ pub enum PeerState {
     Parting,
 }
 
+/// Why a connection of which a Disconnect event is told has ended for this end.
+#[derive(Clone, Copy, Debug, PartialEq, Eq)]
+pub enum Ending {
+    /// This end's DISCONNECT (`disconnect`, `disconnect_later`) was acknowledged, or wasn't for longer than this end waits.
+    AskedHere,
+    /// The other end sent DISCONNECT, with which it also refuses a connection; also if this end had asked, too. The event has its word.
+    AskedThere,
+    /// The other end left a command unacknowledged for longer than this end waits (`Peer::set_timeout`), also before the DISCONNECT of
+    /// `disconnect_later` went.
+    TimedOut,
+    /// No answer of the server to a client's CONNECT took effect for as long as the client waits.
+    NeverAnswered,
+    /// The server's VERIFY_CONNECT doesn't fit what the client asked for.
+    BadAnswer,
+}
+
 /// What a host allows a peer.
 #[derive(Clone, Copy)]
 pub struct Limits {

@@ -2,7 +2,7 @@
 
 ghost use Rattle.std.specs.Prelude.{◌≡◌};
 
-use crate::{Limits, PeerState};
+use crate::{Ending, Limits, PeerState};
 use enet_codec::Offer;
 use enet_connect::Terms;
 use enet_inbox::Inbox;
@@ -39,6 +39,8 @@ pub struct Peer {
     pub(crate) other_incoming: u32,
     /// A Connect event that wasn't taken.
     pub(crate) greeting: Option<u32>,
+    /// Why the connection has ended.
+    pub(crate) ending: Option<Ending>,
     pub(crate) inbox: Inbox,
     pub(crate) outbox: Outbox,
 }
@@ -70,6 +72,7 @@ impl Model for Peer {
         refused = p.refused;
         other_incoming = p.other_incoming;
         greeting = p.greeting;
+        ending = p.ending;
         inbox = p.inbox;
         outbox = p.outbox.outbox;
       };
@@ -86,6 +89,13 @@ impl Peer {
         ensures { result ≡ self.now.peer.state }
     {
         self.state
+    }
+
+    /// Why the connection has ended; None while it hasn't ended for this end, or if it ended without a Disconnect event.
+    pub fn ending(&self) -> Option<Ending>
+        ensures { result ≡ self.now.peer.ending }
+    {
+        self.ending
     }
 
     /// Whether it began by a CONNECT that came.

@@ -11,6 +11,7 @@ ghost use Rattle.enet_peer.specs.Waiting.{is_steady, Waits};
 use crate::{Peer, PeerState};
 use enet_outbox::SendLimit;
 use enet_sender::Outstanding;
+use enet_throttle::Lows;
 
 /// How long a peer's acknowledgements take, in milliseconds.
 #[derive(Clone, Copy, Debug, PartialEq, Eq)]
@@ -31,6 +32,13 @@ impl Peer {
             mean: self.timing.round_trip(),
             variance: self.timing.variance(),
         }
+    }
+
+    /// The lowest estimates of the round trip in the throttle's running interval and in the one before, in milliseconds.
+    pub fn lows(&self) -> Lows
+        ensures { result ≡ record { running = self.now.peer.outbox.throttle.lowest_round_trip; last = self.now.peer.outbox.throttle.last_round_trip } }
+    {
+        self.outbox.lows()
     }
 
     /// How many payload bytes of reliable packets are in transit: sent, not acknowledged and not due to go again.

@@ -5,7 +5,7 @@ ghost use Rattle.enet_fragment.specs.Cutting.{planned, piece_count};
 ghost use Rattle.enet_sender.specs.CommandChoice.{fragment_limit};
 ghost use Rattle.enet_peer.specs.Calls.{is_connected, submission_refusal, Submits, handed_back, pace_of, destination_of, gone_on, PutsOut};
 
-use crate::{Peer, PeerState};
+use crate::{Ending, Peer, PeerState};
 use bytes::Bytes;
 use enet_codec::Refusal;
 use enet_fragment::plan;
@@ -94,7 +94,7 @@ impl Peer {
         ensures { self.new.peer ≡ gone_on self.old.peer }
     {
         match self.state {
-            PeerState::AckDisconnect => self.end(self.info),
+            PeerState::AckDisconnect => self.end(Ending::AskedThere, self.info),
             PeerState::Parting => {
                 if !self.outbox.has_controls() {
                     self.free();

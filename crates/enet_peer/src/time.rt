@@ -3,11 +3,11 @@
 ghost use Rattle.std.specs.Prelude.{◌≡◌, ℕ, ◌≤◌, ◌<◌, ◌^◌, ◌&&◌, nat_le, Bool, IsTrue};
 ghost use Rattle.enet_rtt.specs.Clock.{elapsed_time, HappensIn};
 ghost use Rattle.enet_outbox.specs.Outbox.{has_nothing_reliable};
-ghost use Rattle.enet_peer.specs.Endings.{cut_off};
+ghost use Rattle.enet_peer.specs.Endings.{cut_off, silence_ending};
 ghost use Rattle.enet_peer.specs.Calls.{answering_time, expiry_of, growth_bound, has_stayed, is_answering, is_connected, is_due, is_over, is_pinged, is_welcome, moved, pinged, tick_of};
 ghost use Rattle.enet_peer.specs.Private.Time.{expired, timed_out};
 
-use crate::{Peer, PeerState};
+use crate::{Ending, Peer, PeerState};
 use enet_rtt::{Expiry, Tick, elapsed};
 use enet_senders::Control;
 
@@ -16,6 +16,18 @@ fn answering_time() -> u32
     ensures { result ≡ answering_time }
 {
     7_500
+}
+
+/// Why the connection of a peer in this state ends once its patience is over.
+fn silence_ending(state: PeerState) -> Ending
+    ensures { result ≡ silence_ending state }
+{
+    match state {
+        PeerState::Connecting => Ending::NeverAnswered,
+        PeerState::Disconnecting => Ending::AskedHere,
+        PeerState::AckDisconnect => Ending::AskedThere,
+        _ => Ending::TimedOut,
+    }
 }
 
 impl Peer {
@@ -179,7 +191,7 @@ impl Peer {
     {
         match self.state {
             PeerState::Answering => self.free(),
-            _ => self.end(0),
+            state => self.end(silence_ending(state), 0),
         }
     }
 
