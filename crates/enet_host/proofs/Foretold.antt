@@ -1,5 +1,5 @@
 -- What a host tells of what is to come.
-use Rattle.std.proofs.Common.{◌≡◌, ℕ, Bool, true, false, nat_lt, Option, Some, None, List, [], ◌∷◌, length, slice_get, arith, refl, sym, ap, subst, ◌∙◌}
+use Rattle.std.proofs.Common.{◌≡◌, ℕ, Bool, true, false, cond, nat_lt, Option, Some, None, List, [], ◌∷◌, length, slice_get, arith, refl, sym, ap, subst, ◌∙◌}
 use Rattle.std.proofs.lemmas.Bool.Decides.{nat_tests}
 use Rattle.std.proofs.lemmas.Option.{slice_get_within}
 use Rattle.std.specs.Option.{option_map, option_and_then}
@@ -19,7 +19,9 @@ use Rattle.enet_peer.specs.Next.{packet_after}
 use Rattle.enet_slot.specs.Slot.{SlotState, name_of}
 use Rattle.enet_host.specs.Host.{Host, peer_in, slot_named}
 use Rattle.enet_host.specs.Turns.{turn_of, IsFirst, HoldsNowhere}
-use Rattle.enet_slot.specs.Calls.{tells, event_of, GivesEvent, peer_packet, refused_in, submission, submitted_unless, kept, on_peer_in}
+use Rattle.enet_outbox.specs.declared.parts.SendLimit.{SendLimit}
+use Rattle.enet_outbox.specs.Outstanding.{is_full}
+use Rattle.enet_slot.specs.Calls.{tells, event_of, GivesEvent, peer_packet, or_else_full, or_full, refused_in, submission, submitted_unless, unless_full, kept, on_peer_in}
 use Rattle.enet_host.specs.Calls.{on_slot, on_named, put_back}
 use Rattle.enet_host.specs.Opening.{available}
 use Rattle.enet_host.specs.Foretelling.{next_name, submission_refusal, refusal_of, teller_of, packet_of, Foretells, IsTeller}
@@ -113,22 +115,24 @@ next-named c slots i name found is =
     ∙ ap (λ (o : Option ℕ). option_and_then (λ j. option_map (name_of j) (slice_get slots j)) o) (sym found)
 
 -- the refusal of a submission
-agrees-in : (slots : List SlotState) (i channel : ℕ) (s : SlotState) (p : Peering) (q : command_choice.Packet) (o : Option Refusal)
-    → o ≡ refusal_of (put_back slots i (kept s (submitted_unless p channel q o)))
-agrees-in slots i channel s p q None = refl
-agrees-in slots i channel s p q (Some why) = refl
+agrees-in : (slots : List SlotState) (i channel : ℕ) (s : SlotState) (p : Peering) (q : command_choice.Packet) (full : Bool) (o : Option Refusal)
+    → or_else_full full o ≡ refusal_of (put_back slots i (kept s (cond full (or_full (submitted_unless p channel q o)) (submitted_unless p channel q o))))
+agrees-in slots i channel s p q true None = refl
+agrees-in slots i channel s p q false None = refl
+agrees-in slots i channel s p q true (Some why) = refl
+agrees-in slots i channel s p q false (Some why) = refl
 
-agrees-peer : (slots : List SlotState) (i channel : ℕ) (s : SlotState) (q : command_choice.Packet) (o : Option Peering)
-    → refused_in channel (length q.body) o ≡ refusal_of (put_back slots i (on_peer_in s (submission channel q) o))
-agrees-peer slots i channel s q None = refl
-agrees-peer slots i channel s q (Some p) = agrees-in slots i channel s p q (peers.submission_refusal p channel (length q.body))
+agrees-peer : (limit : Option SendLimit) (slots : List SlotState) (i channel : ℕ) (s : SlotState) (q : command_choice.Packet) (o : Option Peering)
+    → refused_in limit channel (length q.body) o ≡ refusal_of (put_back slots i (on_peer_in s (unless_full limit (submission channel q)) o))
+agrees-peer limit slots i channel s q None = refl
+agrees-peer limit slots i channel s q (Some p) = agrees-in slots i channel s p q (is_full limit p.outbox) (peers.submission_refusal p channel (length q.body))
 
-agrees-slot : (slots : List SlotState) (i channel : ℕ) (q : command_choice.Packet) (o : Option SlotState)
-    → refused_in channel (length q.body) (peer_in o) ≡ refusal_of (on_slot slots i (submission channel q) o)
-agrees-slot slots i channel q None = refl
-agrees-slot slots i channel q (Some s) = agrees-peer slots i channel s q s.peer
+agrees-slot : (limit : Option SendLimit) (slots : List SlotState) (i channel : ℕ) (q : command_choice.Packet) (o : Option SlotState)
+    → refused_in limit channel (length q.body) (peer_in o) ≡ refusal_of (on_slot slots i (unless_full limit (submission channel q)) o)
+agrees-slot limit slots i channel q None = refl
+agrees-slot limit slots i channel q (Some s) = agrees-peer limit slots i channel s q s.peer
 
-pub agrees-named : (slots : List SlotState) (name : PeerRef) (channel len : ℕ) (q : command_choice.Packet) → length q.body ≡ len
-    → submission_refusal slots name channel len ≡ refusal_of (on_named slots name (submission channel q))
-agrees-named slots name channel len q e =
-    ap (λ (n : ℕ). submission_refusal slots name channel n) (sym e) ∙ agrees-slot slots name.slot channel q (slot_named slots name)
+pub agrees-named : (limit : Option SendLimit) (slots : List SlotState) (name : PeerRef) (channel len : ℕ) (q : command_choice.Packet) → length q.body ≡ len
+    → submission_refusal limit slots name channel len ≡ refusal_of (on_named slots name (unless_full limit (submission channel q)))
+agrees-named limit slots name channel len q e =
+    ap (λ (n : ℕ). submission_refusal limit slots name channel n) (sym e) ∙ agrees-slot limit slots name.slot channel q (slot_named slots name)

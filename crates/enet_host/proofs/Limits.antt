@@ -32,7 +32,9 @@ use Rattle.enet_slot.specs.Yielding.{answers_in, readied, yields}
 use Rattle.enet_slot.specs.declared.giving.Question.{Question}
 use Rattle.enet_slot.specs.Emitting.{PeerEmits, passes_by, with_emitted}
 use Rattle.enet_slot.specs.Sharing.{is_standing, limit_for, with_limit, shared}
-use Rattle.enet_slot.specs.Calls.{kept, on_peer_in, Submits, Does, DoesWithMemory, GivesEvent, submission, submitted_unless, leaving, left_by, or_not_connected, throttling, pinging, waiting}
+use Rattle.enet_outbox.specs.declared.parts.SendLimit.{SendLimit}
+use Rattle.enet_slot.proofs.Fullness.{unless_full-ok}
+use Rattle.enet_slot.specs.Calls.{kept, on_peer_in, Submits, Does, DoesWithMemory, GivesEvent, submission, submitted_unless, unless_full, leaving, left_by, or_not_connected, throttling, pinging, waiting}
 use Rattle.enet_host.specs.Calls.{put_back, on_slot, on_named}
 use Rattle.enet_host.specs.Held.{AreLimited, IsLimitedIn}
 use Rattle.enet_sleepers.specs.Seating.{Seating, IsFound, IsSeated, KeepsSeats}
@@ -142,6 +144,9 @@ submission-keeps channel packet p q e = by (calls.submission_refusal p channel (
     by : (o : Option Refusal) → submitted_unless p channel packet o ≡ Ok q → Follows p q
     by None e = done p (calls.submitted p channel packet) q (λ k h. h) e
     by (Some why) e = absurd (cc)
+
+pub unless_full-keeps : (limit : Option SendLimit) (call : Peering → Result Peering Refusal) → Keeps call → Keeps (unless_full limit call)
+unless_full-keeps limit call keeps p q e = keeps p q (unless_full-ok limit call p q e)
 
 left-of : (p : Peering) (o : Option Peering) (q : Peering) → ((r : Peering) → o ≡ Some r → Follows p r) → or_not_connected o ≡ Ok q → Follows p q
 left-of p None q each e = absurd (cc)

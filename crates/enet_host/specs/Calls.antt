@@ -1,5 +1,5 @@
 -- What a user's calls make of a host.
-use Rattle.std.specs.Prelude.{◌≡◌, ℕ, true, false, Option, Some, None, Result, Ok, Err, List, length, map, slice_set}
+use Rattle.std.specs.Prelude.{◌≡◌, ℕ, true, false, Option, Some, None, Result, Ok, Err, List, length, map, slice_get, slice_set}
 use Rattle.enet_codec.specs.declared.address.Addr.{Addr}
 use Rattle.enet_codec.specs.Config.{admitting, is_admissible}
 use Rattle.enet_codec.specs.declared.config.Admission.{Admission}
@@ -8,9 +8,11 @@ use Rattle.enet_codec.specs.declared.event.Event.{Event}
 use Rattle.enet_codec.specs.declared.event.PeerRef.{PeerRef}
 use Rattle.enet_codec.specs.declared.refusal.Refusal.{Refusal}
 use Rattle.enet_codec.specs.declared.refusal.Refusal.TheVariants.{BadConfig, NoSuchPeer}
+use Rattle.enet_outbox.specs.declared.parts.SendLimit.{SendLimit}
+use Rattle.enet_peer.specs.declared.parts.Ending.{Ending}
 use Rattle.enet_peer.specs.Peering.{Peering}
 use Rattle.enet_peer.specs.Calls as peers
-use Rattle.enet_slot.specs.Slot.{SlotState, changed}
+use Rattle.enet_slot.specs.Slot.{SlotState, ending_of, changed}
 use Rattle.enet_slot.specs.Calls.{on_peer, tells, GivesEvent}
 use Rattle.enet_host.specs.Host.{Host, slot_named}
 use Rattle.enet_host.specs.Turns.{IsFirst, HoldsNowhere, slot_after}
@@ -39,6 +41,14 @@ address_in (Some s) = address_of s s.peer
 abbrev pub address_named : List SlotState → PeerRef → Option Addr
 address_named slots name = address_in (slot_named slots name)
 
+-- why the connection of the peer of this name ended: told until the next peer of its slot is gone
+abbrev pub ending_at : ℕ → Option SlotState → Option Ending
+ending_at generation None = None
+ending_at generation (Some s) = ending_of s generation
+
+abbrev pub ending_named : List SlotState → PeerRef → Option Ending
+ending_named slots name = ending_at name.generation (slice_get slots name.slot)
+
 -- new bandwidths of the host, of which each connected peer is told
 abbrev pub with_bandwidth : Host → ℕ → ℕ → Host
 with_bandwidth h incoming outgoing = record h {
@@ -49,6 +59,10 @@ with_bandwidth h incoming outgoing = record h {
 -- what the host draws by from now on. What peers that are there have drawn stays
 abbrev pub with_secret : Host → Secret → Host
 with_secret h secret = record h { config = record h.config { secret = Some secret } }
+
+-- at how much queued or unacknowledged each of its peers, those that are there and those to come, takes no further packet from now on
+abbrev pub with_send_limit : Host → SendLimit → Host
+with_send_limit h limit = record h { send_limit = Some limit }
 
 -- whom the host lets in from now on
 abbrev pub with_admission : Host → Admission → Host

@@ -7,6 +7,7 @@ use Rattle.enet_codec.specs.declared.event.Event.TheVariants as events
 use Rattle.enet_codec.specs.declared.event.PeerRef.{PeerRef}
 use Rattle.enet_codec.specs.declared.packet.Packet.{Packet}
 use Rattle.enet_codec.specs.declared.refusal.Refusal.{Refusal}
+use Rattle.enet_outbox.specs.declared.parts.SendLimit.{SendLimit}
 use Rattle.enet_slot.specs.Slot.{SlotState, name_of}
 use Rattle.enet_slot.specs.Calls.{tells, refused_in}
 use Rattle.enet_host.specs.Host.{Host, named}
@@ -25,8 +26,8 @@ abbrev pub guest_name : Basis → List SlotState → Option PeerRef
 guest_name basis slots = option_and_then (λ i. option_map (λ (s : SlotState). name_of i (readied s)) (slice_get slots i)) (seat basis slots)
 
 -- the first refusal but want of memory that a submission of so many bytes meets at the peer of this name
-abbrev pub submission_refusal : List SlotState → PeerRef → ℕ → ℕ → Option Refusal
-submission_refusal slots name channel len = refused_in channel len (named slots name)
+abbrev pub submission_refusal : Option SendLimit → List SlotState → PeerRef → ℕ → ℕ → Option Refusal
+submission_refusal limit slots name channel len = refused_in limit channel len (named slots name)
 
 -- the refusal of an outcome, if it is one
 abbrev pub refusal_of : {S : Type 0} → Result S Refusal → Option Refusal

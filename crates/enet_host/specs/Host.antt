@@ -2,6 +2,7 @@
 use Rattle.std.specs.Prelude.{◌≡◌, ◌≢◌, ℕ, zero, suc, ◌≤◌, ◌==◌, if◌then◌else◌, Option, Some, None, List, [], ◌∷◌, ◌++◌, length, slice_get}
 use Rattle.enet_codec.specs.declared.config.Config.{Config}
 use Rattle.enet_codec.specs.declared.event.PeerRef.{PeerRef}
+use Rattle.enet_outbox.specs.declared.parts.SendLimit.{SendLimit}
 use Rattle.enet_peer.specs.declared.parts.PeerState.TheVariants as state
 use Rattle.enet_peer.specs.Peering.{Peering}
 use Rattle.enet_slot.specs.Slot.{SlotState, greatest, name_of}
@@ -17,6 +18,7 @@ pub record Host : Type 0 where
   pub totals : Totals
   pub slots : List SlotState
   pub credits : List Credit  -- by slot, what its peer's address sent for it and got
+  pub send_limit : Option SendLimit  -- at how much queued or unacknowledged a peer takes no further packet; None until it is set
 
 -- no slot holds a peer that is free
 abbrev pub HoldsNoFree : List SlotState → Type 0

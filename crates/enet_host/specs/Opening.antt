@@ -29,6 +29,7 @@ opened c = record {
   totals = no_totals;
   slots = replicate c.peers unused_slot;
   credits = replicate c.peers no_credit;
+  send_limit = None;
 }
 
 -- a host whose slot 0 is connected from the start to this address

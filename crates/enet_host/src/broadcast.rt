@@ -11,9 +11,9 @@ use enet_codec::{Outward, PeerRef, Refusal};
 impl HostCore {
     /// Submits each of these packets to each of these peers but the one that it excepts: all packets to the first peer, then all to
     /// the second, and so on, each as by `submit`. A submission that is refused changes nothing, and the others go on. The answer is the
-    /// first refusal but E2 and E3, which say that a peer has gone or isn't connected: E4, E5 or E1.
+    /// first refusal but E2 and E3, which say that a peer has gone or isn't connected: E4, E5, E9 or E1.
     pub fn submit_each(&mut self, peers: &[PeerRef], packets: &[Outward]) -> Result<(), Refusal>
-        ensures submits { SubmitsEach (errands peers.now packets.now) result self.old.slots self.new.slots }
+        ensures submits { SubmitsEach self.old.send_limit (errands peers.now packets.now) result self.old.slots self.new.slots }
         ensures rest { KeepsRest self.old self.new }
     {
         let mut told = Ok(());
@@ -25,7 +25,7 @@ impl HostCore {
 
     /// Submits to one peer those of the packets that it gets.
     fn submit_all(&mut self, peer: PeerRef, packets: &[Outward]) -> Result<(), Refusal>
-        ensures submits { SubmitsEach (errands_for packets.now peer) result self.old.slots self.new.slots }
+        ensures submits { SubmitsEach self.old.send_limit (errands_for packets.now peer) result self.old.slots self.new.slots }
         ensures rest { KeepsRest self.old self.new }
     {
         let mut told = Ok(());
@@ -38,7 +38,7 @@ impl HostCore {
     /// Submits a packet to a peer, if that gets it.
     #[inline(always)]
     fn submit_one(&mut self, peer: PeerRef, packet: &Outward) -> Result<(), Refusal>
-        ensures submits { SubmitsEach (errands_for (packet.now ∷ []) peer) result self.old.slots self.new.slots }
+        ensures submits { SubmitsEach self.old.send_limit (errands_for (packet.now ∷ []) peer) result self.old.slots self.new.slots }
         ensures rest { KeepsRest self.old self.new }
     {
         if !packet.goes_to(peer) {
@@ -50,7 +50,7 @@ impl HostCore {
     /// Submits a packet to a peer, which shares its body.
     #[inline(always)]
     fn submit_shared(&mut self, peer: PeerRef, packet: &Outward) -> Result<(), Refusal>
-        ensures submits { CarriesOut (record { peer = peer; packet = packet.now }) result self.old.slots self.new.slots }
+        ensures submits { CarriesOut self.old.send_limit (record { peer = peer; packet = packet.now }) result self.old.slots self.new.slots }
         ensures rest { KeepsRest self.old self.new }
     {
         let Ok(body) = packet.body.clone() else {

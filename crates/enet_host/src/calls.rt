@@ -3,7 +3,7 @@
 ghost use Rattle.std.specs.Prelude.{◌≡◌, ◌<◌, length, is_some, true, IsTrue, IfSome, IfNone, IfErr, OnOk, None, Some, []};
 ghost use Rattle.std.specs.Option.{option_copied};
 ghost use Rattle.enet_peer.specs.Calls.{handed_back};
-ghost use Rattle.enet_slot.specs.Calls.{Submits, Does, DoesWithMemory, submission, leaving, throttling, set_by};
+ghost use Rattle.enet_slot.specs.Calls.{Submits, Does, DoesWithMemory, submission, unless_full, leaving, throttling, set_by};
 ghost use Rattle.enet_slot.specs.Sharing.{wants_room_in};
 ghost use Rattle.enet_slot.specs.Slotted.{peer_shown, all_shown};
 ghost use Rattle.enet_host.specs.Calls.{address_named, on_named};
@@ -11,6 +11,7 @@ ghost use Rattle.enet_host.specs.Host.{named, slot_named};
 
 use bytes::Bytes;
 use enet_codec::{Addr, DisconnectMode, PeerRef, Refusal};
+use enet_outbox::SendLimit;
 use enet_peer::Peer;
 use enet_slot::{Setting, Slot};
 
@@ -38,19 +39,20 @@ pub(crate) fn peer_of(slots: &[Slot], name: PeerRef) -> Option<&Peer>
 /// Submits a packet to the peer of this name: its body is taken, and an empty one left, unless it is refused.
 pub(crate) fn submit(
     slots: &mut Vec<Slot>,
+    limit: Option<SendLimit>,
     name: PeerRef,
     channel: u8,
     flags: u8,
     body: &mut Bytes,
 ) -> Result<(), Refusal>
-    ensures does { Submits (handed_back result body.new) (record { flags = flags; body = body.old }) (on_named (all_shown slots.old.items) name (submission channel (record { flags = flags; body = body.old }))) (all_shown slots.old.items) (all_shown slots.new.items) }
+    ensures does { Submits (handed_back result body.new) (record { flags = flags; body = body.old }) (on_named (all_shown slots.old.items) name (unless_full limit (submission channel (record { flags = flags; body = body.old })))) (all_shown slots.old.items) (all_shown slots.new.items) }
     ensures taken { OnOk result (body.new ≡ []) }
     ensures count { length slots.new.items ≡ length slots.old.items }
 {
     let Some(place) = position_of(slots, name) else {
         return Err(Refusal::NoSuchPeer);
     };
-    slots[place].submit(channel, flags, body)
+    slots[place].submit(limit, channel, flags, body)
 }
 
 /// Ends the connection of the peer of this name in this way.

@@ -10,7 +10,7 @@ ghost use Rattle.enet_slot.specs.Sharing.{wants_room};
 ghost use Rattle.enet_slot.specs.Slotted.{all_shown};
 ghost use Rattle.enet_host.specs.Serving.{Serves};
 ghost use Rattle.enet_host.specs.Ticking.{ticked, clock_after};
-ghost use Rattle.enet_host.specs.Calls.{with_bandwidth, with_secret, Admits, Takes};
+ghost use Rattle.enet_host.specs.Calls.{with_bandwidth, with_secret, with_send_limit, Admits, Takes};
 
 use crate::connecting::connect;
 use crate::credits::{Credit, count_went, no_credits};
@@ -21,6 +21,7 @@ use crate::ticking::pass_time;
 use crate::totals::Totals;
 use crate::turns::slot_after;
 use enet_codec::{Addr, Admission, Config, Event, PeerRef, Received, Refusal, Secret};
+use enet_outbox::SendLimit;
 use enet_sleepers::{Seats, Sleepers, Unproved};
 use enet_slot::{Question, Slot, Start, joined_slots, set_bandwidth, unused_slots};
 use std::alloc::Global;
@@ -58,6 +59,8 @@ pub struct HostCore {
     pub(crate) unproved: Unproved,
     /// By slot, what its peer's address sent for it and got.
     pub(crate) credits: Vec<Credit>,
+    /// At how much queued or unacknowledged a peer takes no further packet.
+    pub(crate) send_limit: Option<SendLimit>,
 }
 
 impl Model for HostCore {
@@ -80,6 +83,7 @@ impl Model for HostCore {
       totals = h.totals;
       slots = all_shown h.slots.items;
       credits = h.credits.items;
+      send_limit = h.send_limit;
     } };
 
     ghost invariant = { λ h. KeepsHost (record { peers = h.start.config.peers; clock = h.start.clock; generations = h.start.config.generations; max_packet = h.start.config.max_packet; max_waiting = h.start.config.max_waiting; service_from = h.service_from; event_from = h.event_from }) h.sleepers h.seats h.unproved h.slots.items };
@@ -155,6 +159,7 @@ impl HostCore {
             seats,
             unproved,
             credits,
+            send_limit: None,
         }
     }
 
@@ -281,6 +286,18 @@ impl HostCore {
         }
         self.start.config = self.start.config.admitting(admission);
         Ok(())
+    }
+
+    /// Sets at how much that is queued, or sent and not acknowledged, a peer takes no further packet: at so many bytes of payload, or at so
+    /// many commands, `submit` answers E9. It holds for all peers, those that are there and those to come. If nothing is queued or unacknowledged
+    /// for a peer, the limit refuses no packet, however long. So no packet that is taken makes it more than the limit and that packet. Nothing
+    /// that is there already is dropped, even if it is more. A 0 doesn't mean 'no limit': one packet goes at a time; 2^64 - 1 is never reached.
+    /// What is counted is payload that is still to be acknowledged, not memory: the pieces of a packet that was cut share its body until the last
+    /// one is gone.
+    pub fn set_send_limit(&mut self, bytes: u64, commands: u64)
+        ensures { self.new ≡ with_send_limit self.old (record { bytes = bytes; commands = commands }) }
+    {
+        self.send_limit = Some(SendLimit { bytes, commands });
     }
 
     /// Sets the host's secret (`Config::secret`): by it each peer that begins from now on gets sent times and numbers of its own. Peers

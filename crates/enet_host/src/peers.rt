@@ -5,28 +5,32 @@ ghost use Rattle.std.specs.Prelude.{◌≡◌, true, length, IfErr};
 ghost use Rattle.std.specs.Option.{option_map};
 ghost use Rattle.enet_codec.specs.declared.event.DisconnectMode.TheVariants.{Now, Ask, Later};
 ghost use Rattle.enet_outbox.specs.Outbox.{transit_of};
+ghost use Rattle.enet_outbox.specs.Outstanding.{capped, outstanding_of};
 ghost use Rattle.enet_sender.specs.CommandChoice.{Packet};
 ghost use Rattle.enet_host.specs.Host.{KeepsRest, name_in, named};
 ghost use Rattle.enet_host.specs.Foretelling.{submission_refusal, refusal_of};
-ghost use Rattle.enet_slot.specs.Calls.{Submits, Does, DoesWithMemory, submission, leaving, throttling, pinging, waiting};
+ghost use Rattle.enet_slot.specs.Calls.{Submits, Does, DoesWithMemory, submission, unless_full, leaving, throttling, pinging, waiting};
 ghost use Rattle.enet_slot.specs.Sharing.{wants_room_in};
-ghost use Rattle.enet_host.specs.Calls.{address_named, on_named};
+ghost use Rattle.enet_host.specs.Calls.{address_named, ending_named, on_named};
 
 use crate::calls;
 use crate::host::HostCore;
 use bytes::Bytes;
 use enet_codec::{Addr, DisconnectMode, PeerRef, Refusal};
 use enet_connect::Terms;
-use enet_peer::{PeerState, RoundTrip};
-use enet_slot::Setting;
+use enet_peer::{Ending, PeerState, RoundTrip};
+use enet_sender::Outstanding;
+use enet_slot::{Setting, submission_refusal};
+use enet_throttle::Lows;
 
 impl HostCore {
     /// Submits a packet to a peer on a channel; `flags` are its flags (RELIABLE 1, UNSEQUENCED 2, UNRELIABLE_FRAGMENT 8, others
     /// are ignored).
     ///
     /// A refusal is the first that applies: E2; E3 where the peer is not connected; E4 where there is no such channel; E5 where
-    /// the body is longer than the settings allow, or would be cut into more than 16,384 pieces; E1 where memory is refused.
-    /// After it nothing has changed, and the body comes back.
+    /// the body is longer than the settings allow, or would be cut into more than 16,384 pieces; E9 where what is queued or unacknowledged
+    /// for the peer is at the limit of `set_send_limit` already; E1 where memory is refused. After it nothing has changed, and the body comes
+    /// back.
     pub fn submit(
         &mut self,
         peer: PeerRef,
@@ -34,28 +38,29 @@ impl HostCore {
         flags: u8,
         mut body: Bytes,
     ) -> Result<(), (Refusal, Bytes)>
-        ensures submits { Submits result (record { flags = flags; body = body }) (on_named self.old.slots peer (submission channel (record { flags = flags; body = body }))) self.old.slots self.new.slots }
+        ensures submits { Submits result (record { flags = flags; body = body }) (on_named self.old.slots peer (unless_full self.old.send_limit (submission channel (record { flags = flags; body = body })))) self.old.slots self.new.slots }
         ensures rest { KeepsRest self.old self.new }
     {
         self.sleepers.wake(usize::from(peer.slot));
         // The sender of the channel takes the body out of this place, once nothing can be refused any more: handed down by value and back
         // by a refusal, it would be copied at each step between.
-        match calls::submit(&mut self.slots, peer, channel, flags, &mut body) {
+        let (slots, limit) = (&mut self.slots, self.send_limit);
+        match calls::submit(slots, limit, peer, channel, flags, &mut body) {
             Ok(()) => Ok(()),
             Err(why) => Err((why, body)),
         }
     }
 
-    /// The first refusal but want of memory that a packet of so many bytes meets on a channel of this peer: E2, E3, E4 or E5;
+    /// The first refusal but want of memory that a packet of so many bytes meets on a channel of this peer: E2, E3, E4, E5 or E9;
     /// None where there is none.
     pub fn submission_refusal(&self, peer: PeerRef, channel: u8, len: usize) -> Option<Refusal>
-        ensures refusal { result ≡ submission_refusal self.now.slots peer channel len }
-        ensures agrees { (q : Packet) → length q.body ≡ len → result ≡ refusal_of (on_named self.now.slots peer (submission channel q)) }
+        ensures refusal { result ≡ submission_refusal self.now.send_limit self.now.slots peer channel len }
+        ensures agrees { (q : Packet) → length q.body ≡ len → result ≡ refusal_of (on_named self.now.slots peer (unless_full self.now.send_limit (submission channel q))) }
     {
         let Some(peer) = calls::peer_of(&self.slots, peer) else {
             return Some(Refusal::NoSuchPeer);
         };
-        peer.submission_refusal(channel, len)
+        submission_refusal(peer, self.send_limit, channel, len)
     }
 
     /// Disconnects with a word for the other end's user: all that is held, queued or unacknowledged is dropped, and a reliable
@@ -196,6 +201,33 @@ impl HostCore {
         ensures { result ≡ option_map (λ p. p.outbox.allowance.bytes) (named self.now.slots peer) }
     {
         Some(calls::peer_of(&self.slots, peer)?.allowance())
+    }
+
+    /// How many commands are queued for the peer, or sent and not acknowledged, and the bytes of their payloads: what `set_send_limit` limits.
+    /// Each number stops at 2^64 - 1. None if there is no such peer.
+    pub fn outstanding(&self, peer: PeerRef) -> Option<Outstanding>
+        ensures { result ≡ option_map (λ p. capped (outstanding_of p.outbox)) (named self.now.slots peer) }
+    {
+        Some(calls::peer_of(&self.slots, peer)?.outstanding())
+    }
+
+    /// The lowest estimates of the peer's round trip in the throttle's running interval and in the one before, in milliseconds. None if there
+    /// is no such peer.
+    pub fn lows(&self, peer: PeerRef) -> Option<Lows>
+        ensures { result ≡ option_map (λ p. record { running = p.outbox.throttle.lowest_round_trip; last = p.outbox.throttle.last_round_trip }) (named self.now.slots peer) }
+    {
+        Some(calls::peer_of(&self.slots, peer)?.lows())
+    }
+
+    /// Why the peer's connection ended. It is told from then on, also once the Disconnect event is taken, until the next peer of its slot,
+    /// whether it ever was connected or not, is gone: ask when the event is taken. None if the connection hasn't ended, if it ended without a
+    /// Disconnect event, or if that was too long ago.
+    pub fn ending(&self, peer: PeerRef) -> Option<Ending>
+        ensures { result ≡ ending_named self.now.slots peer }
+    {
+        self.slots
+            .get(usize::from(peer.slot))?
+            .ending_of(peer.generation)
     }
 
     /// How much of the peer's unreliable packets goes, in parts of 32; None where there is no such peer.

@@ -1,4 +1,5 @@
 pub mod Changes
+pub mod Fullness
 pub mod Shown
 pub mod OverAll
 pub mod Waiting

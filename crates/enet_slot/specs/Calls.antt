@@ -7,8 +7,10 @@ use Rattle.enet_codec.specs.declared.event.Event.TheVariants as events
 use Rattle.enet_codec.specs.declared.event.PeerRef.{PeerRef}
 use Rattle.enet_codec.specs.declared.packet.Packet as codec
 use Rattle.enet_codec.specs.declared.refusal.Refusal.{Refusal}
-use Rattle.enet_codec.specs.declared.refusal.Refusal.TheVariants.{Memory, NoSuchPeer, NotConnected}
+use Rattle.enet_codec.specs.declared.refusal.Refusal.TheVariants.{Full, Memory, NoSuchPeer, NotConnected}
 use Rattle.enet_sender.specs.CommandChoice.{Packet}
+use Rattle.enet_outbox.specs.declared.parts.SendLimit.{SendLimit}
+use Rattle.enet_outbox.specs.Outstanding.{is_full}
 use Rattle.enet_peer.specs.declared.parts.PeerEvent.{PeerEvent}
 use Rattle.enet_peer.specs.declared.parts.PeerEvent.TheVariants as told
 use Rattle.enet_peer.specs.Peering.{Peering}
@@ -56,6 +58,14 @@ submitted_unless p channel q (Some why) = Err why
 
 abbrev pub submission : ℕ → Packet → Peering → Result Peering Refusal
 submission channel q p = submitted_unless p channel q (peers.submission_refusal p channel (length q.body))
+
+-- a call that isn't carried out where the peer is full; what else refuses it comes first
+abbrev pub or_full : Result Peering Refusal → Result Peering Refusal
+or_full (Ok p) = Err Full
+or_full (Err why) = Err why
+
+abbrev pub unless_full : Option SendLimit → (Peering → Result Peering Refusal) → Peering → Result Peering Refusal
+unless_full limit call p = if is_full limit p.outbox then or_full (call p) else call p
 
 -- a disconnect call of a mode
 abbrev pub left_by : DisconnectMode → Peering → ℕ → Option Peering
@@ -115,7 +125,11 @@ abbrev pub set_by : Setting → Peering → Result Peering Refusal
 set_by (PingInterval ms) = pinging ms
 set_by (Timeout limit minimum maximum) = waiting limit minimum maximum
 
--- the first refusal but want of memory that a submission of so many bytes meets
-abbrev pub refused_in : ℕ → ℕ → Option Peering → Option Refusal
-refused_in channel len None = Some NoSuchPeer
-refused_in channel len (Some p) = peers.submission_refusal p channel len
+-- the first refusal but want of memory that a submission of so many bytes meets: where there is no other, that the peer is full
+abbrev pub or_else_full : Bool → Option Refusal → Option Refusal
+or_else_full full None = if full then Some Full else None
+or_else_full full (Some why) = Some why
+
+abbrev pub refused_in : Option SendLimit → ℕ → ℕ → Option Peering → Option Refusal
+refused_in limit channel len None = Some NoSuchPeer
+refused_in limit channel len (Some p) = or_else_full (is_full limit p.outbox) (peers.submission_refusal p channel len)

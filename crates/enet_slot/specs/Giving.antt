@@ -32,7 +32,7 @@ no_address = record { ip = 0; port = 0 }
 
 -- a slot that held no peer yet
 abbrev pub unused_slot : SlotState
-unused_slot = record { generation = 0; address = no_address; incoming_session = 0xFF; outgoing_session = 0xFF; emitted = 0; peer = None }
+unused_slot = record { generation = 0; address = no_address; incoming_session = 0xFF; outgoing_session = 0xFF; emitted = 0; ending = None; peer = None }
 
 -- the terms of a host that is connected from the start, to slot 0 of another of whose bandwidths nothing is known
 abbrev pub joined_terms : Config → Terms

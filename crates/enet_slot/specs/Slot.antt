@@ -1,7 +1,8 @@
 -- A slot, which holds a peer or is free.
-use Rattle.std.specs.Prelude.{ℕ, ◌+◌, min, Bool, false, Option, Some, None}
+use Rattle.std.specs.Prelude.{ℕ, ◌+◌, ◌==◌, min, Bool, false, if◌then◌else◌, Option, Some, None}
 use Rattle.enet_codec.specs.declared.address.Addr.{Addr}
 use Rattle.enet_codec.specs.declared.event.PeerRef.{PeerRef}
+use Rattle.enet_peer.specs.declared.parts.Ending.{Ending}
 use Rattle.enet_peer.specs.declared.parts.PeerState.{PeerState}
 use Rattle.enet_peer.specs.declared.parts.PeerState.TheVariants as state
 use Rattle.enet_peer.specs.Peering.{Peering}
@@ -14,19 +15,21 @@ pub record SlotState : Type 0 where
   pub incoming_session : ℕ  -- the sessions of the last connection that it held to its end, 0xFF before there was one
   pub outgoing_session : ℕ
   pub emitted : ℕ  -- bytes that its peer put out since the bandwidth was last shared out; it stops at its greatest value
+  pub ending : Option Ending  -- why the connection of the last peer that left it ended, if its user was told of it
   pub peer : Option Peering
 
 -- the greatest number of 32 bits, where what is counted stops
 abbrev pub greatest : ℕ
 greatest = 4294967295
 
--- a slot that is free again keeps the sessions of the connection that it had. Its next peer has the next generation, which
+-- a slot that is free again keeps the sessions of the connection that it had, and why that ended. Its next peer has the next generation, which
 -- never stops at the greatest number, since a slot is only given out with a generation below the number of generations
 abbrev pub vacated : SlotState → Peering → SlotState
 vacated s p = record s {
   generation = min (s.generation + 1) greatest;
   incoming_session = p.terms.incoming_session;
   outgoing_session = p.terms.outgoing_session;
+  ending = p.ending;
   peer = None;
 }
 
@@ -45,6 +48,17 @@ with_changed change s (Some p) = with_peer s (change p)
 
 abbrev pub changed : (Peering → Peering) → SlotState → SlotState
 changed change s = with_changed change s s.peer
+
+-- why the connection of a peer has ended
+abbrev pub ending_now : Option Peering → Option Ending
+ending_now None = None
+ending_now (Some p) = p.ending
+
+-- why the connection of the peer of this generation ended: of the peer that the slot holds, or of the one that it held before
+abbrev pub ending_of : SlotState → ℕ → Option Ending
+ending_of s generation =
+    if s.generation == generation then ending_now s.peer
+    else (if s.generation == generation + 1 then s.ending else None)
 
 -- how the peer of a slot is named
 abbrev pub name_of : ℕ → SlotState → PeerRef

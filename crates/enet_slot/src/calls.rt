@@ -1,14 +1,18 @@
 //! A user's calls on a slot. Each answers E2, with nothing changed, where the slot is free.
 
-ghost use Rattle.std.specs.Prelude.{◌≡◌, true, [], IfErr, OnOk};
-ghost use Rattle.enet_peer.specs.Calls.{handed_back};
+ghost use Rattle.std.specs.Prelude.{◌≡◌, true, [], length, Option, IfErr, OnOk};
+ghost use Rattle.enet_peer.specs.Calls.{handed_back, submission_refusal};
 ghost use Rattle.enet_slot.specs.Sharing.{wants_room};
-ghost use Rattle.enet_slot.specs.Calls.{on_peer, Submits, Does, DoesWithMemory, submission, leaving, throttling, set_by};
+ghost use Rattle.enet_outbox.specs.declared.parts.SendLimit.{SendLimit};
+ghost use Rattle.enet_outbox.specs.Outstanding.{is_full};
+ghost use Rattle.enet_sender.specs.CommandChoice.{Packet};
+ghost use Rattle.enet_slot.specs.Calls.{on_peer, or_else_full, IsRefusedBy, Submits, Does, DoesWithMemory, submission, unless_full, leaving, throttling, set_by};
 
 use crate::Slot;
 use bytes::Bytes;
 use enet_codec::{DisconnectMode, Refusal};
-use enet_peer::PeerState;
+use enet_outbox::SendLimit;
+use enet_peer::{Peer, PeerState};
 
 /// What a user may set of a peer in any state. Times are in milliseconds.
 #[derive(Clone, Copy)]
@@ -23,16 +27,55 @@ pub enum Setting {
     },
 }
 
+/// Why a full peer takes no packet of so many bytes: what else refuses it comes first.
+fn refusal_of_full(peer: &Peer, channel: u8, len: usize) -> Refusal
+    ensures { (limit : Option SendLimit) (q : Packet) → length q.body ≡ len → is_full limit peer.now.peer.outbox ≡ true → IsRefusedBy result (unless_full limit (submission channel q) peer.now.peer) }
+{
+    peer.submission_refusal(channel, len)
+        .unwrap_or(Refusal::Full)
+}
+
+/// The first refusal but want of memory that a packet of so many bytes meets on a channel of a peer, if there is one: E3, E4, E5 or E9.
+pub fn submission_refusal(
+    peer: &Peer,
+    limit: Option<SendLimit>,
+    channel: u8,
+    len: usize,
+) -> Option<Refusal>
+    ensures { result ≡ or_else_full (is_full limit peer.now.peer.outbox) (submission_refusal peer.now.peer channel len) }
+{
+    match peer.submission_refusal(channel, len) {
+        Some(why) => Some(why),
+        None => {
+            if peer.is_full(limit) {
+                Some(Refusal::Full)
+            } else {
+                None
+            }
+        }
+    }
+}
+
 impl Slot {
-    /// Submits a packet to its peer on a channel. A refusal is the first that applies: E2, E3, E4, E5, E1. After it nothing has
-    /// changed, and the body is still there; else it is taken, and an empty one left.
-    pub fn submit(&mut self, channel: u8, flags: u8, body: &mut Bytes) -> Result<(), Refusal>
-        ensures submits { Submits (handed_back result body.new) (record { flags = flags; body = body.old }) (on_peer self.old.slot (submission channel (record { flags = flags; body = body.old }))) self.old.slot self.new.slot }
+    /// Submits a packet to its peer on a channel. A refusal is the first that applies: E2, E3, E4, E5; E9 where what is queued or
+    /// unacknowledged for the peer is at the limit already; E1. After it nothing has changed, and the body is still there; else it is taken,
+    /// and an empty one left.
+    pub fn submit(
+        &mut self,
+        limit: Option<SendLimit>,
+        channel: u8,
+        flags: u8,
+        body: &mut Bytes,
+    ) -> Result<(), Refusal>
+        ensures submits { Submits (handed_back result body.new) (record { flags = flags; body = body.old }) (on_peer self.old.slot (unless_full limit (submission channel (record { flags = flags; body = body.old })))) self.old.slot self.new.slot }
         ensures taken { OnOk result (body.new ≡ []) }
     {
         let Some(peer) = &mut self.peer else {
             return Err(Refusal::NoSuchPeer);
         };
+        if peer.is_full(limit) {
+            return Err(refusal_of_full(peer, channel, body.len()));
+        }
         peer.submit(channel, flags, body)?;
         self.let_go();
         Ok(())

@@ -30,7 +30,7 @@ mod slot;
 mod yielding;
 
 pub use all::{Seat, joined_slots, position_of_connection, set_bandwidth, share_out, unused_slots};
-pub use calls::Setting;
+pub use calls::{Setting, submission_refusal};
 pub use counting::{SlotCounts, Standing, count_sent_again, count_slots};
 pub use entering::count_entered;
 pub use giving::{Question, Start};

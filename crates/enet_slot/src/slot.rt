@@ -2,12 +2,12 @@
 
 ghost use Rattle.std.specs.Prelude.{◌≡◌, ◌+◌, min, None};
 ghost use Rattle.std.specs.Option.{option_copied};
-ghost use Rattle.enet_slot.specs.Slot.{changed, greatest};
+ghost use Rattle.enet_slot.specs.Slot.{changed, ending_of, greatest};
 ghost use Rattle.enet_slot.specs.Giving.{unused_slot, is_vacant, is_available};
 ghost use Rattle.enet_slot.specs.Slotted.{peer_shown};
 
 use enet_codec::Addr;
-use enet_peer::{Peer, PeerState};
+use enet_peer::{Ending, Peer, PeerState};
 use std::marker::Model;
 
 /// A slot of a host, which holds a peer or is free. Contracts see it as a `Slotted`: what it is, and for how many more
@@ -23,6 +23,8 @@ pub struct Slot {
     pub(crate) outgoing_session: u8,
     /// Bytes that its peer put out since the bandwidth was last shared out; it stops at its greatest value.
     pub(crate) emitted: u32,
+    /// Why the connection of the last peer that left it ended, if its user was told of it.
+    pub(crate) ending: Option<Ending>,
     pub(crate) peer: Option<Peer>,
 }
 
@@ -42,6 +44,7 @@ impl Model for Slot {
         incoming_session = s.incoming_session;
         outgoing_session = s.outgoing_session;
         emitted = s.emitted;
+        ending = s.ending;
         peer = peer_shown s.peer;
       };
       room = room_of s.peer;
@@ -62,6 +65,7 @@ impl Slot {
             incoming_session: 0xFF,
             outgoing_session: 0xFF,
             emitted: 0,
+            ending: None,
             peer: None,
         }
     }
@@ -78,6 +82,21 @@ impl Slot {
         ensures { result ≡ self.now.slot.address }
     {
         self.address
+    }
+
+    /// Why the connection of the peer that had this generation ended: of its peer, if that has the generation, else of the last one that left
+    /// it, if that had it. None if neither has, if the connection hasn't ended, or ended without a Disconnect event.
+    pub fn ending_of(&self, generation: u32) -> Option<Ending>
+        ensures { result ≡ ending_of self.now.slot generation }
+    {
+        if self.generation == generation {
+            return self.peer()?.ending();
+        }
+        if self.generation > generation && self.generation - generation == 1 {
+            self.ending
+        } else {
+            None
+        }
     }
 
     /// Its peer; None where it is free.
@@ -115,24 +134,26 @@ impl Slot {
         if peer.state() != PeerState::Free {
             return;
         }
-        let terms = peer.terms();
-        self.vacate(terms.incoming_session, terms.outgoing_session);
+        let (terms, ending) = (peer.terms(), peer.ending());
+        self.vacate(terms.incoming_session, terms.outgoing_session, ending);
     }
 
-    /// From now on it is free, after a connection that had these sessions. It stays a function of its own: where it is part of those
+    /// From now on it is free, after a connection that had these sessions and ended so. It stays a function of its own: where it is part of those
     /// that are called for each packet, each call of them clears room for a peer.
     #[inline(never)]
-    fn vacate(&mut self, incoming_session: u8, outgoing_session: u8)
+    fn vacate(&mut self, incoming_session: u8, outgoing_session: u8, ending: Option<Ending>)
         ensures { self.new.slot ≡ record self.old.slot {
           generation = min (self.old.slot.generation + 1) greatest;
           incoming_session = incoming_session;
           outgoing_session = outgoing_session;
+          ending = ending;
           peer = None;
         } }
     {
         self.generation = self.generation.saturating_add(1);
         self.incoming_session = incoming_session;
         self.outgoing_session = outgoing_session;
+        self.ending = ending;
         self.hold(None);
     }
 

@@ -31,7 +31,8 @@ impl Slot {
         }
     }
 
-    /// A free slot that goes on from this one, whose peer, if it holds one, is let go: it has that one's sessions and the next generation.
+    /// A free slot that goes on from this one, whose peer, if it holds one, is let go: it has that one's sessions and ending, and the next
+    /// generation.
     pub(crate) fn readied(&self) -> Slot
         ensures { result.slot ≡ readied self.now.slot }
     {
@@ -41,6 +42,7 @@ impl Slot {
             incoming_session: self.incoming_session,
             outgoing_session: self.outgoing_session,
             emitted: self.emitted,
+            ending: self.ending,
             peer: None,
         };
         let Some(peer) = &self.peer else {
@@ -51,6 +53,7 @@ impl Slot {
             generation: self.generation.saturating_add(1),
             incoming_session: terms.incoming_session,
             outgoing_session: terms.outgoing_session,
+            ending: peer.ending(),
             ..next
         }
     }

@@ -10,8 +10,8 @@ use Rattle.enet_host.proofs.host.HostCore.submit_shared.Goals as goal
 pub returns-in_default-clause-submits : goal.returns-in_default-clause-submits
 returns-in_default-clause-submits c =
     let q : Packet = record { flags = c.args.packet.now.flags; body = c.args.packet.now.body } in (
-      refused-named c.args.self.now.slots c.args.peer c.args.packet.now.channel q c.unwrap_or.result
+      refused-named c.args.self.now.send_limit c.args.self.now.slots c.args.peer c.args.packet.now.channel q c.unwrap_or.result
           (c.unwrap_or.ensures ∙ ap (λ (o : Option Refusal). unwrap_or o Memory)
-          (c.submission_refusal-refusal.ensures.refusal ∙ ap (λ (n : ℕ). submission_refusal c.args.self.now.slots c.args.peer c.args.packet.now.channel n) c.len.ensures.value)),
+          (c.submission_refusal-refusal.ensures.refusal ∙ ap (λ (n : ℕ). submission_refusal c.args.self.now.send_limit c.args.self.now.slots c.args.peer c.args.packet.now.channel n) c.len.ensures.value)),
       refl,
     )
