@@ -20,6 +20,7 @@ use Rattle.enet_sender.specs.Sender.{Sender, nothing_sent}
 use Rattle.enet_sender.specs.Due.{SendingEnd}
 use Rattle.enet_outbox.specs.Outbox.{cleared_sender}
 use Rattle.enet_peer.specs.Peering.{Peering}
+use Rattle.enet_peer.specs.declared.parts.Ending.TheVariants.{BadAnswer}
 use Rattle.enet_peer.specs.declared.parts.PeerState.{PeerState}
 use Rattle.enet_peer.specs.declared.parts.PeerState.TheVariants as state
 use Rattle.enet_peer.specs.Endings.{ended, is_later}
@@ -158,7 +159,7 @@ narrowed-places n senders places i s e = elim (get-take n (map cleared_sender se
 ]
 
 holds-welcomed : (own other : End) (p : Peering) (v : Verify) (o : Option Terms) → p.state ≡ state.Connecting → IsTidy own.submitted p → Holds own other p → Holds own other (welcomed p v o)
-holds-welcomed own other p v None e tidy h = unwelcomed-holds (Holds own other) p v h (holds-stops own other p (ended p 0) (stops-ended p 0) h)
+holds-welcomed own other p v None e tidy h = unwelcomed-holds (Holds own other) p v h (holds-stops own other p (ended p BadAnswer 0) (stops-ended p BadAnswer 0) h)
 holds-welcomed own other p v (Some terms) e tidy h =
     let q : Peering = welcomed p v (Some terms) in
     let y = tidy.young (ap is_young e) in

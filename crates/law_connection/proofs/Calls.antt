@@ -9,9 +9,10 @@ use Rattle.enet_outbox.specs.Outbox as outbox
 use Rattle.enet_outbox.specs.Emission.{filled}
 use Rattle.enet_outbox.specs.declared.parts.Pace.{Pace}
 use Rattle.enet_peer.specs.Peering.{Peering}
+use Rattle.enet_peer.specs.declared.parts.Ending.TheVariants.{AskedThere}
 use Rattle.enet_peer.specs.declared.parts.PeerState.{PeerState}
 use Rattle.enet_peer.specs.declared.parts.PeerState.TheVariants as state
-use Rattle.enet_peer.specs.Endings.{ended, freed, disconnecting, parting, settled, cut_off_in}
+use Rattle.enet_peer.specs.Endings.{ended, freed, disconnecting, parting, settled, silence_ending, cut_off_in}
 use Rattle.enet_codec.specs.Message.{Message}
 use Rattle.enet_peer.specs.CommandEffect.{obeyed}
 use Rattle.enet_peer.specs.Refusing.{confirms, heeded, told_again, told_full, turned_away}
@@ -38,7 +39,7 @@ holds-outbox own other p o s a h =
 
 holds-cut_off : (own other : End) (p : Peering) (s : PeerState) → Holds own other p → Holds own other (cut_off_in s p)
 holds-cut_off own other p state.Answering h = holds-stops own other p (freed p) (stops-freed p) h
-holds-cut_off own other p s h = holds-stops own other p (ended p 0) (stops-ended p 0) h
+holds-cut_off own other p s h = holds-stops own other p (ended p (silence_ending s) 0) (stops-ended p (silence_ending s) 0) h
 
 holds-timeouts : (own other : End) (p : Peering) (now : ℕ) (x : Expiry) → Holds own other p → Holds own other (after_timeouts_by x p now)
 holds-timeouts own other p now Ends h = holds-cut_off own other p p.state h
@@ -168,7 +169,7 @@ shows-after p o channel w ready places = by (sends_in p.state) refl ready
     by false e r = ((λ t. absurd (let x : true ≡ false = sym t ∙ e in cc)), (λ f. r.0), (λ f. r.1), (λ s there. places channel s there))
 
 holds-gone_on : (own other : End) (p : Peering) (s : PeerState) → Holds own other p → Holds own other (gone_on_in s p)
-holds-gone_on own other p state.AckDisconnect h = holds-stops own other p (ended p p.info) (stops-ended p p.info) h
+holds-gone_on own other p state.AckDisconnect h = holds-stops own other p (ended p AskedThere p.info) (stops-ended p AskedThere p.info) h
 holds-gone_on own other p state.Parting h = holds-if own other (ltb 0 (length p.outbox.control.queued)) p (freed p) h (holds-stops own other p (freed p) (stops-freed p) h)
 holds-gone_on own other p s h = holds-settled own other p h
 

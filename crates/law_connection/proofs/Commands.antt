@@ -16,6 +16,8 @@ use Rattle.enet_outbox.specs.declared.parts.Matched.{Matched}
 use Rattle.enet_outbox.specs.declared.parts.Matched.TheVariants as matched
 use Rattle.enet_outbox.specs.Outbox.{with_acknowledgement, after_acknowledgement, is_done, matched_by, told_by, with_growth}
 use Rattle.enet_peer.specs.Peering.{Peering}
+use Rattle.enet_peer.specs.declared.parts.Ending.{Ending}
+use Rattle.enet_peer.specs.declared.parts.Ending.TheVariants.{AskedHere, AskedThere}
 use Rattle.enet_peer.specs.declared.parts.PeerState.{PeerState}
 use Rattle.enet_peer.specs.declared.parts.PeerState.TheVariants as state
 use Rattle.enet_peer.specs.Endings.{ended, freed, disconnecting, parting, settled, is_later}
@@ -33,8 +35,8 @@ use Rattle.law_connection.proofs.Runs.{and-left}
 
 -- the ways in which a connection ends stop both directions
 
-pub stops-ended : (p : Peering) (info : ℕ) → Stops p (ended p info)
-stops-ended p info = record { sends = refl; dispatches = refl; mtu = refl; senders = refl; untaken = inl refl; numbers = λ i h. refl }
+pub stops-ended : (p : Peering) (why : Ending) (info : ℕ) → Stops p (ended p why info)
+stops-ended p why info = record { sends = refl; dispatches = refl; mtu = refl; senders = refl; untaken = inl refl; numbers = λ i h. refl }
 
 pub stops-freed : (p : Peering) → Stops p (freed p)
 stops-freed p = record { sends = refl; dispatches = refl; mtu = refl; senders = refl; untaken = inr refl; numbers = λ i h. refl }
@@ -111,7 +113,7 @@ holds-with_answer own other p state.Answering (control.VerifyConnect verify) e h
     let q : Peering = record p { state = state.Connected; greeting = Some p.info } in
     holds-quiet own other p q (record { sends = sym (ap sends_in e); mtu = refl; senders = refl })
     (record { dispatches = sym (ap dispatches_in e); receivers = refl; untaken = λ i few. refl; numbers = λ i few. refl }) h
-holds-with_answer own other p state.Disconnecting (control.Disconnect info) e h = holds-stops own other p (ended p 0) (stops-ended p 0) h
+holds-with_answer own other p state.Disconnecting (control.Disconnect info) e h = holds-stops own other p (ended p AskedHere 0) (stops-ended p AskedHere 0) h
 holds-with_answer own other p s what e h = h
 
 pub holds-acknowledged : (own other : End) (p : Peering) (put : Put) (now number told : ℕ) → Has other.log put → put.message.body ≡ acknowledge number told → (put.message.head.channel < 255 → is_late (sent_on put.message.head.channel own) put.sent_then number ≡ false)
@@ -140,13 +142,13 @@ holds-acknowledged own other p put now number told logged body late h = by-state
 -- DISCONNECT comes
 holds-last : (own other : End) (p : Peering) (b : Bool) (info : ℕ) → Holds own other p → Holds own other (on_last_disconnect p b info)
 holds-last own other p true info h = holds-stops own other p (on_last_disconnect p true info) (record { sends = refl; dispatches = refl; mtu = refl; senders = refl; untaken = inl refl; numbers = λ i few. refl }) h
-holds-last own other p false info h = holds-stops own other p (ended p info) (stops-ended p info) h
+holds-last own other p false info h = holds-stops own other p (ended p AskedThere info) (stops-ended p AskedThere info) h
 
 pub holds-disconnect : (own other : End) (p : Peering) (s : PeerState) (b : Bool) (info : ℕ) → Holds own other p → Holds own other (on_disconnect_in s p b info)
 holds-disconnect own other p state.Connected b info h = holds-last own other p b info h
 holds-disconnect own other p state.DisconnectLater b info h = holds-last own other p b info h
-holds-disconnect own other p state.Connecting b info h = holds-stops own other p (ended p info) (stops-ended p info) h
-holds-disconnect own other p state.Disconnecting b info h = holds-stops own other p (ended p info) (stops-ended p info) h
+holds-disconnect own other p state.Connecting b info h = holds-stops own other p (ended p AskedThere info) (stops-ended p AskedThere info) h
+holds-disconnect own other p state.Disconnecting b info h = holds-stops own other p (ended p AskedThere info) (stops-ended p AskedThere info) h
 holds-disconnect own other p state.Answering b info h = holds-stops own other p (freed p) (stops-freed p) h
 holds-disconnect own other p state.Free b info h = h
 holds-disconnect own other p state.AckDisconnect b info h = h

@@ -20,6 +20,7 @@ use Rattle.enet_fragment.specs.Cutting.{piece_count}
 use Rattle.enet_sender.specs.CommandChoice.{fragment_limit}
 use Rattle.enet_peer.specs.Peering.{Peering, answering}
 use Rattle.enet_peer.specs.Endings.{ended}
+use Rattle.enet_peer.specs.declared.parts.Ending.{Ending}
 use Rattle.enet_peer.specs.declared.parts.PeerEvent.{PeerEvent}
 use Rattle.enet_peer.specs.declared.parts.PeerEvent.TheVariants as told
 use Rattle.enet_peer.specs.declared.parts.PeerState.{PeerState}
@@ -211,8 +212,8 @@ lives-connected joined es p q same greeting on h =
     (subst (λ (s : PeerState). LivesIn s joined es p) (connected-is p.state on) h))
 
 -- it ends
-lives-ended : (joined : Bool) (es : List PeerEvent) (p : Peering) (info : ℕ) → is_gone p.state ≡ false → Lives joined es p → Lives joined es (ended p info)
-lives-ended joined es p info in-time h = (
+lives-ended : (joined : Bool) (es : List PeerEvent) (p : Peering) (why : Ending) (info : ℕ) → is_gone p.state ≡ false → Lives joined es p → Lives joined es (ended p why info)
+lives-ended joined es p why info in-time h = (
   elim (here joined es p p.state in-time h) [ inl u ↦ inl u | inr n ↦ (let u = n.1 in inr (n.0, record { none = u.none; greeting = u.greeting; untaken = u.untaken })) ],
   still-cleared p.outbox,
 )
@@ -221,8 +222,8 @@ pub lives : (joined : Bool) (es : List PeerEvent) → Changes (Lives joined es)
 lives joined es = record {
   quiet = λ p q e h. lives-core joined es p q e h;
   controls = λ p what plain on h. lives-connected joined es p (record p { outbox = with_control p.outbox what }) refl refl on h;
-  ends = λ p info in-time h. lives-ended joined es p info in-time h;
-  cuts = λ p now gone over h. absurd (let none = still-patient p.outbox now p.patience p.heard (gone-still joined es p p.state gone h) in let x : true ≡ false = sym over ∙ none in cc);
+  ends = λ p why info in-time h. lives-ended joined es p why info in-time h;
+  cuts = λ p why now gone over h. absurd (let none = still-patient p.outbox now p.patience p.heard (gone-still joined es p p.state gone h) in let x : true ≡ false = sym over ∙ none in cc);
   frees = λ p h. record { life = lives-one joined es p h; greeting = refl; untaken = refl; still = still-cleared p.outbox };
   parts = λ p info h. record { life = lives-one joined es p h; greeting = refl; untaken = refl; still = still-parting p.outbox info };
   disconnects = λ p info up h. standing joined es p p.state up h;

@@ -43,8 +43,8 @@ pub lows : Changes IsLow
 lows = record {
   quiet = λ p q e h. record { channels = subst (λ (c : Core). length c.receivers ≤ 255) (sym e) h.channels; untaken = subst (λ (c : Core). AreLow c.untaken) (sym e) h.untaken };
   controls = λ p what plain on h. record { channels = h.channels; untaken = h.untaken };
-  ends = λ p info here h. dropped-low p (ended p info) refl h.untaken h;
-  cuts = λ p now gone over h. dropped-low p (ended p 0) refl h.untaken h;
+  ends = λ p why info here h. dropped-low p (ended p why info) refl h.untaken h;
+  cuts = λ p why now gone over h. dropped-low p (ended p why 0) refl h.untaken h;
   frees = λ p h. dropped-low p (freed p) refl none h;
   parts = λ p info h. dropped-low p (parting p info) refl none h;
   disconnects = λ p info up h. dropped-low p (disconnecting p info) refl h.untaken h;

@@ -23,8 +23,8 @@ pub adds : (n : ℕ) → Changes (Adds n)
 adds n = record {
   quiet = λ p q e h. ap (λ (c : Core). c.offset) e ∙ h;
   controls = λ p what plain on h. h;
-  ends = λ p info here h. h;
-  cuts = λ p now gone over h. h;
+  ends = λ p why info here h. h;
+  cuts = λ p why now gone over h. h;
   frees = λ p h. h;
   parts = λ p info h. h;
   disconnects = λ p info up h. h;

@@ -36,9 +36,11 @@ use Rattle.enet_outbox.specs.Outbox as outbox
 use Rattle.enet_outbox.specs.Emission.{Filling, occasion, filled}
 use Rattle.enet_codec.specs.declared.packet.Packet.{Packet}
 use Rattle.enet_peer.specs.Peering.{Peering}
+use Rattle.enet_peer.specs.declared.parts.Ending.{Ending}
+use Rattle.enet_peer.specs.declared.parts.Ending.TheVariants.{AskedHere, AskedThere, BadAnswer}
 use Rattle.enet_peer.specs.declared.parts.PeerState.{PeerState}
 use Rattle.enet_peer.specs.declared.parts.PeerState.TheVariants as state
-use Rattle.enet_peer.specs.Endings.{dropped, ended, freed, disconnecting, parting, settled, is_later, cut_off_in}
+use Rattle.enet_peer.specs.Endings.{dropped, ended, freed, disconnecting, parting, settled, is_later, silence_ending, cut_off_in}
 use Rattle.enet_peer.specs.CommandEffect.{Outcome, answered, answered_at, is_answered_in, is_allowed, is_of_handshake, obeyed, unless_refused, by_body, by_answer, by_arrival, on_data, stopped, sampled, with_answer, on_match, accepted, is_connecting, on_acknowledge, welcomed, on_verify_in, on_last_disconnect, on_disconnect_in, on_bandwidth, on_throttle}
 use Rattle.enet_peer.proofs.Obeying.{unless-holds, unwelcomed-holds}
 use Rattle.enet_peer.specs.Refusing.{confirms_by, heeded, is_turned_away, told_again, told_full, turned_away}
@@ -84,8 +86,8 @@ stands _ = false
 pub record Changes (P : Peering → Type 0) : Type 0 where
   pub quiet : (p q : Peering) → core q ≡ core p → P p → P q
   pub controls : (p : Peering) (what : Control) → is_offer what ≡ false → is_connected p.state ≡ true → P p → P (record p { outbox = with_control p.outbox what })
-  pub ends : (p : Peering) (info : ℕ) → is_gone p.state ≡ false → P p → P (ended p info)
-  pub cuts : (p : Peering) (now : ℕ) → is_gone p.state ≡ true → has_ended p.outbox now p.patience p.heard ≡ true → P p → P (ended p 0)
+  pub ends : (p : Peering) (why : Ending) (info : ℕ) → is_gone p.state ≡ false → P p → P (ended p why info)
+  pub cuts : (p : Peering) (why : Ending) (now : ℕ) → is_gone p.state ≡ true → has_ended p.outbox now p.patience p.heard ≡ true → P p → P (ended p why 0)
   pub frees : (p : Peering) → P p → P (freed p)
   pub parts : (p : Peering) (info : ℕ) → P p → P (parting p info)
   pub disconnects : (p : Peering) (info : ℕ) → stands p.state ≡ true → P p → P (disconnecting p info)
@@ -135,7 +137,7 @@ kept-settled P k p h = if-peer P (is_later p.state && is_done p.outbox) (disconn
 
 kept-cut_off : (P : Peering → Type 0) → Changes P → (p : Peering) (now : ℕ) (s : PeerState) → p.state ≡ s → has_ended p.outbox now p.patience p.heard ≡ true → P p → P (cut_off_in s p)
 kept-cut_off P k p now state.Answering e over h = k.frees p h
-kept-cut_off P k p now s e over h = elim (either (is_gone p.state)) [ inl gone ↦ k.cuts p now gone over h | inr here ↦ k.ends p 0 here h ]
+kept-cut_off P k p now s e over h = elim (either (is_gone p.state)) [ inl gone ↦ k.cuts p (silence_ending s) now gone over h | inr here ↦ k.ends p (silence_ending s) 0 here h ]
 
 answering-is : (s : PeerState) → is_answering s ≡ true → s ≡ state.Answering
 answering-is state.Answering e = refl
@@ -250,7 +252,7 @@ kept-filled P k p pace h =
     }) h
 
 pub kept-gone_on : (P : Peering → Type 0) → Changes P → (p : Peering) (s : PeerState) → p.state ≡ s → P p → P (gone_on_in s p)
-kept-gone_on P k p state.AckDisconnect e h = k.ends p p.info (ap is_gone e) h
+kept-gone_on P k p state.AckDisconnect e h = k.ends p AskedThere p.info (ap is_gone e) h
 kept-gone_on P k p state.Parting e h = if-peer P (ltb 0 (length p.outbox.control.queued)) p (freed p) (λ t. h) (k.frees p h)
 kept-gone_on P k p s e h = kept-settled P k p h
 
@@ -292,7 +294,7 @@ allowed-connected state.Parting body n e l = absurd (let x : false ≡ true = e 
 
 kept-with_answer : (P : Peering → Type 0) → Changes P → (p : Peering) (s : PeerState) (what : Control) → p.state ≡ s → P p → P (with_answer s what p)
 kept-with_answer P k p state.Answering (control.VerifyConnect verify) e h = k.greets p e h
-kept-with_answer P k p state.Disconnecting (control.Disconnect info) e h = k.ends p 0 (ap is_gone e) h
+kept-with_answer P k p state.Disconnecting (control.Disconnect info) e h = k.ends p AskedHere 0 (ap is_gone e) h
 kept-with_answer P k p s what e h = h
 
 kept-acknowledged : (P : Peering → Type 0) → Changes P → (p : Peering) (now channel number told : ℕ) → is_gone p.state ≡ false → P p → P (on_acknowledge p now channel number told)
@@ -336,19 +338,19 @@ kept-verified : (P : Peering → Type 0) → Changes P → (p : Peering) (v : Ve
 kept-verified P k p v state.Connecting e h = by (confirmed p.offer v) refl
   where
     by : (o : Option Terms) → confirmed p.offer v ≡ o → P (welcomed p v o)
-    by None c = unwelcomed-holds P p v h (k.ends p 0 (ap is_gone e) h)
+    by None c = unwelcomed-holds P p v h (k.ends p BadAnswer 0 (ap is_gone e) h)
     by (Some terms) c = k.welcomes p v terms e (confirmed-big p.offer v terms c) (confirmed-word p.offer v terms c) h
 kept-verified P k p v s e h = h
 
 kept-last : (P : Peering → Type 0) → Changes P → (p : Peering) (b : Bool) (info : ℕ) → stands p.state ≡ true → is_gone p.state ≡ false → P p → P (on_last_disconnect p b info)
 kept-last P k p true info up here h = k.answers p info up h
-kept-last P k p false info up here h = k.ends p info here h
+kept-last P k p false info up here h = k.ends p AskedThere info here h
 
 kept-disconnected : (P : Peering → Type 0) → Changes P → (p : Peering) (s : PeerState) (b : Bool) (info : ℕ) → p.state ≡ s → P p → P (on_disconnect_in s p b info)
 kept-disconnected P k p state.Connected b info e h = kept-last P k p b info (ap stands e) (ap is_gone e) h
 kept-disconnected P k p state.DisconnectLater b info e h = kept-last P k p b info (ap stands e) (ap is_gone e) h
-kept-disconnected P k p state.Connecting b info e h = k.ends p info (ap is_gone e) h
-kept-disconnected P k p state.Disconnecting b info e h = k.ends p info (ap is_gone e) h
+kept-disconnected P k p state.Connecting b info e h = k.ends p AskedThere info (ap is_gone e) h
+kept-disconnected P k p state.Disconnecting b info e h = k.ends p AskedThere info (ap is_gone e) h
 kept-disconnected P k p state.Answering b info e h = k.frees p h
 kept-disconnected P k p state.Free b info e h = h
 kept-disconnected P k p state.AckDisconnect b info e h = h

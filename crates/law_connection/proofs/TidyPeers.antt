@@ -142,8 +142,8 @@ pub tidies : (qs : List Packet) → Changes (IsTidy qs)
 tidies qs = record {
   quiet = λ p q e h. tidy-core qs p q e h;
   controls = λ p what plain on h. record { places = h.places; few = h.few; receivers = h.receivers; young = h.young; big = h.big };
-  ends = λ p info here h. tidy-stopped qs p (ended p info) refl refl refl refl h;
-  cuts = λ p now gone over h. tidy-stopped qs p (ended p 0) refl refl refl refl h;
+  ends = λ p why info here h. tidy-stopped qs p (ended p why info) refl refl refl refl h;
+  cuts = λ p why now gone over h. tidy-stopped qs p (ended p why 0) refl refl refl refl h;
   frees = λ p h. tidy-stopped qs p (freed p) refl refl refl refl h;
   parts = λ p info h. tidy-stopped qs p (parting p info) refl refl refl refl h;
   disconnects = λ p info up h. tidy-stopped qs p (disconnecting p info) refl refl refl refl h;

@@ -193,8 +193,8 @@ words w = record {
     says = subst (λ (c : Core). AllSay w c.control) (sym e) h.says;
   };
   controls = λ p what plain on h. stays-of w p (record p { outbox = outbox.with_control p.outbox what }) refl refl refl (queued-say w p.outbox.control what (says-other w what plain) h.says) h;
-  ends = λ p info here h. moves w p (ended p info) refl (λ e. absurd (cc)) (none-say w p.outbox.control.number) h;
-  cuts = λ p now gone over h. moves w p (ended p 0) refl (λ e. absurd (cc)) (none-say w p.outbox.control.number) h;
+  ends = λ p why info here h. moves w p (ended p why info) refl (λ e. absurd (cc)) (none-say w p.outbox.control.number) h;
+  cuts = λ p why now gone over h. moves w p (ended p why 0) refl (λ e. absurd (cc)) (none-say w p.outbox.control.number) h;
   frees = λ p h. moves w p (freed p) refl (λ e. absurd (cc)) (none-say w p.outbox.control.number) h;
   parts = λ p info h. moves w p (parting p info) refl (λ e. absurd (cc)) (cleared-queued w p.outbox.control.number (control.DisconnectNow info) tt) h;
   disconnects = λ p info up h. moves w p (disconnecting p info) refl (λ e. absurd (cc)) (cleared-queued w p.outbox.control.number (control.Disconnect info) tt) h;

@@ -15,13 +15,14 @@ use Rattle.enet_codec.specs.declared.stop.Stop.TheVariants as stop
 use Rattle.enet_codec.specs.Message.{Message, IsMessage}
 use Rattle.enet_host.specs.Foretelling.{teller_of}
 use Rattle.enet_host.specs.Host.{Host, named}
+use Rattle.enet_outbox.specs.declared.parts.SendLimit.{SendLimit}
 use Rattle.enet_peer.specs.declared.parts.PeerEvent.{PeerEvent}
 use Rattle.enet_peer.specs.declared.parts.PeerEvent.TheVariants as told
 use Rattle.enet_peer.specs.Handling.{Arrival, one_more}
 use Rattle.enet_peer.specs.Peering.{Peering}
 use Rattle.enet_receiver.specs.Members.{Has}
 use Rattle.enet_sender.specs.CommandChoice as choice
-use Rattle.enet_slot.specs.Calls.{submission, event_of}
+use Rattle.enet_slot.specs.Calls.{submission, unless_full, event_of}
 use Rattle.enet_slot.specs.Receiving.{is_same_address, is_deaf, fits_session, refused_by_peer}
 use Rattle.enet_slot.specs.Slot.{SlotState, name_of}
 use Rattle.law_network.specs.Calls.{Call, Acts}
@@ -121,7 +122,7 @@ giver-there old new gave buf acts =
 
 submitter-there : (old new : Host) (n : PeerRef) (channel : ℕ) (q : choice.Packet) (done : Unit {0}) → Acts (call.Submit n channel q (Ok done)) old new → (r : Peering) × IsThere old.slots n r
 submitter-there old new n channel q done acts =
-    let d = does-named old.slots n (submission channel q) new.slots acts.0 in
+    let d = does-named old.slots n (unless_full old.send_limit (submission channel q)) new.slots acts.0 in
     (d.peer, record { slot = d.slot; there = d.there; same = d.same; peer = d.held })
 
 -- nobody of a name that isn't there
@@ -153,6 +154,7 @@ adds-nothing (call.SetPingInterval n ms answer) old new name acts none = record 
 adds-nothing (call.SetTimeout n limit minimum maximum answer) old new name acts none = record { told = refl; accepted = refl; given = refl }
 adds-nothing (call.NextEvent None) old new name acts none = record { told = refl; accepted = refl; given = refl }
 adds-nothing (call.Admit what answer) old new name acts none = record { told = refl; accepted = refl; given = refl }
+adds-nothing (call.SetSendLimit bytes commands) old new name acts none = record { told = refl; accepted = refl; given = refl }
 adds-nothing (call.NextEvent (Some (event.Connect n info))) old new name acts none =
     let x = teller-there old new (event.Connect n info) n acts refl in
     record { told = if-not (is_same_name name n) _ (not-same old.slots name n x.0 x.1 none); accepted = refl; given = refl }
@@ -307,16 +309,16 @@ adds-told old new name n p x a ev t ds acts of is e =
     (λ other. record { told = is ∙ if-not (is_same_name name n) t other; accepted = refl; given = refl })
     (λ same at. record { told = sym (if-so (is_same_name name n) t same) ∙ sym is; accepted = refl; given = refl; sound = λ m there. absurd there; came = refl }))
 
-adds-accepted : (name n : PeerRef) (s : SlotState) (a : Addr) (channel : ℕ) (q : choice.Packet) (done : Unit {0}) (b : Bool) → is_same_name name n ≡ b
-    → Adds name a (call.Submit n channel q (Ok done)) (deeds_if b (Submit (record { channel = channel; flags = q.flags; body = q.body }) (Ok done)))
-adds-accepted name n s a channel q done true e = record {
+adds-accepted : (name n : PeerRef) (s : SlotState) (a : Addr) (channel : ℕ) (q : choice.Packet) (limit : Option SendLimit) (done : Unit {0}) (b : Bool) → is_same_name name n ≡ b
+    → Adds name a (call.Submit n channel q (Ok done)) (deeds_if b (Submit (record { channel = channel; flags = q.flags; body = q.body }) limit (Ok done)))
+adds-accepted name n s a channel q limit done true e = record {
   told = refl;
   accepted = sym (if-so (is_same_name name n) _ e);
   given = refl;
   sound = λ m there. absurd there;
   came = refl;
 }
-adds-accepted name n s a channel q done false e = record {
+adds-accepted name n s a channel q limit done false e = record {
   told = refl;
   accepted = sym (if-not (is_same_name name n) _ e);
   given = refl;
@@ -328,9 +330,9 @@ pub adds : (c : Call) (old new : Host) (name : PeerRef) (p : Peering) (x : IsThe
 adds (call.Connect address channels info word answer) old new name p x a ds at acts fell =
     adds-of name a (call.Connect address channels info word answer) ds [] fell (record { told = refl; accepted = refl; given = refl }) (record { told = refl; accepted = refl; given = refl; brought = refl })
 adds (call.Submit n channel q (Ok done)) old new name p x a ds at acts fell =
-    subst (Adds name a (call.Submit n channel q (Ok done))) (sym fell) (adds-accepted name n x.slot a channel q done (is_meant n name.slot x.slot) (sym (meant-same name n x.slot x.same)))
+    subst (Adds name a (call.Submit n channel q (Ok done))) (sym fell) (adds-accepted name n x.slot a channel q old.send_limit done (is_meant n name.slot x.slot) (sym (meant-same name n x.slot x.same)))
 adds (call.Submit n channel q (Err e)) old new name p x a ds at acts fell =
-    adds-of name a (call.Submit n channel q (Err e)) ds (deeds_if (is_meant n name.slot x.slot) (Submit (record { channel = channel; flags = q.flags; body = q.body }) (Err e))) fell (record { told = refl; accepted = refl; given = refl })
+    adds-of name a (call.Submit n channel q (Err e)) ds (deeds_if (is_meant n name.slot x.slot) (Submit (record { channel = channel; flags = q.flags; body = q.body }) old.send_limit (Err e))) fell (record { told = refl; accepted = refl; given = refl })
     (silent-if a _ (is_meant n name.slot x.slot) (record { told = refl; accepted = refl; given = refl; brought = refl }))
 adds (call.Receive from bytes answer) old new name p x a ds at acts fell = adds-received name x.slot p a x.peer at (common_of old) from bytes answer ds fell
 adds (call.Service None buf) old new name p x a ds at acts fell =
@@ -365,6 +367,8 @@ adds (call.ConfigureThrottle n interval acceleration deceleration answer) old ne
     (silent-if a _ (is_meant n name.slot x.slot) (record { told = refl; accepted = refl; given = refl; brought = refl })))
 adds (call.Admit what answer) old new name p x a ds at acts fell =
     subst (Adds name a (call.Admit what answer)) (sym fell) (adds-silent name a (call.Admit what answer) _ (record { told = refl; accepted = refl; given = refl }) (record { told = refl; accepted = refl; given = refl; brought = refl }))
+adds (call.SetSendLimit bytes commands) old new name p x a ds at acts fell =
+    adds-of name a (call.SetSendLimit bytes commands) ds [] fell (record { told = refl; accepted = refl; given = refl }) (record { told = refl; accepted = refl; given = refl; brought = refl })
 adds (call.SetPingInterval n ms answer) old new name p x a ds at acts fell =
     subst (Adds name a (call.SetPingInterval n ms answer)) (sym fell) (adds-silent name a (call.SetPingInterval n ms answer) _ (record { told = refl; accepted = refl; given = refl })
     (silent-if a _ (is_meant n name.slot x.slot) (record { told = refl; accepted = refl; given = refl; brought = refl })))

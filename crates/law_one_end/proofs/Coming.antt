@@ -56,8 +56,8 @@ came-by (event ∷ es) e new r h there = elim (came-by es r.0 new r.2 h there) [
 
 -- an event's command is its deed's
 of-deed : (d : Deed) (m : Message) → Has (flat_map came_in (event_in d)) m → Has (message_in d) m
-of-deed (deed.Submit q (Ok done)) m there = there
-of-deed (deed.Submit q (Err why)) m there = there
+of-deed (deed.Submit q limit (Ok done)) m there = there
+of-deed (deed.Submit q limit (Err why)) m there = there
 of-deed (deed.Emit now given) m there = there
 of-deed (deed.Come a x (Ok done)) m there = there
 of-deed (deed.Come a x (Err stop.Memory)) m there = absurd there

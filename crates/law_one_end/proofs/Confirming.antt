@@ -285,8 +285,8 @@ pasts : Changes Past
 pasts = record {
   quiet = λ p q e h. record { past = ap (λ (c : Core). is_young c.state) e ∙ h.past; none = ap (λ (c : Core). c.greeting) e ∙ h.none };
   controls = λ p what plain on h. record { past = h.past; none = h.none };
-  ends = λ p info here h. record { past = refl; none = h.none };
-  cuts = λ p now gone over h. record { past = refl; none = h.none };
+  ends = λ p why info here h. record { past = refl; none = h.none };
+  cuts = λ p why now gone over h. record { past = refl; none = h.none };
   frees = λ p h. record { past = refl; none = refl };
   parts = λ p info h. record { past = refl; none = refl };
   disconnects = λ p info up h. record { past = refl; none = h.none };

@@ -18,6 +18,7 @@ use Rattle.enet_receiver.specs.Members.{Has}
 use Rattle.law_connection.proofs.CarriageLemmas.{Has-append_left, Has-append_right}
 use Rattle.law_network.specs.Deeds.{Deed, Alone, AllAlone, bytes_of}
 use Rattle.law_network.specs.Deeds as deed
+use Rattle.law_network.proofs.Accepting as accepting
 use Rattle.law_network.proofs.Matching.{was-set, matches}
 use Rattle.law_one_end.specs.OneEnd.{OneEnd, Event, Come, Tick, Disconnect, Set, GiveWay, TellAgain, with_peer, with_submission, with_emission, with_come, Runs}
 use Rattle.law_one_end.specs.Hosts.{AreOf, message_in, event_in}
@@ -28,7 +29,7 @@ told_in (deed.Take (Some e)) = e ∷ []
 told_in d = []
 
 abbrev pub accepted_in : Deed → List Packet
-accepted_in (deed.Submit q (Ok done)) = q ∷ []
+accepted_in (deed.Submit q limit (Ok done)) = q ∷ []
 accepted_in d = []
 
 abbrev pub given_in : Addr → Deed → List (Addr × List ℕ)
@@ -154,9 +155,9 @@ led-answered a e how m q is answer h = by answer h
 
 -- one deed
 pub led-deed : (a : Addr) (e : OneEnd) (d : Deed) (q : Peering) → Alone d e.peer q → ((m : Message) → Has (message_in d) m → IsMessage m) → Led a e (event_in d) (told_in d) (accepted_in d) (given_in a d) q
-led-deed a e (deed.Submit x (Ok done)) q alone is = record {
+led-deed a e (deed.Submit x limit (Ok done)) q alone is = record {
   end = with_submission e x;
-  runs = (with_submission e x, (alone.0, refl), refl);
+  runs = (with_submission e x, (accepting.accepted limit e.peer x.channel (record { flags = x.flags; body = x.body }) alone.0, refl), refl);
   peer = sym alone.1;
   taken = sym (append-nil e.taken);
   submitted = refl;
@@ -164,7 +165,7 @@ led-deed a e (deed.Submit x (Ok done)) q alone is = record {
   puts = refl;
   put = sym (append-nil e.put);
 }
-led-deed a e (deed.Submit x (Err why)) q alone is = led-nothing a e q alone.1
+led-deed a e (deed.Submit x limit (Err why)) q alone is = led-nothing a e q alone.1
 led-deed a e (deed.Emit now None) q alone is = record {
   end = with_emission e now;
   runs = (with_emission e now, refl, refl);

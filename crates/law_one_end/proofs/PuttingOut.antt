@@ -122,8 +122,8 @@ changes qs put = record {
     young = λ t. h.young (ap (λ (c : Core). is_young c.state) (sym e) ∙ t);
   };
   controls = λ p what plain on h. record { senders = h.senders; logged = h.logged; young = h.young };
-  ends = λ p info here h. stops qs put p (ended p info) refl refl refl h;
-  cuts = λ p now gone over h. stops qs put p (ended p 0) refl refl refl h;
+  ends = λ p why info here h. stops qs put p (ended p why info) refl refl refl h;
+  cuts = λ p why now gone over h. stops qs put p (ended p why 0) refl refl refl h;
   frees = λ p h. stops qs put p (freed p) refl refl refl h;
   parts = λ p info h. stops qs put p (parting p info) refl refl refl h;
   disconnects = λ p info up h. stops qs put p (disconnecting p info) refl refl refl h;

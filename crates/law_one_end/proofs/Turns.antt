@@ -22,9 +22,11 @@ use Rattle.enet_outbox.specs.declared.parts.Matched.TheVariants as matched
 use Rattle.enet_outbox.specs.Outbox.{after_acknowledgement, is_done, matched_by, told_by, with_growth}
 use Rattle.enet_outbox.specs.Outbox as outbox
 use Rattle.enet_peer.specs.Peering.{Peering}
+use Rattle.enet_peer.specs.declared.parts.Ending.{Ending}
+use Rattle.enet_peer.specs.declared.parts.Ending.TheVariants.{AskedHere, AskedThere, BadAnswer}
 use Rattle.enet_peer.specs.declared.parts.PeerState.{PeerState}
 use Rattle.enet_peer.specs.declared.parts.PeerState.TheVariants as state
-use Rattle.enet_peer.specs.Endings.{ended, freed, disconnecting, parting, settled, is_later, cut_off_in}
+use Rattle.enet_peer.specs.Endings.{ended, freed, disconnecting, parting, settled, is_later, silence_ending, cut_off_in}
 use Rattle.enet_peer.specs.CommandEffect.{Outcome, answered, answered_at, is_answered_in, is_allowed, is_of_handshake, obeyed, unless_refused, by_body, by_answer, by_arrival, on_data, stopped, sampled, with_answer, on_match, accepted, is_connecting, on_acknowledge, welcomed, on_verify_in, on_last_disconnect, on_disconnect_in, on_bandwidth, on_throttle}
 use Rattle.enet_peer.specs.Refusing.{heeded, told_again, told_full}
 use Rattle.enet_peer.proofs.Obeying.{unless-holds, unwelcomed-holds}
@@ -92,8 +94,8 @@ if-outcome P false x y f g = g
 abbrev pub StaysAt : Peering → Peering → Type 0
 StaysAt p q = Stays (core p) (core q)
 
-ended-stays : (p : Peering) (info : ℕ) → StaysAt p (ended p info)
-ended-stays p info = shut (core p) (core (ended p info)) refl refl
+ended-stays : (p : Peering) (why : Ending) (info : ℕ) → StaysAt p (ended p why info)
+ended-stays p why info = shut (core p) (core (ended p why info)) refl refl
 
 pub freed-stays : (p : Peering) → StaysAt p (freed p)
 freed-stays p = forgets (core p) (core (freed p)) refl refl
@@ -112,7 +114,7 @@ settled-stays p = if-peer (StaysAt p) (is_later p.state && is_done p.outbox) (di
 
 cut_off-stays : (p : Peering) (s : PeerState) → StaysAt p (cut_off_in s p)
 cut_off-stays p state.Answering = freed-stays p
-cut_off-stays p s = ended-stays p 0
+cut_off-stays p s = ended-stays p (silence_ending s) 0
 
 timeouts-stay : (p : Peering) (now : ℕ) → StaysAt p (after_timeouts p now)
 timeouts-stay p now = by (expiry_of p now)
@@ -176,7 +178,7 @@ set-stays p (Timeout limit minimum maximum) = stays (core p)
 -- a datagram has gone
 
 gone_on-by : (p : Peering) (s : PeerState) → StaysAt p (gone_on_in s p)
-gone_on-by p state.AckDisconnect = ended-stays p p.info
+gone_on-by p state.AckDisconnect = ended-stays p AskedThere p.info
 gone_on-by p state.Parting = if-peer (StaysAt p) (ltb 0 (length p.outbox.control.queued)) p (freed p) (stays (core p)) (freed-stays p)
 gone_on-by p s = settled-stays p
 
@@ -202,7 +204,7 @@ like p q r s i h = subst (Stays (core p)) (λ j. record { opens = dispatches_in 
 
 with_answer-stays : (p : Peering) (s : PeerState) (what : Control) → p.state ≡ s → StaysAt p (with_answer s what p)
 with_answer-stays p state.Answering (control.VerifyConnect verify) e = record { opens = λ t. ap dispatches_in e; receivers = λ t i. inl refl; untaken = inl refl }
-with_answer-stays p state.Disconnecting (control.Disconnect info) e = ended-stays p 0
+with_answer-stays p state.Disconnecting (control.Disconnect info) e = ended-stays p AskedHere 0
 with_answer-stays p s what e = stays (core p)
 
 on_acknowledge-stays : (p : Peering) (now channel number told : ℕ) → StaysAt p (on_acknowledge p now channel number told)
@@ -226,13 +228,13 @@ on_acknowledge-stays p now channel number told = if-peer (StaysAt p) (is_connect
 
 last-stays : (p : Peering) (b : Bool) (info : ℕ) → StaysAt p (on_last_disconnect p b info)
 last-stays p true info = shut (core p) (core (on_last_disconnect p true info)) refl refl
-last-stays p false info = ended-stays p info
+last-stays p false info = ended-stays p AskedThere info
 
 on_disconnect-stays : (p : Peering) (s : PeerState) (b : Bool) (info : ℕ) → StaysAt p (on_disconnect_in s p b info)
 on_disconnect-stays p state.Connected b info = last-stays p b info
 on_disconnect-stays p state.DisconnectLater b info = last-stays p b info
-on_disconnect-stays p state.Connecting b info = ended-stays p info
-on_disconnect-stays p state.Disconnecting b info = ended-stays p info
+on_disconnect-stays p state.Connecting b info = ended-stays p AskedThere info
+on_disconnect-stays p state.Disconnecting b info = ended-stays p AskedThere info
 on_disconnect-stays p state.Answering b info = freed-stays p
 on_disconnect-stays p state.Free b info = stays (core p)
 on_disconnect-stays p state.AckDisconnect b info = stays (core p)
@@ -244,7 +246,7 @@ verify-stays : (p : Peering) (v : Verify) (s : PeerState) → p.state ≡ s → 
 verify-stays p v state.Connecting e = by (confirmed p.offer v)
   where
     by : (o : Option Terms) → StaysAt p (welcomed p v o)
-    by None = unwelcomed-holds (StaysAt p) p v (stays (core p)) (ended-stays p 0)
+    by None = unwelcomed-holds (StaysAt p) p v (stays (core p)) (ended-stays p BadAnswer 0)
     by (Some terms) = record { opens = λ t. ap dispatches_in e; receivers = λ t i. get-take terms.channels p.inbox.receivers i; untaken = inl refl }
 verify-stays p v s e = stays (core p)
 

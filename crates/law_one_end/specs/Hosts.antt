@@ -91,7 +91,7 @@ BeganAt name a (c ∷ cs) series first ds =
 
 -- what a deed is to the peer's end: nothing where it was refused, where memory was wanting, or where no event was there to be taken
 abbrev pub event_in : Deed → List Event
-event_in (deed.Submit q (Ok done)) = Submit q ∷ []
+event_in (deed.Submit q limit (Ok done)) = Submit q ∷ []
 event_in (deed.Emit now given) = Emit now ∷ []
 event_in (deed.Come a m (Err stop.Memory)) = []
 event_in (deed.Come a m answer) = Come m a.now a.sent ∷ []

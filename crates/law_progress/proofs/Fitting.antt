@@ -40,12 +40,13 @@ use Rattle.enet_outbox.specs.Emission.{filled}
 use Rattle.enet_outbox.specs.Room.{IsAwaited, RoomIsAwaited}
 use Rattle.enet_outbox.proofs.Filled.{by-filling}
 use Rattle.enet_outbox.proofs.Rooms.{awaited-acknowledged, awaited-cleared, awaited-filled, awaited-marked, awaited-narrowed, awaited-new, awaited-submitted}
+use Rattle.enet_peer.specs.declared.parts.Ending.TheVariants.{AskedHere, AskedThere, BadAnswer}
 use Rattle.enet_peer.specs.declared.parts.PeerState.{PeerState}
 use Rattle.enet_peer.specs.declared.parts.PeerState.TheVariants as state
 use Rattle.enet_peer.specs.declared.parts.Limits.{Limits}
 use Rattle.enet_peer.specs.declared.parts.Offsets.{Offsets}
 use Rattle.enet_peer.specs.Peering.{Peering, joined, connecting, answering}
-use Rattle.enet_peer.specs.Endings.{ended, freed, parting, settled, disconnecting, is_later, cut_off_in}
+use Rattle.enet_peer.specs.Endings.{ended, freed, parting, settled, disconnecting, is_later, silence_ending, cut_off_in}
 use Rattle.enet_peer.proofs.Obeying.{unless-holds, unwelcomed-holds}
 use Rattle.enet_peer.specs.CommandEffect.{Outcome, obeyed, unless_refused, stopped, is_allowed, is_connect, by_body, by_answer, by_arrival, on_data, answered, answered_at, is_answered_in, is_connecting, on_acknowledge, on_match, acknowledged, with_answer, on_verify_in, welcomed, on_disconnect_in, on_last_disconnect, on_bandwidth, on_throttle}
 use Rattle.enet_peer.specs.Calls.{Leave, AtOnce, TellsOnce, Asks, AsksLater, Refused, left, submitted, pace_of, gone_on_in, expiry_of, held_back, moved, ticked, pinged, is_pinged, after_timeouts_by, tick_of, next_event, event_after, packet_event, last_event}
@@ -248,7 +249,7 @@ fits-settled p f = by (is_later p.state && outbox.is_done p.outbox)
 
 fits-answer : (p : Peering) (s : PeerState) (what : Control) → Fits p → Fits (with_answer s what p)
 fits-answer p state.Answering (control.VerifyConnect verify) f = record { mtu = f.mtu; small = f.small; awaited = f.awaited }
-fits-answer p state.Disconnecting (control.Disconnect info) f = fits-dropped p (ended p 0) f refl refl refl refl
+fits-answer p state.Disconnecting (control.Disconnect info) f = fits-dropped p (ended p AskedHere 0) f refl refl refl refl
 fits-answer p s what f = f
 
 fits-acknowledge : (p : Peering) (now channel number told : ℕ) → Fits p → Fits (on_acknowledge p now channel number told)
@@ -285,7 +286,7 @@ fits-verify : (p : Peering) (v : Verify) (s : PeerState) → Fits p → Fits (on
 fits-verify p v state.Connecting f = by (is_accepted p.offer v)
   where
     by : (b : Bool) → Fits (welcomed p v (cond b (Some (agreed p.offer v)) None))
-    by false = unwelcomed-holds Fits p v f (fits-dropped p (ended p 0) f refl refl refl refl)
+    by false = unwelcomed-holds Fits p v f (fits-dropped p (ended p BadAnswer 0) f refl refl refl refl)
     by true = record {
       mtu = lesser-mtu p.offer.mtu v.mtu;
       small = small-cleared (room_of (mtu_of p.offer.mtu v.mtu)) _ refl (λ s h. cleared-empty p.outbox.senders s (taken-has (agreed p.offer v).channels (map cleared_sender p.outbox.senders) s h));
@@ -295,13 +296,13 @@ fits-verify p v s f = f
 
 fits-last : (p : Peering) (b : Bool) (info : ℕ) → Fits p → Fits (on_last_disconnect p b info)
 fits-last p true info f = fits-dropped p (on_last_disconnect p true info) f refl refl refl refl
-fits-last p false info f = fits-dropped p (ended p info) f refl refl refl refl
+fits-last p false info f = fits-dropped p (ended p AskedThere info) f refl refl refl refl
 
 fits-disconnect : (p : Peering) (s : PeerState) (b : Bool) (info : ℕ) → Fits p → Fits (on_disconnect_in s p b info)
 fits-disconnect p state.Connected b info f = fits-last p b info f
 fits-disconnect p state.DisconnectLater b info f = fits-last p b info f
-fits-disconnect p state.Connecting b info f = fits-dropped p (ended p info) f refl refl refl refl
-fits-disconnect p state.Disconnecting b info f = fits-dropped p (ended p info) f refl refl refl refl
+fits-disconnect p state.Connecting b info f = fits-dropped p (ended p AskedThere info) f refl refl refl refl
+fits-disconnect p state.Disconnecting b info f = fits-dropped p (ended p AskedThere info) f refl refl refl refl
 fits-disconnect p state.Answering b info f = fits-dropped p (freed p) f refl refl refl refl
 fits-disconnect p s b info f = f
 
@@ -379,7 +380,7 @@ fits-takes p f = by p.greeting
     by None = packets p.inbox.untaken
 
 pub fits-went : (p : Peering) (s : PeerState) → Fits p → Fits (gone_on_in s p)
-fits-went p state.AckDisconnect f = fits-dropped p (ended p p.info) f refl refl refl refl
+fits-went p state.AckDisconnect f = fits-dropped p (ended p AskedThere p.info) f refl refl refl refl
 fits-went p state.Parting f = by (nat_lt 0 (length p.outbox.control.queued))
   where
     by : (b : Bool) → Fits (cond b p (freed p))
@@ -416,7 +417,7 @@ fits-ticked p n f = by (expiry_of p n)
   where
     cut : (s : PeerState) → Fits (cut_off_in s p)
     cut state.Answering = fits-dropped p (freed p) f refl refl refl refl
-    cut s = fits-dropped p (ended p 0) f refl refl refl refl
+    cut s = fits-dropped p (ended p (silence_ending s) 0) f refl refl refl refl
 
     pings : (q : Peering) → Fits q → Fits (pinged q n)
     pings q g = go (is_pinged q n)

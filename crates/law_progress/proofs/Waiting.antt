@@ -42,6 +42,8 @@ use Rattle.enet_outbox.specs.Outbox.{Outbox, matched_by, marked_sender, cleared_
 use Rattle.enet_outbox.specs.Outbox as outbox
 use Rattle.enet_outbox.specs.Emission.{filled}
 use Rattle.enet_outbox.proofs.Filled.{by-filling}
+use Rattle.enet_peer.specs.declared.parts.Ending.{Ending}
+use Rattle.enet_peer.specs.declared.parts.Ending.TheVariants.{AskedHere, AskedThere, BadAnswer}
 use Rattle.enet_peer.specs.declared.parts.PeerState.{PeerState}
 use Rattle.enet_peer.specs.declared.parts.PeerState.TheVariants as state
 use Rattle.enet_peer.specs.declared.parts.Limits.{Limits}
@@ -213,8 +215,8 @@ abbrev pub Fair : (Transmission → Type 0) → ℕ → Peering → Type 0
 Fair R most p = Each R p.outbox.control.sent p.outbox.senders × IsWithin p.estimate 65535 × (p.patience.maximum ≡ most)
 
 -- an end drops all
-fair-ended : (R : Transmission → Type 0) (most : ℕ) (p : Peering) (info : ℕ) → Fair R most p → Fair R most (ended p info)
-fair-ended R most p info h = (((λ t k. absurd k), none-cleared R p.outbox.senders), h.1, h.2)
+fair-ended : (R : Transmission → Type 0) (most : ℕ) (p : Peering) (why : Ending) (info : ℕ) → Fair R most p → Fair R most (ended p why info)
+fair-ended R most p why info h = (((λ t k. absurd k), none-cleared R p.outbox.senders), h.1, h.2)
 
 fair-freed : (R : Transmission → Type 0) (most : ℕ) (p : Peering) → Fair R most p → Fair R most (freed p)
 fair-freed R most p h = (((λ t k. absurd k), none-cleared R p.outbox.senders), h.1, h.2)
@@ -280,7 +282,7 @@ fair-gone R most p channel number h = by (channel == 0xFF)
 
 fair-answer : (R : Transmission → Type 0) (most : ℕ) (p : Peering) (s : PeerState) (what : Control) → Fair R most p → Fair R most (with_answer s what p)
 fair-answer R most p state.Answering (control.VerifyConnect verify) h = h
-fair-answer R most p state.Disconnecting (control.Disconnect info) h = fair-ended R most p 0 h
+fair-answer R most p state.Disconnecting (control.Disconnect info) h = fair-ended R most p AskedHere 0 h
 fair-answer R most p s what h = h
 
 fair-acknowledge : (R : Transmission → Type 0) (most : ℕ) (p : Peering) (now channel number told : ℕ) → Fair R most p → Fair R most (on_acknowledge p now channel number told)
@@ -308,19 +310,19 @@ fair-verify : (R : Transmission → Type 0) (most : ℕ) (p : Peering) (v : Veri
 fair-verify R most p v state.Connecting h = by (confirmed p.offer v)
   where
     by : (o : Option Terms) → Fair R most (welcomed p v o)
-    by None = unwelcomed-holds (Fair R most) p v h (fair-ended R most p 0 h)
+    by None = unwelcomed-holds (Fair R most) p v h (fair-ended R most p BadAnswer 0 h)
     by (Some terms) = (((λ t k. absurd k), (λ s k. none-cleared R p.outbox.senders s (Has-taken terms.channels (map cleared_sender p.outbox.senders) s k))), h.1, h.2)
 fair-verify R most p v s h = h
 
 fair-last : (R : Transmission → Type 0) (most : ℕ) (p : Peering) (b : Bool) (info : ℕ) → Fair R most p → Fair R most (on_last_disconnect p b info)
 fair-last R most p true info h = (((λ t k. absurd k), none-cleared R p.outbox.senders), h.1, h.2)
-fair-last R most p false info h = fair-ended R most p info h
+fair-last R most p false info h = fair-ended R most p AskedThere info h
 
 fair-disconnect : (R : Transmission → Type 0) (most : ℕ) (p : Peering) (s : PeerState) (b : Bool) (info : ℕ) → Fair R most p → Fair R most (on_disconnect_in s p b info)
 fair-disconnect R most p state.Connected b info h = fair-last R most p b info h
 fair-disconnect R most p state.DisconnectLater b info h = fair-last R most p b info h
-fair-disconnect R most p state.Connecting b info h = fair-ended R most p info h
-fair-disconnect R most p state.Disconnecting b info h = fair-ended R most p info h
+fair-disconnect R most p state.Connecting b info h = fair-ended R most p AskedThere info h
+fair-disconnect R most p state.Disconnecting b info h = fair-ended R most p AskedThere info h
 fair-disconnect R most p state.Answering b info h = fair-freed R most p h
 fair-disconnect R most p s b info h = h
 
@@ -398,7 +400,7 @@ fair-takes R most p h = by p.greeting
     by None = packets p.inbox.untaken
 
 pub fair-went : (R : Transmission → Type 0) (most : ℕ) (p : Peering) (s : PeerState) → Fair R most p → Fair R most (gone_on_in s p)
-fair-went R most p state.AckDisconnect h = fair-ended R most p p.info h
+fair-went R most p state.AckDisconnect h = fair-ended R most p AskedThere p.info h
 fair-went R most p state.Parting h = by (nat_lt 0 (length p.outbox.control.queued))
   where
     by : (b : Bool) → Fair R most (cond b p (freed p))

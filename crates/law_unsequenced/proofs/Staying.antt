@@ -38,6 +38,7 @@ use Rattle.enet_outbox.specs.declared.parts.Unsequenced.{Unsequenced}
 use Rattle.enet_outbox.specs.Outbox.{Outbox, after_acknowledgement, acknowledged_on, is_done, matched_by, has_ended, has_late, told_by, with_growth}
 use Rattle.enet_outbox.specs.Outbox as outbox
 use Rattle.enet_peer.specs.Peering.{Peering}
+use Rattle.enet_peer.specs.declared.parts.Ending.TheVariants.{BadAnswer}
 use Rattle.enet_peer.specs.declared.parts.PeerState.{PeerState}
 use Rattle.enet_peer.specs.declared.parts.PeerState.TheVariants as state
 use Rattle.enet_peer.specs.Endings.{ended, freed, disconnecting, parting, settled, is_later, cut_off_in}
@@ -400,7 +401,7 @@ verify-becomes come p v state.Connecting e = by (confirmed p.offer v)
     by : (o : Option Terms) → Becomes (is_young p.state) come (core p) (core (welcomed p v o))
     by None =
         unwelcomed-holds (λ (q : Peering). Becomes (is_young p.state) come (core p) (core q)) p v (becomes (is_young p.state) come (core p) (core p) (stays (core p)))
-        (becomes (is_young p.state) come (core p) (core (ended p 0)) (stays-cleared (core p)))
+        (becomes (is_young p.state) come (core p) (core (ended p BadAnswer 0)) (stays-cleared (core p)))
     by (Some terms) = record { mtu = inr (ap is_young e); group = refl; waiting = λ u h. absurd h; comes = inl (refl, inl refl) }
 verify-becomes come p v s e = becomes (is_young p.state) come (core p) (core p) (stays (core p))
 
