@@ -18,3 +18,4 @@ pub mod RecordPlaces
 pub mod Ends
 pub mod RecordsFresh
 pub mod Keeps
+pub mod Limiting

@@ -126,7 +126,7 @@ impl Site {
         connect_refusal(&self.host, channels)
     }
 
-    /// Its user submits a packet to a peer on a channel; `flags` are its flags. E2, E3, E4, E5 as by the host, E1 where memory
+    /// Its user submits a packet to a peer on a channel; `flags` are its flags. E2, E3, E4, E5, E9 as by the host, E1 where memory
     /// is refused, with nothing changed.
     pub fn submit(
         &mut self,
@@ -229,6 +229,13 @@ impl Site {
         ensures admits { IfOk result (λ done. CallsAt (call.Admit what (Ok tt)) self.old self.new) }
     {
         self.host.admit(what)
+    }
+
+    /// Its user sets how much may be queued or unacknowledged for a peer when another packet is submitted to it.
+    pub fn set_send_limit(&mut self, bytes: u64, commands: u64)
+        ensures { CallsAt (call.SetSendLimit bytes commands) self.old self.new }
+    {
+        self.host.set_send_limit(bytes, commands);
     }
 
     /// How many slots the host has.

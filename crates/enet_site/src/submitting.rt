@@ -3,7 +3,7 @@
 ghost use Rattle.std.specs.Prelude.{◌≡◌, ◌<◌, true, is_ok, length, Ok, Err, IfOk, IfErr, OnErr};
 ghost use Rattle.law_connection.specs.Law.{mtu_in};
 ghost use Rattle.enet_host.specs.Host.{named};
-ghost use Rattle.enet_slot.specs.Calls.{submission};
+ghost use Rattle.enet_slot.specs.Calls.{submission, unless_full};
 ghost use Rattle.enet_host.specs.Calls.{on_named};
 ghost use Rattle.law_network.specs.Calls.{Acts};
 ghost use Rattle.law_network.specs.Calls as call;
@@ -28,7 +28,7 @@ fn mtu_of(host: &HostCore, peer: PeerRef) -> u32
 /// Submits a packet, which nothing but want of memory refuses, to the peer of an end, and keeps it there with this mtu.
 fn submit_to(host: &mut HostCore, end: &mut End, packet: Packet, mtu: u32) -> Result<(), Refusal>
     requires channel { packet.channel < length end.old.channels }
-    requires open { is_ok (on_named host.old.slots end.old.name (submission packet.channel (record { flags = packet.flags; body = packet.body }))) ≡ true }
+    requires open { is_ok (on_named host.old.slots end.old.name (unless_full host.old.send_limit (submission packet.channel (record { flags = packet.flags; body = packet.body })))) ≡ true }
     ensures refused { IfErr result (λ why. Acts (call.Submit end.old.name packet.channel (record { flags = packet.flags; body = packet.body }) (Err (why, packet.body))) host.old host.old) }
     ensures host { OnErr result (host.new ≡ host.old) }
     ensures unchanged { OnErr result (end.new ≡ end.old) }
@@ -69,8 +69,8 @@ fn submit_apart(
     }
 }
 
-/// Submits a packet to the peer of this name, and keeps it at its end, if there is one. E2, E3, E4, E5 and E1 as by the host, with nothing
-/// changed.
+/// Submits a packet to the peer of this name, and keeps it at its end, if there is one. E2, E3, E4, E5, E9 and E1 as by the host, with
+/// nothing changed.
 pub(crate) fn submit(
     host: &mut HostCore,
     own: &mut Records,

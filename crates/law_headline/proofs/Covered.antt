@@ -13,7 +13,7 @@ use Rattle.enet_peer.specs.declared.parts.PeerState.TheVariants as state
 use Rattle.enet_peer.specs.Peering.{Peering}
 use Rattle.law_connection.specs.LinkSteps.{Has}
 use Rattle.enet_slot.specs.Slot.{SlotState, name_of, with_peer, with_peer_in}
-use Rattle.enet_slot.specs.Calls.{submission, event_of}
+use Rattle.enet_slot.specs.Calls.{submission, unless_full, event_of}
 use Rattle.enet_host.specs.Host.{Host}
 use Rattle.enet_host.specs.Calls.{TakesOne, address_of, address_in, address_named}
 use Rattle.enet_host.specs.Receiving.{handled_one}
@@ -97,8 +97,8 @@ named-by : (w : Around) (from old new : Site) (what : Happening) → HappensAmon
     → ((channel : ℕ) × (submitted_by name channel what ≢ [])) ⊎ (taken_by name what ≢ []) → (e : HostEnd) × Has old.ends e × (e.name ≡ name)
 named-by w from old new (Calls (call.Submit to number q (Ok done))) x owns k name (inl some) = by (is_same_name name to) refl
   where
-    d : Does old.host.slots to (submission number q) new.host.slots
-    d = does-named old.host.slots to (submission number q) new.host.slots x.0.0
+    d : Does old.host.slots to (unless_full old.host.send_limit (submission number q)) new.host.slots
+    d = does-named old.host.slots to (unless_full old.host.send_limit (submission number q)) new.host.slots x.0.0
 
     by : (b : Bool) → is_same_name name to ≡ b → (e : HostEnd) × Has old.ends e × (e.name ≡ name)
     by true e = (let r = end-of w.is_host old owns k to d.slot d.peer d.there d.same d.held in (r.0, r.1, r.2 ∙ sym (same-peer-name name to e)))

@@ -16,7 +16,7 @@ use Rattle.law_connection.specs.LinkSteps.{Has}
 use Rattle.law_connection.proofs.Lists.{Has-append_cases}
 use Rattle.law_connection.specs.Law.{mtu_in}
 use Rattle.enet_slot.specs.Slot.{SlotState, name_of, with_peer, greatest}
-use Rattle.enet_slot.specs.Calls.{submission, event_of}
+use Rattle.enet_slot.specs.Calls.{submission, unless_full, event_of}
 use Rattle.enet_host.specs.Host.{Host, named}
 use Rattle.enet_host.specs.Calls.{TakesOne}
 use Rattle.enet_host.specs.Serving.{served_of}
@@ -102,7 +102,7 @@ not-held h name other s p u there same has = by (is_same_name name other) refl
 silent-submit : (h : Host) (name to : PeerRef) (number channel : ℕ) (q : command_choice.Packet) (done : Unit {0}) (after : Host) → Acts (call.Submit to number q (Ok done)) h after → IsUnborn h name
     → submitted_by name channel (Calls (call.Submit to number q (Ok done))) ≡ []
 silent-submit h name to number channel q done after acts u =
-    let d : Does h.slots to (submission number q) after.slots = does-named h.slots to (submission number q) after.slots acts.0 in
+    let d : Does h.slots to (unless_full h.send_limit (submission number q)) after.slots = does-named h.slots to (unless_full h.send_limit (submission number q)) after.slots acts.0 in
     ap (λ (b : Bool). cond (b && number == channel) ((record { channel = number; flags = q.flags; body = q.body }) ∷ []) []) (not-held h name to d.slot d.peer u d.there d.same d.held)
 
 pub of-event : (name by : PeerRef) (t : PeerEvent) → is_of name (event_of by t) ≡ is_same_name name by
@@ -257,6 +257,7 @@ calls-change submitted taken w from old new (call.SetPingInterval name ms answer
 calls-change submitted taken w from old new (call.SetTimeout name limit minimum maximum answer) x = quiet submitted taken (call.SetTimeout name limit minimum maximum answer) old new (ap (λ (s : Site). s.ends) x.1) (λ n channel. refl) (λ n. refl)
 calls-change submitted taken w from old new (call.NextEvent None) x = quiet submitted taken (call.NextEvent None) old new (ap (λ (s : Site). s.ends) x.1) (λ n channel. refl) (λ n. refl)
 calls-change submitted taken w from old new (call.Admit what answer) x = quiet submitted taken (call.Admit what answer) old new (ap (λ (s : Site). s.ends) x.1) (λ n channel. refl) (λ n. refl)
+calls-change submitted taken w from old new (call.SetSendLimit bytes commands) x = quiet submitted taken (call.SetSendLimit bytes commands) old new (ap (λ (s : Site). s.ends) x.1) (λ n channel. refl) (λ n. refl)
 calls-change submitted taken w from old new (call.NextEvent (Some event)) x =
     let a : TakesOne old.host event new.host = x.0 in
     taken-one submitted taken event (name_of a.from a.first.slot) a.gives.taken.event old new a.gives.told (ap (λ (s : Site). s.ends) x.1)

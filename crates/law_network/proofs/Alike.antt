@@ -17,6 +17,7 @@ use Rattle.enet_codec.specs.Header.{header_word, header_text, sent_text}
 use Rattle.enet_codec.specs.Message.{Message, Spells}
 use Rattle.enet_codec.proofs.Laws.{one_spelling}
 use Rattle.enet_codec.proofs.Datagrams.{some-bytes}
+use Rattle.enet_outbox.specs.declared.parts.SendLimit.{SendLimit}
 use Rattle.enet_peer.specs.Peering.{Peering}
 use Rattle.enet_peer.specs.CommandEffect.{Outcome, Obeys, wants_memory}
 use Rattle.enet_peer.specs.Refusing.{heeded}
@@ -42,7 +43,7 @@ use Rattle.law_network.specs.Calls as call
 use Rattle.law_network.specs.Common.{Common, common_of, common_basis}
 use Rattle.law_network.specs.Deeds.{Deed, Sets, Alone, AllAlone, Come, GiveWay, TellAgain, put_out}
 use Rattle.law_network.specs.Deeds as deed
-use Rattle.law_network.specs.Falling.{Falls, nothing_left, no_command, stops, Receipt, GetsSeat, Reaches, unreadable, elsewhere, turned_away, here, Fell, Begins, asks, answers, counted, deeds_if, share_of}
+use Rattle.law_network.specs.Falling.{Falls, nothing_left, no_command, stops, Receipt, GetsSeat, Reaches, unreadable, elsewhere, turned_away, here, Fell, Begins, asks, answers, counted, deeds_if, is_meant, share_of}
 use Rattle.law_network.specs.Falling as falling
 use Rattle.law_network.specs.IsolationLaw.{Stays, Fares, untouched, goes_on, takes_over, begins, having_emitted}
 use Rattle.law_network.specs.Alike.{asked, is_memory, is_wanting, OneAnswer, IsCounted, IsHeld, AgreeOnPeer, Agree, OneWay, Alike}
@@ -80,8 +81,8 @@ obeys-once (Err stop.Memory) o p q r wants a b = a.2 ∙ sym b.2
 obeys-once (Err why) o p q r wants a b = a.1 ∙ sym b.1
 
 alone-once : (d : Deed) (p q r : Peering) → Alone d p q → Alone d p r → q ≡ r
-alone-once (deed.Submit packet (Ok done)) p q r a b = a.1 ∙ sym b.1
-alone-once (deed.Submit packet (Err e)) p q r a b = a.1 ∙ sym b.1
+alone-once (deed.Submit packet limit (Ok done)) p q r a b = a.1 ∙ sym b.1
+alone-once (deed.Submit packet limit (Err e)) p q r a b = a.1 ∙ sym b.1
 alone-once (deed.Emit now given) p q r a b = a.1 ∙ sym b.1
 alone-once (deed.Come at m answer) p q r a b = obeys-once answer (heeded at.full p at.now at.sent m) p q r (wants_memory p at.now at.sent m) a b
 alone-once (deed.Tick now short) p q r a b = a ∙ sym b
@@ -116,11 +117,11 @@ same-err r why other e f = let x : ◌≡◌ {A = Result Peering Refusal} (Err w
 some-none : {A X : Type 0} (o : Option X) (x : X) → o ≡ Some x → o ≡ None → A
 some-none o x e f = absurd (let y : ◌≡◌ {A = Option _} (Some x) None = sym e ∙ f in cc)
 
-same-submits : (q : codec.Packet) (a b : Result (Unit {0}) (Refusal × List ℕ)) (p r t : Peering) → is_wanting (deed.Submit q a) ≡ false → is_wanting (deed.Submit q b) ≡ false → Alone (deed.Submit q a) p r → Alone (deed.Submit q b) p t → a ≡ b
-same-submits q (Ok done) (Ok done') p r t n m x y = refl
-same-submits q (Ok done) (Err e) p r t n m x y = some-none _ e.0 (refuses-first e.0 _ m y.2) x.0
-same-submits q (Err e) (Ok done) p r t n m x y = some-none _ e.0 (refuses-first e.0 _ n x.2) y.0
-same-submits q (Err e) (Err f) p r t n m x y =
+same-submits : (q : codec.Packet) (l : Option SendLimit) (a b : Result (Unit {0}) (Refusal × List ℕ)) (p r t : Peering) → is_wanting (deed.Submit q l a) ≡ false → is_wanting (deed.Submit q l b) ≡ false → Alone (deed.Submit q l a) p r → Alone (deed.Submit q l b) p t → a ≡ b
+same-submits q l (Ok done) (Ok done') p r t n m x y = refl
+same-submits q l (Ok done) (Err e) p r t n m x y = some-none _ e.0 (refuses-first e.0 _ m y.2) x.0
+same-submits q l (Err e) (Ok done) p r t n m x y = some-none _ e.0 (refuses-first e.0 _ n x.2) y.0
+same-submits q l (Err e) (Err f) p r t n m x y =
     let why : e.0 ≡ f.0 = same-some e.0 f.0 (sym (refuses-first e.0 _ n x.2) ∙ refuses-first f.0 _ m y.2) in let body : e.1 ≡ f.1 = x.0 ∙ sym y.0 in λ i. Err (why i, body i)
 
 stop_in : Result (Unit {0}) Stop → Option Stop
@@ -177,8 +178,11 @@ same-sets (setting.Timeout limit minimum maximum) a b p r t n m x y = same-does 
 
 -- the answer to the same question
 same-deed : (d e : Deed) (p r t : Peering) → asked d ≡ asked e → is_wanting d ≡ false → is_wanting e ≡ false → Alone d p r → Alone e p t → d ≡ e
-same-deed (deed.Submit q a) (deed.Submit q' b) p r t is n m x y =
-    let s : q ≡ q' = cc in let same : a ≡ b = same-submits q a b p r t n m x (subst (λ (z : codec.Packet). Alone (deed.Submit z b) p t) (sym s) y) in λ i. deed.Submit (s i) (same i)
+same-deed (deed.Submit q l a) (deed.Submit q' l' b) p r t is n m x y =
+    let s : q ≡ q' = cc in
+    let k : l ≡ l' = cc in
+    let whole : ◌≡◌ {A = codec.Packet × Option SendLimit} (q, l) (q', l') = (λ i. (s i, k i)) in
+    let same : a ≡ b = same-submits q l a b p r t n m x (subst (λ (z : codec.Packet × Option SendLimit). Alone (deed.Submit z.0 z.1 b) p t) (sym whole) y) in λ i. deed.Submit (s i) (k i) (same i)
 same-deed (deed.Emit now a) (deed.Emit now' b) p r t is n m x y = let s : now ≡ now' = cc in let same : a ≡ b = x.0 ∙ ap (λ (z : ℕ). put_out p z) s ∙ sym y.0 in λ i. deed.Emit (s i) (same i)
 same-deed (deed.Come at message a) (deed.Come at' message' b) p r t is n m x y =
     let s : at ≡ at' = cc in
@@ -433,28 +437,45 @@ reaches-alike g h i s from bytes answer p q q' ds es low has e a alone b alone' 
     by true is = reaches-once i s (receipt h from bytes answer) ds es low (reaches-same g h i s from bytes answer ds e.0 full (e.1 is).1 a) b
     by false idle = passes-alike g h i s from bytes answer p q q' low e.0 full idle ds es a alone b alone'
 
--- a call falls alike
+-- what falls to a peer by a call leaves it alike
+
+once : (ds es : List Deed) (p q q' : Peering) → AllAlone ds p q → AllAlone es p q' → ds ≡ es → q ≡ q'
+once ds es p q q' alone alone' same = all-once ds p q q' alone (subst (λ (xs : List Deed). AllAlone xs p q') (sym same) alone')
+
+-- a submission with its answer does, whatever the limit was
+submitted-once : (packet : codec.Packet) (l l' : Option SendLimit) (answer : Result (Unit {0}) (Refusal × List ℕ)) (p q q' : Peering) → Alone (deed.Submit packet l answer) p q → Alone (deed.Submit packet l' answer) p q' → q ≡ q'
+submitted-once packet l l' (Ok done) p q q' a b = a.1 ∙ sym b.1
+submitted-once packet l l' (Err e) p q q' a b = a.1 ∙ sym b.1
+
+submitted-all : (does : Bool) (packet : codec.Packet) (l l' : Option SendLimit) (answer : Result (Unit {0}) (Refusal × List ℕ)) (p q q' : Peering) → AllAlone (deeds_if does (deed.Submit packet l answer)) p q
+    → AllAlone (deeds_if does (deed.Submit packet l' answer)) p q' → q ≡ q'
+submitted-all true packet l l' answer p q q' a b = sym a.2 ∙ submitted-once packet l l' answer p a.0 b.0 a.1 b.1 ∙ b.2
+submitted-all false packet l l' answer p q q' a b = sym a ∙ b
 
 fell-alike : (c : Call) (g h : Common) (i : ℕ) (s : SlotState) (p q q' : Peering) (ds es : List Deed) → IsCounted c → s.peer ≡ Some p → AgreeOnPeer c i p g h → Fell g (record { number = i; slot = s; peer = p }) c ds → AllAlone ds p q
-    → Fell h (record { number = i; slot = s; peer = p }) c es → AllAlone es p q' → ds ≡ es
-fell-alike (call.Receive from bytes answer) g h i s p q q' ds es low has e a alone b alone' = reaches-alike g h i s from bytes answer p q q' ds es low has e a alone b alone'
-fell-alike (call.Connect address channels info word answer) g h i s p q q' ds es low has e a alone b alone' = a ∙ sym b
-fell-alike (call.Submit name channel packet answer) g h i s p q q' ds es low has e a alone b alone' = a ∙ sym b
-fell-alike (call.Service answer buf) g h i s p q q' ds es low has e a alone b alone' = a ∙ asked-same g h i p answer buf e ∙ sym b
+    → Fell h (record { number = i; slot = s; peer = p }) c es → AllAlone es p q' → q ≡ q'
+fell-alike (call.Receive from bytes answer) g h i s p q q' ds es low has e a alone b alone' = once ds es p q q' alone alone' (reaches-alike g h i s from bytes answer p q q' ds es low has e a alone b alone')
+fell-alike (call.Connect address channels info word answer) g h i s p q q' ds es low has e a alone b alone' = once ds es p q q' alone alone' (a ∙ sym b)
+fell-alike (call.Submit name channel packet answer) g h i s p q q' ds es low has e a alone b alone' =
+    submitted-all (is_meant name i s) (record { channel = channel; flags = packet.flags; body = packet.body }) g.send_limit h.send_limit answer p q q'
+    (subst (λ (xs : List Deed). AllAlone xs p q) a alone) (subst (λ (xs : List Deed). AllAlone xs p q') b alone')
+fell-alike (call.Service answer buf) g h i s p q q' ds es low has e a alone b alone' = once ds es p q q' alone alone' (a ∙ asked-same g h i p answer buf e ∙ sym b)
 fell-alike (call.Tick ms) g h i s p q q' ds es low has e a alone b alone' =
     let now : ℕ = clock_after g.clock ms in
-    a ∙ ap (λ (xs : List Deed). deed.Tick now (g.short i) ∷ xs) (share-same g h now s.emitted (peers.moved (g.short i) p now) e.2)
+    once ds es p q q' alone alone'
+    (a ∙ ap (λ (xs : List Deed). deed.Tick now (g.short i) ∷ xs) (share-same g h now s.emitted (peers.moved (g.short i) p now) e.2)
     ∙ ap (λ (short : Bool). deed.Tick now short ∷ share_of h now s.emitted (peers.moved short p now)) e.1
     ∙ ap (λ (clock : ℕ). deed.Tick (clock_after clock ms) (h.short i) ∷ share_of h (clock_after clock ms) s.emitted (peers.moved (h.short i) p (clock_after clock ms))) e.0
-    ∙ sym b
-fell-alike (call.Disconnect mode name info answer) g h i s p q q' ds es low has e a alone b alone' = a ∙ sym b
-fell-alike (call.SetBandwidth incoming outgoing (Ok done)) g h i s p q q' ds es low has e a alone b alone' = a ∙ sym b
-fell-alike (call.SetBandwidth incoming outgoing (Err why)) g h i s p q q' ds es low has e a alone b alone' = a ∙ sym b
-fell-alike (call.ConfigureThrottle name interval acceleration deceleration answer) g h i s p q q' ds es low has e a alone b alone' = a ∙ sym b
-fell-alike (call.SetPingInterval name ms answer) g h i s p q q' ds es low has e a alone b alone' = a ∙ sym b
-fell-alike (call.SetTimeout name limit minimum maximum answer) g h i s p q q' ds es low has e a alone b alone' = a ∙ sym b
-fell-alike (call.NextEvent answer) g h i s p q q' ds es low has e a alone b alone' = a ∙ taken-same g h i p answer e ∙ sym b
-fell-alike (call.Admit what answer) g h i s p q q' ds es low has e a alone b alone' = a ∙ sym b
+    ∙ sym b)
+fell-alike (call.Disconnect mode name info answer) g h i s p q q' ds es low has e a alone b alone' = once ds es p q q' alone alone' (a ∙ sym b)
+fell-alike (call.SetBandwidth incoming outgoing (Ok done)) g h i s p q q' ds es low has e a alone b alone' = once ds es p q q' alone alone' (a ∙ sym b)
+fell-alike (call.SetBandwidth incoming outgoing (Err why)) g h i s p q q' ds es low has e a alone b alone' = once ds es p q q' alone alone' (a ∙ sym b)
+fell-alike (call.ConfigureThrottle name interval acceleration deceleration answer) g h i s p q q' ds es low has e a alone b alone' = once ds es p q q' alone alone' (a ∙ sym b)
+fell-alike (call.SetPingInterval name ms answer) g h i s p q q' ds es low has e a alone b alone' = once ds es p q q' alone alone' (a ∙ sym b)
+fell-alike (call.SetTimeout name limit minimum maximum answer) g h i s p q q' ds es low has e a alone b alone' = once ds es p q q' alone alone' (a ∙ sym b)
+fell-alike (call.NextEvent answer) g h i s p q q' ds es low has e a alone b alone' = once ds es p q q' alone alone' (a ∙ taken-same g h i p answer e ∙ sym b)
+fell-alike (call.Admit what answer) g h i s p q q' ds es low has e a alone b alone' = once ds es p q q' alone alone' (a ∙ sym b)
+fell-alike (call.SetSendLimit bytes commands) g h i s p q q' ds es low has e a alone b alone' = once ds es p q q' alone alone' (a ∙ sym b)
 
 -- a stranger's datagram does something to a peer only if that gives way
 gives-way : (i : ℕ) (s : SlotState) (r : Receipt) (header : Header) (commands : List ℕ) (p q : Peering) → IsRead r.bytes header commands → header.peer ≡ no_peer
@@ -517,7 +538,7 @@ peers-agree c g h i s p agree has = subst (λ (o : Option Peering). Agree c i o 
 stays-so : (c : Call) (g h : Common) (i : ℕ) (s u : SlotState) (p q : Peering) (ds : List Deed) → IsCounted c → IsHeld s → s.peer ≡ Some p → AgreeOnPeer c i p g h → Stays c g i s p → Fell h (record { number = i; slot = s; peer = p }) c ds
     → AllAlone ds p q → u ≡ having_emitted (with_peer s q) (counted c h i s) → u ≡ having_emitted s (counted c h i s)
 stays-so c g h i s u p q ds low live has agree stays fell alone e =
-    let same : q ≡ p = all-once ds p q p alone (subst (λ (xs : List Deed). AllAlone xs p p) (fell-alike c g h i s p p q stays.deeds ds low has agree stays.fell stays.alone fell alone) stays.alone) in
+    let same : q ≡ p = sym (fell-alike c g h i s p p q stays.deeds ds low has agree stays.fell stays.alone fell alone) in
     e ∙ ap (λ (x : Peering). having_emitted (with_peer s x) (counted c h i s)) same
     ∙ ap (λ (x : SlotState). having_emitted x (counted c h i s)) (held s p (live p has) ∙ ap (λ (o : Option Peering). record s { peer = o }) (sym has))
 
@@ -531,9 +552,7 @@ same-after : (c : Call) (g h : Common) (i : ℕ) (s : SlotState) (p r q q' : Pee
 same-after c g h i s p r q q' ds es low agree has has' fell alone fell' alone' =
     let same : r ≡ p = same-some r p (sym has' ∙ has) in
     let its : AllAlone es p q' = subst (λ (x : Peering). AllAlone es x q') same alone' in
-    let deeds : ds ≡ es =
-    fell-alike c g h i s p q q' ds es low has (peers-agree c g h i s p agree has) fell alone (subst (λ (x : Peering). Fell h (record { number = i; slot = s; peer = x }) c es) same fell') its in
-    all-once ds p q q' alone (subst (λ (xs : List Deed). AllAlone xs p q') (sym deeds) its)
+    fell-alike c g h i s p q q' ds es low has (peers-agree c g h i s p agree has) fell alone (subst (λ (x : Peering). Fell h (record { number = i; slot = s; peer = x }) c es) same fell') its
 
 -- one that is free then did something
 did-some : (s : SlotState) (p q : Peering) (ds : List Deed) → IsHeld s → s.peer ≡ Some p → AllAlone ds p q → q.state ≡ state.Free → ds ≡ [] → ⊥
@@ -543,7 +562,7 @@ did-some s p q ds live has alone gone e = live p has (ap (λ (x : Peering). x.st
 not-stays : {A : Type 0} (c : Call) (g h : Common) (i : ℕ) (s : SlotState) (p q : Peering) (ds : List Deed) → IsCounted c → IsHeld s → s.peer ≡ Some p → AgreeOnPeer c i p g h → Stays c g i s p → Fell h (record { number = i; slot = s; peer = p }) c ds
     → AllAlone ds p q → q.state ≡ state.Free → A
 not-stays c g h i s p q ds low live has agree stays fell alone gone =
-    let same : q ≡ p = all-once ds p q p alone (subst (λ (xs : List Deed). AllAlone xs p p) (fell-alike c g h i s p p q stays.deeds ds low has agree stays.fell stays.alone fell alone) stays.alone) in
+    let same : q ≡ p = sym (fell-alike c g h i s p p q stays.deeds ds low has agree stays.fell stays.alone fell alone) in
     absurd (live p has (ap (λ (x : Peering). x.state) (sym same) ∙ gone))
 
 -- where a connection begins in the slot that a peer left, it does in both hosts

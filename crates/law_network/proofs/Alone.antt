@@ -55,6 +55,7 @@ refuses w (happen.Deliver side k) why r = refl
 refuses w (happen.Turn side) why r = refl
 refuses w (happen.Tick side ms) why r = refl
 refuses w (happen.Take side) why r = refl
+refuses w (happen.SetSendLimit side bytes commands) why r = refl
 
 refused-at : (side at : Side) (calls : List Call) (old new : World) → Steps calls (site_of old at).host (site_of old at).host → new ≡ old → Steps (at_side side at calls) (site_of old side).host (site_of new side).host
 refused-at A A calls old new h same = steps-same calls old.a.host new.a.host (ap (λ (w : World). w.a.host) same) h

@@ -37,11 +37,19 @@ record WentOn (s t : SlotState) (q : Peering) : Type 0 where
   peer : t.peer ≡ Some q
   incoming : t.incoming_session ≡ s.incoming_session
   outgoing : t.outgoing_session ≡ s.outgoing_session
+  ending : t.ending ≡ s.ending
 
 went-on : (s t : SlotState) (q : Peering) (n : ℕ) → q.state ≢ state.Free → t ≡ having_emitted (with_peer s q) n → WentOn s t q
 went-on s t q n live e =
     let f : t ≡ having_emitted (record s { peer = Some q }) n = e ∙ ap (λ (x : SlotState). having_emitted x n) (held s q live) in
-    record { live = live; generation = ap (λ (x : SlotState). x.generation) f; peer = ap (λ (x : SlotState). x.peer) f; incoming = ap (λ (x : SlotState). x.incoming_session) f; outgoing = ap (λ (x : SlotState). x.outgoing_session) f }
+    record {
+      live = live;
+      generation = ap (λ (x : SlotState). x.generation) f;
+      peer = ap (λ (x : SlotState). x.peer) f;
+      incoming = ap (λ (x : SlotState). x.incoming_session) f;
+      outgoing = ap (λ (x : SlotState). x.outgoing_session) f;
+      ending = ap (λ (x : SlotState). x.ending) f;
+    }
 
 -- and of one that is gone
 record WentOut (s t : SlotState) (q : Peering) : Type 0 where
@@ -50,11 +58,19 @@ record WentOut (s t : SlotState) (q : Peering) : Type 0 where
   peer : t.peer ≡ None
   incoming : t.incoming_session ≡ q.terms.incoming_session
   outgoing : t.outgoing_session ≡ q.terms.outgoing_session
+  ending : t.ending ≡ q.ending
 
 went-out : (s t : SlotState) (q : Peering) (n : ℕ) → q.state ≡ state.Free → t ≡ having_emitted (with_peer s q) n → WentOut s t q
 went-out s t q n free e =
     let f : t ≡ having_emitted (vacated s q) n = e ∙ ap (λ (x : SlotState). having_emitted x n) (freed-in s q free) in
-    record { free = free; generation = ap (λ (x : SlotState). x.generation) f; peer = ap (λ (x : SlotState). x.peer) f; incoming = ap (λ (x : SlotState). x.incoming_session) f; outgoing = ap (λ (x : SlotState). x.outgoing_session) f }
+    record {
+      free = free;
+      generation = ap (λ (x : SlotState). x.generation) f;
+      peer = ap (λ (x : SlotState). x.peer) f;
+      incoming = ap (λ (x : SlotState). x.incoming_session) f;
+      outgoing = ap (λ (x : SlotState). x.outgoing_session) f;
+      ending = ap (λ (x : SlotState). x.ending) f;
+    }
 
 went : (s t : SlotState) (q : Peering) (n : ℕ) → t ≡ having_emitted (with_peer s q) n → WentOn s t q ⊎ WentOut s t q
 went s t q n e = by (free-or q.state)
@@ -161,10 +177,10 @@ lived-before c cs old new steps name q life = by life.began
         lived-since c cs old new steps name s.0 s.1 life.first q life.deeds x s.2 was.1 life.alone
     by (inr began) = record { first = life.first; deeds = life.deeds; began = inr (inr began); alone = life.alone }
 
--- a slot has the sessions that it had, or those of a peer that ended since
+-- a slot has the sessions and the ending that it had, or those of a peer that ended since
 abbrev HasSessions : ℕ → (cs : List Call) (old new : Host) → Steps cs old new → SlotState → SlotState → Type 0
 HasSessions i cs old new steps s t =
-    ((t.generation ≡ s.generation) × (t.incoming_session ≡ s.incoming_session) × (t.outgoing_session ≡ s.outgoing_session)) ⊎ IsAfter i cs (record { before = old; after = new; steps = steps }) t
+    ((t.generation ≡ s.generation) × (t.incoming_session ≡ s.incoming_session) × (t.outgoing_session ≡ s.outgoing_session) × (t.ending ≡ s.ending)) ⊎ IsAfter i cs (record { before = old; after = new; steps = steps }) t
 
 after-before : (c : Call) (cs : List Call) (old new : Host) (steps : Steps (c ∷ cs) old new) (i : ℕ) (t : SlotState) → IsAfter i cs (record { before = steps.0; after = new; steps = steps.2 }) t → IsAfter i (c ∷ cs) (record { before = old; after = new; steps = steps }) t
 after-before c cs old new steps i t k = record {
@@ -175,18 +191,19 @@ after-before c cs old new steps i t k = record {
   ended = k.ended;
   incoming = k.incoming;
   outgoing = k.outgoing;
+  ending = k.ending;
 }
 
-begun-sessions : (c : Call) (h : Host) (i : ℕ) (s t : SlotState) → Begins c (common_of h) i s t → (t.incoming_session ≡ s.incoming_session) × (t.outgoing_session ≡ s.outgoing_session)
-begun-sessions c h i s t (asks address channels info word is some at) = (refl, refl)
-begun-sessions c h i s t (answers from bytes commands header o is read stranger offer taken new at) = (refl, refl)
+begun-sessions : (c : Call) (h : Host) (i : ℕ) (s t : SlotState) → Begins c (common_of h) i s t → (t.incoming_session ≡ s.incoming_session) × (t.outgoing_session ≡ s.outgoing_session) × (t.ending ≡ s.ending)
+begun-sessions c h i s t (asks address channels info word is some at) = (refl, refl, refl)
+begun-sessions c h i s t (answers from bytes commands header o is read stranger offer taken new at) = (refl, refl, refl)
 
 -- by one call and those after it, `m` being the slot between
 sessions-since : (c : Call) (cs : List Call) (old new : Host) (steps : Steps (c ∷ cs) old new) (i : ℕ) (s m t : SlotState) → IsSound old → slice_get old.slots i ≡ Some s → slice_get steps.0.slots i ≡ Some m → Fares c (common_of old) i s m
-    → t.generation ≡ m.generation → t.incoming_session ≡ m.incoming_session → t.outgoing_session ≡ m.outgoing_session → HasSessions i (c ∷ cs) old new steps s t
-sessions-since c cs old new steps i s m t sound there mid (untouched stays not' e) g a b =
-    inl (g ∙ ap (λ (y : SlotState). y.generation) e, a ∙ ap (λ (y : SlotState). y.incoming_session) e, b ∙ ap (λ (y : SlotState). y.outgoing_session) e)
-sessions-since c cs old new steps i s m t sound there mid (goes_on p q ds was fell alone none e) g a b = by (went s m q (counted c (common_of old) i s) e)
+    → t.generation ≡ m.generation → t.incoming_session ≡ m.incoming_session → t.outgoing_session ≡ m.outgoing_session → t.ending ≡ m.ending → HasSessions i (c ∷ cs) old new steps s t
+sessions-since c cs old new steps i s m t sound there mid (untouched stays not' e) g a b z =
+    inl (g ∙ ap (λ (y : SlotState). y.generation) e, a ∙ ap (λ (y : SlotState). y.incoming_session) e, b ∙ ap (λ (y : SlotState). y.outgoing_session) e, z ∙ ap (λ (y : SlotState). y.ending) e)
+sessions-since c cs old new steps i s m t sound there mid (goes_on p q ds was fell alone none e) g a b z = by (went s m q (counted c (common_of old) i s) e)
   where
     name : PeerRef
     name = name_of i s
@@ -195,7 +212,7 @@ sessions-since c cs old new steps i s m t sound there mid (goes_on p q ds was fe
     few = let k : steps.0.config.generations ≡ old.config.generations = same-generations c old steps.0 steps.1 in let l : old.config.generations ≤ greatest = sound.keeps.generations in omega arith
 
     by : WentOn s m q ⊎ WentOut s m q → HasSessions i (c ∷ cs) old new steps s t
-    by (inl on) = inl (g ∙ on.generation, a ∙ on.incoming, b ∙ on.outgoing)
+    by (inl on) = inl (g ∙ on.generation, a ∙ on.incoming, b ∙ on.outgoing, z ∙ on.ending)
     by (inr out) = inr (record {
       generation = s.generation;
       next =
@@ -210,9 +227,10 @@ sessions-since c cs old new steps i s m t sound there mid (goes_on p q ds was fe
       ended = out.free;
       incoming = a ∙ out.incoming;
       outgoing = b ∙ out.outgoing;
+      ending = z ∙ out.ending;
     })
-sessions-since c cs old new steps i s m t sound there mid (takes_over p q ds was fell alone gone left b) g a o =
-    let k : (m.incoming_session ≡ (with_peer s q).incoming_session) × (m.outgoing_session ≡ (with_peer s q).outgoing_session) = begun-sessions c old i (with_peer s q) m b in
+sessions-since c cs old new steps i s m t sound there mid (takes_over p q ds was fell alone gone left b) g a o z =
+    let k : (m.incoming_session ≡ (with_peer s q).incoming_session) × (m.outgoing_session ≡ (with_peer s q).outgoing_session) × (m.ending ≡ (with_peer s q).ending) = begun-sessions c old i (with_peer s q) m b in
     let few : old.config.generations ≤ greatest = sound.keeps.generations in
     let low : steps.0.config.generations ≤ greatest = (let n : steps.0.config.generations ≡ old.config.generations = same-generations c old steps.0 steps.1 in omega arith) in
     inr (record {
@@ -225,20 +243,21 @@ sessions-since c cs old new steps i s m t sound there mid (takes_over p q ds was
       ended = gone;
       incoming = a ∙ k.0 ∙ ap (λ (y : SlotState). y.incoming_session) (freed-in s q gone);
       outgoing = o ∙ k.1 ∙ ap (λ (y : SlotState). y.outgoing_session) (freed-in s q gone);
+      ending = z ∙ k.2 ∙ ap (λ (y : SlotState). y.ending) (freed-in s q gone);
     })
-sessions-since c cs old new steps i s m t sound there mid (begins none left b) g a o =
-    let k : (m.incoming_session ≡ s.incoming_session) × (m.outgoing_session ≡ s.outgoing_session) = begun-sessions c old i s m b in
-    inl (g ∙ begun-generation c old i s m b, a ∙ k.0, o ∙ k.1)
+sessions-since c cs old new steps i s m t sound there mid (begins none left b) g a o z =
+    let k : (m.incoming_session ≡ s.incoming_session) × (m.outgoing_session ≡ s.outgoing_session) × (m.ending ≡ s.ending) = begun-sessions c old i s m b in
+    inl (g ∙ begun-generation c old i s m b, a ∙ k.0, o ∙ k.1, z ∙ k.2)
 
 sessions-all : (cs : List Call) (old new : Host) (steps : Steps cs old new) → IsSound old → (i : ℕ) (t : SlotState) → slice_get new.slots i ≡ Some t → (s : SlotState) × (slice_get old.slots i ≡ Some s) × HasSessions i cs old new steps s t
-sessions-all [] old new steps sound i t there = (t, ap (λ (h : Host). slice_get h.slots i) steps ∙ there, inl (refl, refl, refl))
+sessions-all [] old new steps sound i t there = (t, ap (λ (h : Host). slice_get h.slots i) steps ∙ there, inl (refl, refl, refl, refl))
 sessions-all (c ∷ cs) old new steps sound i t there =
     let m : (m : SlotState) × (slice_get steps.0.slots i ≡ Some m) × HasSessions i cs steps.0 new steps.2 m t = sessions-all cs steps.0 new steps.2 (sound-goes c old steps.0 steps.1 sound) i t there in
     let s : (s : SlotState) × (slice_get old.slots i ≡ Some s) × Fares c (common_of old) i s m.0 = fares-back c old steps.0 steps.1 i m.0 m.1 in (
       s.0,
       s.1,
       elim m.2 [
-        | inl k ↦ sessions-since c cs old new steps i s.0 m.0 t sound s.1 m.1 s.2 k.0 k.1 k.2
+        | inl k ↦ sessions-since c cs old new steps i s.0 m.0 t sound s.1 m.1 s.2 k.0 k.1 k.2 k.3
         | inr k ↦ inr (after-before c cs old new steps i t k)
       ],
     )
@@ -256,7 +275,7 @@ beginning old sound first = record {
       let s : (s : SlotState) × (slice_get old.slots i ≡ Some s) × HasSessions i cs old new steps s t = sessions-all cs old new steps sound i t there in
       let f : IsFirst s.0 = first i s.0 s.1 in
       elim s.2 [
-        | inl k ↦ inl (record { generation = k.0 ∙ f.generation; incoming = k.1 ∙ f.incoming; outgoing = k.2 ∙ f.outgoing })
+        | inl k ↦ inl (record { generation = k.0 ∙ f.generation; incoming = k.1 ∙ f.incoming; outgoing = k.2 ∙ f.outgoing; ending = k.3 ∙ f.ending })
         | inr k ↦ inr k
       ];
 }
@@ -272,7 +291,7 @@ one-there (suc n) zero t s there = let same : t ≡ s = cc in inl (refl, sym sam
 one-there (suc n) (suc i) t s there = inr (none-there n i s there)
 
 first-of : (s : SlotState) → s ≡ unused_slot → IsFirst s
-first-of s e = subst IsFirst (sym e) (record { generation = refl; incoming = refl; outgoing = refl })
+first-of s e = subst IsFirst (sym e) (record { generation = refl; incoming = refl; outgoing = refl; ending = refl })
 
 begins-opened : (c : Config) → is_in_range c ≡ true → IsBeginning (opening.opened c)
 begins-opened c h =
@@ -297,7 +316,7 @@ begins-joined c address h =
     })
     (λ i s there.
     elim (one-there c.peers i (joined_slot c address) s there) [
-      | inl at ↦ subst IsFirst (sym at.1) (record { generation = refl; incoming = refl; outgoing = refl })
+      | inl at ↦ subst IsFirst (sym at.1) (record { generation = refl; incoming = refl; outgoing = refl; ending = refl })
       | inr none ↦ first-of s none
     ])
 

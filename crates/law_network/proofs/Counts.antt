@@ -12,7 +12,7 @@ use Rattle.enet_peer.specs.Peering.{Peering}
 use Rattle.enet_peer.specs.Calls as peers
 use Rattle.enet_slot.specs.Yielding.{readied}
 use Rattle.enet_slot.specs.Slot.{SlotState, with_peer, changed}
-use Rattle.enet_slot.specs.Calls.{DoesWithMemory, submission, leaving, throttling, pinging, waiting, Does as DoesCall}
+use Rattle.enet_slot.specs.Calls.{DoesWithMemory, submission, unless_full, leaving, throttling, pinging, waiting, Does as DoesCall}
 use Rattle.enet_slot.specs.Giving.{asking, answering}
 use Rattle.enet_slot.specs.Sharing.{is_standing, shared}
 use Rattle.enet_host.specs.Crediting.{is_short_at}
@@ -73,7 +73,7 @@ count-ticked h ms =
 
 pub same-count : (c : Call) (old new : Host) → Acts c old new → length new.slots ≡ length old.slots
 same-count (call.Connect address channels info word answer) old new acts = count-connects old address channels info word answer old.slots new.slots acts.0
-same-count (call.Submit name channel q (Ok done)) old new acts = count-named old.slots name (submission channel q) new.slots acts.0
+same-count (call.Submit name channel q (Ok done)) old new acts = count-named old.slots name (unless_full old.send_limit (submission channel q)) new.slots acts.0
 same-count (call.Submit name channel q (Err e)) old new acts = ap length acts.0.2
 same-count (call.Receive from bytes answer) old new acts = count-arrives old from bytes answer old.slots new.slots acts.arrives
 same-count (call.Service None buf) old new acts = (let a = acts.0 in a.count)
@@ -89,6 +89,7 @@ same-count (call.NextEvent None) old new acts = ap (λ (h : Host). length h.slot
 same-count (call.NextEvent (Some event)) old new acts = ap (λ (h : Host). length h.slots) acts.rest ∙ length-set old.slots acts.from acts.after
 same-count (call.Admit what (Ok done)) old new acts = ap (λ (h : Host). length h.slots) acts.1
 same-count (call.Admit what (Err why)) old new acts = ap (λ (h : Host). length h.slots) acts.2
+same-count (call.SetSendLimit bytes commands) old new acts = ap (λ (h : Host). length h.slots) acts
 
 -- how a slot that is there fared
 pub fares-back : (c : Call) (old new : Host) → Acts c old new → (i : ℕ) (t : SlotState) → slice_get new.slots i ≡ Some t → (s : SlotState) × (slice_get old.slots i ≡ Some s) × Fares c (common_of old) i s t

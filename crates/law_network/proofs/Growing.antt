@@ -84,6 +84,7 @@ calls-grow w from old new (call.SetPingInterval name ms answer) x = called w.cou
 calls-grow w from old new (call.SetTimeout name limit minimum maximum answer) x = called w.count (call.SetTimeout name limit minimum maximum answer) old new x refl
 calls-grow w from old new (call.NextEvent None) x = called w.count (call.NextEvent None) old new x refl
 calls-grow w from old new (call.Admit what answer) x = called w.count (call.Admit what answer) old new x refl
+calls-grow w from old new (call.SetSendLimit bytes commands) x = called w.count (call.SetSendLimit bytes commands) old new x refl
 calls-grow w from old new (call.NextEvent (Some event)) x =
     let a : TakesOne old.host event new.host = x.0 in
     let name : PeerRef = name_of a.from a.first.slot in

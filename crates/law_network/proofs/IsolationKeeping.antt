@@ -9,7 +9,7 @@ use Rattle.enet_slot.specs.Slot.{greatest}
 use Rattle.enet_host.specs.Host.{Host, HoldsNoFree}
 use Rattle.enet_host.specs.Opening.{host_basis}
 use Rattle.enet_host.specs.Serving.{served_of}
-use Rattle.enet_slot.specs.Calls.{submission, leaving, throttling, pinging, waiting}
+use Rattle.enet_slot.specs.Calls.{submission, unless_full, leaving, throttling, pinging, waiting}
 use Rattle.enet_host.proofs.Holding.{unused-held, joined-held, connects-held, submits-held, arrives-held, served-held, passed-held, ticked-held, does-held, does-with-memory-held, changed-held, event-held}
 use Rattle.law_network.specs.Calls.{Call, Acts}
 use Rattle.law_network.specs.Calls as call
@@ -18,7 +18,7 @@ use Rattle.law_network.proofs.Names.{same-generations}
 
 held-call : (c : Call) (old new : Host) → Acts c old new → HoldsNoFree old.slots → HoldsNoFree new.slots
 held-call (call.Connect address channels info word answer) old new acts h = connects-held (host_basis old) old.slots new.slots (record { address = address; channels = channels; info = info; word = word }) answer h acts.0
-held-call (call.Submit name channel q answer) old new acts h = submits-held old.slots new.slots name q (submission channel q) answer h acts.0
+held-call (call.Submit name channel q answer) old new acts h = submits-held old.slots new.slots name q (unless_full old.send_limit (submission channel q)) answer h acts.0
 held-call (call.Receive from bytes answer) old new acts h = arrives-held (host_basis old) old.slots new.slots from bytes answer h acts.arrives
 held-call (call.Service None buf) old new acts h = passed-held old.clock old.slots new.slots h acts.0
 held-call (call.Service (Some gave) buf) old new acts h = served-held old.clock old.service_from old.slots new.slots (served_of gave buf) h acts.0
@@ -33,6 +33,7 @@ held-call (call.NextEvent None) old new acts h = subst (λ (x : Host). HoldsNoFr
 held-call (call.NextEvent (Some event)) old new acts h = subst (λ (x : Host). HoldsNoFree x.slots) (sym acts.rest) (event-held old.slots acts.from event acts.first.slot acts.after h acts.gives)
 held-call (call.Admit what (Ok done)) old new acts h = subst (λ (x : Host). HoldsNoFree x.slots) (sym acts.1) h
 held-call (call.Admit what (Err why)) old new acts h = subst (λ (x : Host). HoldsNoFree x.slots) (sym acts.2) h
+held-call (call.SetSendLimit bytes commands) old new acts h = subst (λ (x : Host). HoldsNoFree x.slots) (sym acts) h
 
 -- the number of generations is in its range
 few-generations : (c : Config) → is_in_range c ≡ true → c.generations ≤ greatest

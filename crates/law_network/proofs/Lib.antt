@@ -45,3 +45,4 @@ pub mod Own
 pub mod Matching
 pub mod IsolationKeeping
 pub mod Telling
+pub mod Accepting

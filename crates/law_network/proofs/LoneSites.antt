@@ -74,13 +74,13 @@ pub record Lone : Type 0 where
   pub events : List Event
 
 abbrev pub slot_of : Side → Lone → SlotState
-slot_of side x = record { generation = 0; address = address_of (other side); incoming_session = 0xFF; outgoing_session = 0xFF; emitted = x.emitted; peer = Some x.peer }
+slot_of side x = record { generation = 0; address = address_of (other side); incoming_session = 0xFF; outgoing_session = 0xFF; emitted = x.emitted; ending = None; peer = Some x.peer }
 
 abbrev pub end_of : Lone → HostEnd
 end_of x = record { connection = 0; name = first_name; mtu = x.mtu; greatest = x.numbers; channels = x.channels; events = x.events }
 
 abbrev pub host_with : Totals → Credit → SlotState → Host
-host_with t c s = record { config = example_config; clock = 0; shared_at = 0; service_from = 0; event_from = 0; totals = t; slots = s ∷ []; credits = c ∷ [] }
+host_with t c s = record { config = example_config; clock = 0; shared_at = 0; service_from = 0; event_from = 0; totals = t; slots = s ∷ []; credits = c ∷ []; send_limit = None }
 
 abbrev pub site : Side → Lone → Site
 site side x = record { address = address_of side; host = host_with x.totals x.credit (slot_of side x); log = x.log; ends = end_of x ∷ [] }

@@ -15,6 +15,7 @@ use Rattle.enet_peer.specs.Refusing.{confirms, heeded, turned_away}
 use Rattle.law_network.specs.Deeds.{Deed, Alone, Sets}
 use Rattle.law_network.specs.Deeds as deed
 use Rattle.law_network.specs.Ends.{Brings, Matches, is_heeded, takes_effect, event_of, end_after}
+use Rattle.law_network.proofs.Accepting.{accepted}
 use Rattle.law_network.proofs.Stopping.{Keeps, keeps-obeyed}
 
 some : (p q : Peering) → p ≡ q → ◌≡◌ {A = Option Peering} (Some q) (Some p)
@@ -72,8 +73,8 @@ keeps-heeded full p now sent m = by (full && confirms p m)
 
 matches-done : (own other : End) (d : Deed) (old new : Peering) (put : Put) → own.peer ≡ Some old → Alone d old new → takes_effect d ≡ true → Brings own other d put
     → Happens own other (event_of d put) (end_after own other d old new) × ((end_after own other d old new).peer ≡ Some new)
-matches-done own other (deed.Submit q (Ok done)) old new put e alone effect brings = ((old, e, alone.0, refl), some new _ alone.1)
-matches-done own other (deed.Submit q (Err why)) old new put e alone effect brings = absurd (cc)
+matches-done own other (deed.Submit q limit (Ok done)) old new put e alone effect brings = ((old, e, accepted limit old q.channel (record { flags = q.flags; body = q.body }) alone.0, refl), some new _ alone.1)
+matches-done own other (deed.Submit q limit (Err why)) old new put e alone effect brings = absurd (cc)
 matches-done own other (deed.Emit now given) old new put e alone effect brings = ((old, e, refl), some new _ alone.1)
 matches-done own other (deed.Come a m answer) old new put e alone effect brings = (
   (
@@ -98,8 +99,8 @@ matches-done own other deed.GiveWay old new put e alone effect brings = ((old, e
 matches-done own other deed.TellAgain old new put e alone effect brings = ((old, e, alone.0, ap (λ (x : Peering). with_peer own x) alone.1), refl)
 
 matches-refused : (d : Deed) (old new : Peering) → Alone d old new → takes_effect d ≡ false → new ≡ old
-matches-refused (deed.Submit q (Ok done)) old new alone none = absurd (cc)
-matches-refused (deed.Submit q (Err e)) old new alone none = alone.1
+matches-refused (deed.Submit q limit (Ok done)) old new alone none = absurd (cc)
+matches-refused (deed.Submit q limit (Err e)) old new alone none = alone.1
 matches-refused (deed.Emit now given) old new alone none = absurd (cc)
 matches-refused (deed.Come a m answer) old new alone none = stopped answer (wants_memory old a.now a.sent m) (heeded a.full old a.now a.sent m) old new (keeps-heeded a.full old a.now a.sent m) none alone
 matches-refused (deed.Tick now short) old new alone none = absurd (cc)

@@ -85,6 +85,7 @@ same-generations (call.NextEvent None) old new acts = ap (λ (h : Host). h.confi
 same-generations (call.NextEvent (Some event)) old new acts = ap (λ (h : Host). h.config.generations) acts.rest
 same-generations (call.Admit what (Ok done)) old new acts = ap (λ (h : Host). h.config.generations) acts.1 ∙ admitted-generations old.config what
 same-generations (call.Admit what (Err why)) old new acts = ap (λ (h : Host). h.config.generations) acts.2
+same-generations (call.SetSendLimit bytes commands) old new acts = ap (λ (h : Host). h.config.generations) acts
 
 none-some : {X : Type 0} (o : Option X) (x : X) → o ≡ None → o ≡ Some x → ⊥
 none-some o x e f = let y : ◌≡◌ {A = Option _} None (Some x) = sym e ∙ f in absurd (cc)

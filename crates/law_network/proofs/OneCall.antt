@@ -1,15 +1,17 @@
 -- Each call, slot by slot.
-use Rattle.std.proofs.Common.{◌≡◌, ℕ, List, length, refl, sym, ap, subst, ◌∙◌, Option, Some, None, Result, Ok, Err}
+use Rattle.std.proofs.Common.{◌≡◌, ℕ, Bool, true, false, cond, List, length, refl, sym, ap, subst, ◌∙◌, Option, Some, None, Result, Ok, Err}
 use Rattle.enet_codec.specs.declared.event.DisconnectMode.{DisconnectMode}
 use Rattle.enet_codec.specs.declared.event.DisconnectMode.TheVariants as mode
 use Rattle.enet_codec.specs.declared.refusal.Refusal.{Refusal}
 use Rattle.enet_codec.specs.declared.refusal.Refusal.TheVariants as refusal
 use Rattle.enet_sender.specs.CommandChoice.{Packet}
+use Rattle.enet_outbox.specs.declared.parts.SendLimit.{SendLimit}
+use Rattle.enet_outbox.specs.Outstanding.{is_full}
 use Rattle.enet_peer.specs.Peering.{Peering}
 use Rattle.enet_peer.specs.Calls.{Refuses, submission_refusal, submitted, left}
 use Rattle.enet_peer.specs.Calls as peers
 use Rattle.enet_host.specs.Host.{Host, peer_in}
-use Rattle.enet_slot.specs.Calls.{IsRefusedBy, submission, submitted_unless, leaving, left_by, or_not_connected, throttling, pinging, waiting}
+use Rattle.enet_slot.specs.Calls.{IsRefusedBy, submission, submitted_unless, or_full, or_else_full, unless_full, leaving, left_by, or_not_connected, throttling, pinging, waiting}
 use Rattle.enet_slot.specs.Sharing.{wants_room_in}
 use Rattle.law_connection.specs.Steps.{leave_by}
 use Rattle.law_connection.specs.Steps as setting
@@ -29,21 +31,31 @@ ok-same a b e = cc
 
 -- what a call on a peer answers, as its own relation has it
 
-abbrev submitting : ℕ → Packet → Result (Unit {0}) (Refusal × List ℕ) → Deed
-submitting channel q answer = Submit (record { channel = channel; flags = q.flags; body = q.body }) answer
+abbrev submitting : Option SendLimit → ℕ → Packet → Result (Unit {0}) (Refusal × List ℕ) → Deed
+submitting limit channel q answer = Submit (record { channel = channel; flags = q.flags; body = q.body }) limit answer
 
-alone-submission : (channel : ℕ) (q : Packet) (p r : Peering) → submission channel q p ≡ Ok r → Alone (submitting channel q (Ok tt)) p r
-alone-submission channel q p r e = by (submission_refusal p channel (length q.body)) refl e
-  where
-    by : (o : Option Refusal) → submission_refusal p channel (length q.body) ≡ o → submitted_unless p channel q o ≡ Ok r → Alone (submitting channel q (Ok tt)) p r
-    by None none e = (none, ok-same (submitted p channel q) r e)
-    by (Some why) some e = absurd (cc)
+-- a submission that these refuse, if there is one, where the peer may be full
+abbrev outcome : Peering → ℕ → Packet → Bool → Option Refusal → Result Peering Refusal
+outcome p channel q full o = cond full (or_full (submitted_unless p channel q o)) (submitted_unless p channel q o)
 
-refuses : (channel : ℕ) (q : Packet) (p : Peering) (o : Option Refusal) (why : Refusal) → IsRefusedBy why (submitted_unless p channel q o) → Refuses why o
-refuses channel q p None refusal.Memory e = refl
-refuses channel q p None why e = absurd (cc)
-refuses channel q p (Some first) refusal.Memory e = absurd (cc)
-refuses channel q p (Some first) why e = let same : ◌≡◌ {A = Result Peering Refusal} (Err first) (Err why) = e in cc
+accepts : (p r : Peering) (channel : ℕ) (q : Packet) (full : Bool) (o : Option Refusal) → outcome p channel q full o ≡ Ok r → (or_else_full full o ≡ None) × (r ≡ submitted p channel q)
+accepts p r channel q true None e = absurd (cc)
+accepts p r channel q false None e = (refl, ok-same (submitted p channel q) r e)
+accepts p r channel q true (Some why) e = absurd (cc)
+accepts p r channel q false (Some why) e = absurd (cc)
+
+alone-submission : (limit : Option SendLimit) (channel : ℕ) (q : Packet) (p r : Peering) → unless_full limit (submission channel q) p ≡ Ok r → Alone (submitting limit channel q (Ok tt)) p r
+alone-submission limit channel q p r e = accepts p r channel q (is_full limit p.outbox) (submission_refusal p channel (length q.body)) e
+
+refuses : (channel : ℕ) (q : Packet) (p : Peering) (full : Bool) (o : Option Refusal) (why : Refusal) → IsRefusedBy why (outcome p channel q full o) → Refuses why (or_else_full full o)
+refuses channel q p false None refusal.Memory e = refl
+refuses channel q p false None why e = absurd (cc)
+refuses channel q p true None refusal.Memory e = absurd (cc)
+refuses channel q p true None why e = let same : ◌≡◌ {A = Result Peering Refusal} (Err refusal.Full) (Err why) = e in cc
+refuses channel q p false (Some first) refusal.Memory e = absurd (cc)
+refuses channel q p false (Some first) why e = let same : ◌≡◌ {A = Result Peering Refusal} (Err first) (Err why) = e in cc
+refuses channel q p true (Some first) refusal.Memory e = absurd (cc)
+refuses channel q p true (Some first) why e = let same : ◌≡◌ {A = Result Peering Refusal} (Err first) (Err why) = e in cc
 
 was-left : (o : Option Peering) (r : Peering) → or_not_connected o ≡ Ok r → o ≡ Some r
 was-left None r e = absurd (cc)
@@ -67,10 +79,14 @@ alone-staying m info p why e = let n = not-left (left_by m p info) why e in (lef
 pub each-call : (c : Call) (old new : Host) → Acts c old new → Each c old new.slots
 each-call (call.Connect address channels info word answer) old new acts = each-connects old address channels info word answer old.slots new.slots refl acts.0
 each-call (call.Submit name channel q (Ok done)) old new acts =
-    each-named (call.Submit name channel q (Ok done)) old name (submission channel q) (submitting channel q (Ok done)) new.slots acts.0 (alone-submission channel q) (λ i s p ds e. e) (λ i s. refl) refl
+    each-named (call.Submit name channel q (Ok done)) old name (unless_full old.send_limit (submission channel q)) (submitting old.send_limit channel q (Ok done)) new.slots acts.0 (alone-submission old.send_limit channel q) (λ i s p ds e. e) (λ i s. refl) refl
 each-call (call.Submit name channel q (Err e)) old new acts =
-    each-refused (call.Submit name channel q (Err e)) old name (submitting channel q (Err e)) new.slots acts.0.2
-    (λ s p named held. (acts.0.1, refl, refuses channel q p (submission_refusal p channel (length q.body)) e.0 (peer-refused_memory old.slots name (submission channel q) s p e.0 named held acts.0.0)))
+    each-refused (call.Submit name channel q (Err e)) old name (submitting old.send_limit channel q (Err e)) new.slots acts.0.2
+    (λ s p named held. (
+      acts.0.1,
+      refl,
+      refuses channel q p (is_full old.send_limit p.outbox) (submission_refusal p channel (length q.body)) e.0 (peer-refused_memory old.slots name (unless_full old.send_limit (submission channel q)) s p e.0 named held acts.0.0),
+    ))
     (λ i s p ds e. e) (λ i s. refl) refl
 each-call (call.Receive from bytes answer) old new acts = each-arrives old from bytes answer old.slots new.slots refl acts.arrives
 each-call (call.Service None buf) old new acts = each-passed old buf new.slots acts.0
@@ -114,6 +130,9 @@ each-call (call.Admit what (Ok done)) old new acts =
 each-call (call.Admit what (Err why)) old new acts =
     each-none (call.Admit what (Err why)) old new.slots (λ i s. refl) (ap (λ (h : Host). h.slots) acts.2) (λ i s p there held. idle (call.Admit what (Err why)) (common_of old) i s p refl)
     (λ i. begins-not (call.Admit what (Err why)) old i refl)
+each-call (call.SetSendLimit bytes commands) old new acts =
+    each-none (call.SetSendLimit bytes commands) old new.slots (λ i s. refl) (ap (λ (h : Host). h.slots) acts) (λ i s p there held. idle (call.SetSendLimit bytes commands) (common_of old) i s p refl)
+    (λ i. begins-not (call.SetSendLimit bytes commands) old i refl)
 each-call (call.NextEvent None) old new acts = each-mute old new.slots (ap (λ (h : Host). h.slots) acts.1) acts.0
 each-call (call.NextEvent (Some event)) old new acts = subst (λ (h : Host). Each (call.NextEvent (Some event)) old h.slots) (sym acts.rest) (each-gave old event acts.from acts.first acts.after acts.gives)
 

@@ -105,6 +105,7 @@ calling w from old new (call.SetPingInterval name ms answer) x low e h apart own
 calling w from old new (call.SetTimeout name limit minimum maximum answer) x low e h apart own far k faces = quiet w.count (call.SetTimeout name limit minimum maximum answer) old new e own far refl (inr refl) x low h k
 calling w from old new (call.NextEvent None) x low e h apart own far k faces = quiet w.count (call.NextEvent None) old new e own far refl (inr refl) x low h k
 calling w from old new (call.Admit what answer) x low e h apart own far k faces = quiet w.count (call.Admit what answer) old new e own far refl (inr refl) x low h k
+calling w from old new (call.SetSendLimit bytes commands) x low e h apart own far k faces = quiet w.count (call.SetSendLimit bytes commands) old new e own far refl (inr refl) x low h k
 calling w from old new (call.NextEvent (Some event)) x low e h apart own far k faces =
     let a : Rattle.enet_host.specs.Calls.TakesOne old.host event new.host = x.0 in
     let name : PeerRef = name_of a.from a.first.slot in

@@ -126,6 +126,7 @@ fell-quiet (call.SetTimeout name limit minimum maximum answer) h i s p ds quiet 
 fell-quiet (call.NextEvent None) h i s p ds quiet fell = quiet-is ds _ fell (refl, tt)
 fell-quiet (call.NextEvent (Some event)) h i s p ds quiet fell = absurd (cc)
 fell-quiet (call.Admit what answer) h i s p ds quiet fell = quiet-is ds _ fell tt
+fell-quiet (call.SetSendLimit bytes commands) h i s p ds quiet fell = quiet-is ds _ fell tt
 
 -- such a call is a number of events of each end
 pub goes-quiet : (c : Call) (old new : Site) (e : HostEnd) (own far : End) → is_quiet_call c ≡ true → old.host.config.generations ≤ greatest → Acts c old.host new.host → KeepsLog old new e.connection → Shows old e own → Went own far new e

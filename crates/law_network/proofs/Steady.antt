@@ -31,8 +31,8 @@ steadies : (m : ℕ) → Changes (IsSteady m)
 steadies m = record {
   quiet = λ p q e h. record { old = ap (λ (c : Core). is_young c.state) e ∙ h.old; same = ap (λ (c : Core). c.mtu) e ∙ h.same };
   controls = λ p what plain on h. record { old = h.old; same = h.same };
-  ends = λ p info here h. record { old = refl; same = h.same };
-  cuts = λ p now gone over h. record { old = refl; same = h.same };
+  ends = λ p why info here h. record { old = refl; same = h.same };
+  cuts = λ p why now gone over h. record { old = refl; same = h.same };
   frees = λ p h. record { old = refl; same = h.same };
   parts = λ p info h. record { old = refl; same = h.same };
   disconnects = λ p info up h. record { old = refl; same = h.same };

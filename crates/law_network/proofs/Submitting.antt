@@ -9,7 +9,7 @@ use Rattle.enet_sender.specs.CommandChoice as command_choice
 use Rattle.enet_peer.specs.declared.parts.PeerEvent.{PeerEvent}
 use Rattle.enet_peer.specs.declared.parts.PeerEvent.TheVariants as told
 use Rattle.enet_peer.specs.Peering.{Peering}
-use Rattle.enet_peer.specs.Calls.{next_event}
+use Rattle.enet_peer.specs.Calls.{next_event, submission_refusal}
 use Rattle.law_connection.specs.Connection.{End, packets_of}
 use Rattle.law_connection.specs.Law.{mtu_in}
 use Rattle.law_connection.specs.Steps.{with_submission}
@@ -17,13 +17,14 @@ use Rattle.law_connection.specs.Steps as event
 use Rattle.law_connection.proofs.Moves.{packets-push}
 use Rattle.enet_slot.specs.Slot.{SlotState, name_of, greatest}
 use Rattle.enet_host.specs.Host.{named}
-use Rattle.enet_slot.specs.Calls.{submission, event_of}
+use Rattle.enet_slot.specs.Calls.{submission, unless_full, event_of}
 use Rattle.enet_host.specs.Calls.{TakesOne}
 use Rattle.law_network.specs.Calls.{Call, Acts}
 use Rattle.law_network.specs.Calls as call
 use Rattle.law_network.specs.Common.{Common, common_of}
 use Rattle.law_network.specs.Deeds.{Deed, AllAlone, Submit, Take}
 use Rattle.law_network.specs.Falling.{deeds_if, is_meant, taken_from}
+use Rattle.law_network.proofs.Accepting.{accepted}
 use Rattle.law_network.proofs.Lists.{same-or}
 use Rattle.law_network.proofs.Names.{IsThere, there-named}
 use Rattle.law_network.proofs.IsolationServing.{taken-event}
@@ -98,11 +99,11 @@ goes-submitted name channel mtu q done old new e own far low acts same k goes-by
     f : HostEnd
     f = with_packet mtu packet e
 
-    does : Does old.host.slots name (submission channel q) new.host.slots
-    does = does-named old.host.slots name (submission channel q) new.host.slots acts.0
+    does : Does old.host.slots name (unless_full old.host.send_limit (submission channel q)) new.host.slots
+    does = does-named old.host.slots name (unless_full old.host.send_limit (submission channel q)) new.host.slots acts.0
 
     d : Deed
-    d = Submit packet (Ok done)
+    d = Submit packet old.host.send_limit (Ok done)
 
     by : Moved c old.host new.host e.name k.peer → Went own far new (cond (is_same_name e.name name) f e)
     by (is_gone shows never) = stays-as own far new (is_same_name e.name name) f e (not-there old.host.slots e.name name does.slot does.peer does.there does.same does.held never) (goes-still old new e own far k same shows)
@@ -119,12 +120,13 @@ goes-submitted name channel mtu q done old new e own far low acts same k goes-by
             let g : e.name.generation ≡ name.generation = sym x.same ∙ ap (λ (s : SlotState). s.generation) (sym slot) ∙ does.same in
             let one : ds ≡ d ∷ [] = fell ∙ ap (λ (b : Bool). deeds_if b d) (meant name e.name x.slot here (sym g) x.same) in
             let a : AllAlone (d ∷ []) k.peer r = subst (λ (l : List Deed). AllAlone l k.peer r) one alone in
+            let free : submission_refusal k.peer channel (length q.body) ≡ None = accepted old.host.send_limit k.peer channel q a.1.0 in
             let called : name ≡ e.name = (λ i. record { slot = here i; generation = sym g i }) in
             let held : named old.host.slots name ≡ Some k.peer = ap (λ (y : PeerRef). named old.host.slots y) called ∙ there-named old.host.slots e.name k.peer x in
             changes-as own far new (is_same_name e.name name) f e (same-name e.name name (sym here) g) (record {
               new = with_submission own k.peer packet;
               events = event.Submit packet ∷ [];
-              runs = (with_submission own k.peer packet, (k.peer, k.has, a.1.0, refl), refl);
+              runs = (with_submission own k.peer packet, (k.peer, k.has, free, refl), refl);
               shows = record {
                 peer = r;
                 has = ap (λ (y : Peering). Some y) (sym a.1.1 ∙ a.2);
@@ -133,7 +135,7 @@ goes-submitted name channel mtu q done old new e own far low acts same k goes-by
                 numbers = k.numbers;
                 log = λ n d h of. k.log n d (same n d h of) of;
                 greatest = k.greatest;
-                mtu = mtu-submitted mtu k.peer r channel q (own.submitted ++ packet ∷ []) a.1.0 (sym (goes-by ∙ ap mtu_in held)) (sym a.1.1 ∙ a.2);
+                mtu = mtu-submitted mtu k.peer r channel q (own.submitted ++ packet ∷ []) free (sym (goes-by ∙ ap mtu_in held)) (sym a.1.1 ∙ a.2);
                 submitted = λ j few. part-grows (λ (y : ChannelPackets). y.submitted) (with_submitted_packet packet) packet (λ y. refl) e.channels j own.submitted k.long few (k.submitted j few);
                 taken = λ j few. part-stays (λ (y : ChannelPackets). y.taken) (with_submitted_packet packet) (λ y. refl) e.channels channel j k.long few ∙ k.taken j few;
                 events = k.events;

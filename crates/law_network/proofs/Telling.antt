@@ -175,8 +175,8 @@ aways : Changes IsAway
 aways = record {
   quiet = λ p q same h. ap (λ (c : Core). is_answering c.state) same ∙ h;
   controls = λ p what none on h. h;
-  ends = λ p info none h. refl;
-  cuts = λ p now gone over h. refl;
+  ends = λ p why info none h. refl;
+  cuts = λ p why now gone over h. refl;
   frees = λ p h. refl;
   parts = λ p info h. refl;
   disconnects = λ p info on h. refl;

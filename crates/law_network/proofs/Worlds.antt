@@ -246,6 +246,7 @@ acts-of w from old new (call.SetPingInterval name ms answer) x = x.0
 acts-of w from old new (call.SetTimeout name limit minimum maximum answer) x = x.0
 acts-of w from old new (call.NextEvent answer) x = x.0
 acts-of w from old new (call.Admit what answer) x = x.0
+acts-of w from old new (call.SetSendLimit bytes commands) x = x.0
 
 brought-acts : (from old new : Site) (answer : Received) (found : Option Logged) → BringsOne from found answer old new → (c : Call) × Acts c old.host new.host
 brought-acts from old new answer None x = absurd x
@@ -294,6 +295,7 @@ calls-log w from old new (call.SetPingInterval name ms answer) x = inl (ap (λ (
 calls-log w from old new (call.SetTimeout name limit minimum maximum answer) x = inl (ap (λ (s : Site). s.log) x.1)
 calls-log w from old new (call.NextEvent answer) x = inl (ap (λ (s : Site). s.log) x.1)
 calls-log w from old new (call.Admit what answer) x = inl (ap (λ (s : Site). s.log) x.1)
+calls-log w from old new (call.SetSendLimit bytes commands) x = inl (ap (λ (s : Site). s.log) x.1)
 
 brought-log : (from old new : Site) (answer : Received) (found : Option Logged) → BringsOne from found answer old new → new.log ≡ old.log
 brought-log from old new answer None x = absurd x

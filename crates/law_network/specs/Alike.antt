@@ -23,7 +23,7 @@ use Rattle.law_network.specs.IsolationLaw.{Fares}
 
 -- what a peer is asked by a deed, whatever it answers
 abbrev pub asked : Deed → Deed
-asked (deed.Submit q answer) = deed.Submit q (Ok tt)
+asked (deed.Submit q limit answer) = deed.Submit q limit (Ok tt)
 asked (deed.Emit now given) = deed.Emit now None
 asked (deed.Come a m answer) = deed.Come a m (Ok tt)
 asked (deed.Tick now short) = deed.Tick now short
@@ -39,12 +39,12 @@ is_memory refusal.Memory = true
 is_memory why = false
 
 abbrev pub is_wanting : Deed → Bool
-is_wanting (deed.Submit q (Err e)) = is_memory e.0
+is_wanting (deed.Submit q limit (Err e)) = is_memory e.0
 is_wanting (deed.Come a m (Err stop.Memory)) = true
 is_wanting (deed.Set setting (Err why)) = is_memory why
 is_wanting d = false
 
--- what a peer is asked it answers in one way, and goes on in one way, want of memory apart
+-- what a peer is asked it answers in one way, and goes on in one way, want of memory apart: a submission by the peer and the limit
 abbrev pub OneAnswer : Type 0
 OneAnswer = (d e : Deed) (p q r : Peering) → asked d ≡ asked e → is_wanting d ≡ false → is_wanting e ≡ false → Alone d p q → Alone e p r → (d ≡ e) × (q ≡ r)
 

@@ -1,4 +1,4 @@
--- From a host's opening on: how each peer began, and whose sessions its slot had then.
+-- From a host's opening on: how each peer began, and of whom its slot had the sessions and the ending then.
 use Rattle.std.specs.Prelude.{◌≡◌, ◌⊎◌, ℕ, ◌+◌, true, List, [], ◌∷◌, Some, None, slice_get}
 use Rattle.enet_codec.specs.declared.address.Addr.{Addr}
 use Rattle.enet_codec.specs.declared.config.Config.{Config}
@@ -49,7 +49,7 @@ pub record Lived (name : PeerRef) (cs : List Call) (series : Series cs) (p : Pee
   pub began : WasThere name cs series first deeds ⊎ BeganBy name cs series first deeds
   pub alone : AllAlone deeds first p
 
--- the sessions of slot i, which is s, are those of the peer of the generation before, as it ended
+-- the sessions of slot i, which is s, are those of the peer of the generation before, as it ended, and so is why its connection ended
 pub record IsAfter (i : ℕ) (cs : List Call) (series : Series cs) (s : SlotState) : Type 0 where
   pub generation : ℕ
   pub next : s.generation ≡ generation + 1
@@ -58,14 +58,17 @@ pub record IsAfter (i : ℕ) (cs : List Call) (series : Series cs) (s : SlotStat
   pub ended : last.state ≡ state.Free
   pub incoming : s.incoming_session ≡ last.terms.incoming_session
   pub outgoing : s.outgoing_session ≡ last.terms.outgoing_session
+  pub ending : s.ending ≡ last.ending
 
--- or 0xFF, where it had none
+-- or 0xFF and nothing, where it had none
 pub record IsFirst (s : SlotState) : Type 0 where
   pub generation : s.generation ≡ 0
   pub incoming : s.incoming_session ≡ 0xFF
   pub outgoing : s.outgoing_session ≡ 0xFF
+  pub ending : s.ending ≡ None
 
--- whatever is called on this host: each peer of a name lived from its beginning on, and each slot has the sessions of its last peer
+-- whatever is called on this host: each peer of a name lived from its beginning on, and each slot has the sessions and the ending of its
+-- last peer
 pub record IsBeginning (old : Host) : Type 0 where
   pub lived : (cs : List Call) (new : Host) (steps : Steps cs old new) (name : PeerRef) (p : Peering) → named new.slots name ≡ Some p → Lived name cs (record { before = old; after = new; steps = steps }) p
   pub sessions : (cs : List Call) (new : Host) (steps : Steps cs old new) (i : ℕ) (s : SlotState) → slice_get new.slots i ≡ Some s → IsFirst s ⊎ IsAfter i cs (record { before = old; after = new; steps = steps }) s

@@ -15,9 +15,9 @@ use Rattle.enet_host.specs.Opening.{host_basis, Connects}
 use Rattle.enet_host.specs.Receiving.{Receives}
 use Rattle.enet_host.specs.Serving.{Serves}
 use Rattle.enet_host.specs.Ticking.{ticked}
-use Rattle.enet_slot.specs.Calls.{Submits, Does, DoesWithMemory, submission, leaving, throttling, pinging, waiting}
+use Rattle.enet_slot.specs.Calls.{Submits, Does, DoesWithMemory, submission, unless_full, leaving, throttling, pinging, waiting}
 use Rattle.enet_slot.specs.Sharing.{wants_room, wants_room_in}
-use Rattle.enet_host.specs.Calls.{Admits, Takes, on_named, with_bandwidth}
+use Rattle.enet_host.specs.Calls.{Admits, Takes, on_named, with_bandwidth, with_send_limit}
 
 -- whether a call without a result was refused, and why
 abbrev pub Done : Type 0
@@ -37,6 +37,7 @@ pub data Call : Type 0 where
   SetTimeout : (name : PeerRef) (limit minimum maximum : ℕ) (answer : Done) → Call
   NextEvent : (answer : Option Event) → Call
   Admit : (what : Admission) (answer : Done) → Call
+  SetSendLimit : (bytes commands : ℕ) → Call
 
 -- memory is only refused where this says that it may be wanted
 abbrev pub IsWanted : Done → Bool → Type 0
@@ -52,7 +53,8 @@ Sets (Err why) after old new = (why ≡ refusal.Memory) × (new ≡ old) × (lis
 abbrev pub Acts : Call → Host → Host → Type 0
 Acts (Connect address channels info word answer) old new =
     Connects (host_basis old) old.slots (record { address = address; channels = channels; info = info; word = word }) answer new.slots × KeepsRest old new
-Acts (Submit name channel q answer) old new = Submits answer q (on_named old.slots name (submission channel q)) old.slots new.slots × KeepsRest old new
+Acts (Submit name channel q answer) old new =
+    Submits answer q (on_named old.slots name (unless_full old.send_limit (submission channel q))) old.slots new.slots × KeepsRest old new
 Acts (Receive from bytes answer) old new = Receives old from bytes answer new
 Acts (Service answer buf) old new = Serves old answer buf new
 Acts (Tick ms) old new = new ≡ ticked old ms
@@ -66,6 +68,7 @@ Acts (SetTimeout name limit minimum maximum answer) old new =
     Does answer (on_named old.slots name (waiting limit minimum maximum)) old.slots new.slots × KeepsRest old new
 Acts (NextEvent answer) old new = Takes answer old new
 Acts (Admit what answer) old new = Admits what answer old new
+Acts (SetSendLimit bytes commands) old new = new ≡ with_send_limit old (record { bytes = bytes; commands = commands })
 
 -- calls, one after another
 abbrev pub Steps : List Call → Host → Host → Type 0

@@ -1,9 +1,10 @@
--- What the connections of one host share: this, the call, and nothing else. No connection changes the settings, the clock or when the
--- bandwidth is shared out: `set_bandwidth` and `tick` do, by their arguments and these alone.
+-- What the connections of one host share: this, the call, and nothing else. No connection changes the settings, the clock, the send limit
+-- or when the bandwidth is shared out: `set_bandwidth`, `tick` and `set_send_limit` do, by their arguments and these alone.
 use Rattle.std.specs.Prelude.{ℕ, Bool, Option, length}
 use Rattle.std.specs.List.{count_by, list_any}
 use Rattle.enet_codec.specs.declared.address.Addr.{Addr}
 use Rattle.enet_codec.specs.declared.config.Config.{Config}
+use Rattle.enet_outbox.specs.declared.parts.SendLimit.{SendLimit}
 use Rattle.enet_slot.specs.Giving.{Basis}
 use Rattle.enet_slot.specs.Receiving.{is_connection}
 use Rattle.enet_slot.specs.Sharing.{is_standing}
@@ -26,6 +27,7 @@ pub record Common : Type 0 where
   pub is_due : ℕ → Bool  -- whether the bandwidth is shared out anew once time has come to this moment
   pub standing : ℕ → ℕ  -- and among how many connected peers
   pub short : ℕ → Bool  -- whether the address of a slot's peer sent too little for another answer
+  pub send_limit : Option SendLimit  -- at how much queued or unacknowledged a peer takes no further packet
 
 abbrev pub common_of : Host → Common
 common_of h = record {
@@ -40,6 +42,7 @@ common_of h = record {
   is_due = λ now. ticking.is_due (ticking.with_time h now);
   standing = λ now. count_by is_standing (ticking.with_time h now).slots;
   short = is_short_at h.credits;
+  send_limit = h.send_limit;
 }
 
 -- what a host goes by, of what is shared

@@ -17,7 +17,7 @@ is_heeded (Err stop.NoSentTime) = true
 is_heeded (Err why) = false
 
 abbrev pub takes_effect : Deed → Bool
-takes_effect (deed.Submit q answer) = is_ok answer
+takes_effect (deed.Submit q limit answer) = is_ok answer
 takes_effect (deed.Emit now given) = true
 takes_effect (deed.Come a m answer) = is_heeded answer
 takes_effect (deed.Tick now short) = true
@@ -29,7 +29,7 @@ takes_effect deed.TellAgain = true
 
 -- the event; a command that comes is one of the other end's log
 abbrev pub event_of : Deed → Put → Event
-event_of (deed.Submit q answer) put = event.Submit q
+event_of (deed.Submit q limit answer) put = event.Submit q
 event_of (deed.Emit now given) put = event.Emit now
 event_of (deed.Come a m answer) put = event.Come put a.now a.sent
 event_of (deed.Tick now short) put = event.Tick now
@@ -51,7 +51,7 @@ with_taken own (Some e) p = record own { peer = Some p; events = own.events ++ e
 
 -- the end whose peer was `old`, after a deed that took effect and left the peer `new`
 abbrev pub end_after : End → End → Deed → Peering → Peering → End
-end_after own other (deed.Submit q answer) old new = with_submission own old q
+end_after own other (deed.Submit q limit answer) old new = with_submission own old q
 end_after own other (deed.Emit now given) old new = with_emission own other old now
 end_after own other (deed.Take given) old new = with_taken own given new
 end_after own other d old new = with_peer own new

@@ -125,7 +125,7 @@ pub record Occupied : Type 0 where
 abbrev pub Fell : Common → Occupied → Call → List Deed → Type 0
 Fell h x (call.Connect address channels info word answer) ds = ds ≡ []
 Fell h x (call.Submit name channel q answer) ds =
-    ds ≡ deeds_if (is_meant name x.number x.slot) (Submit (record { channel = channel; flags = q.flags; body = q.body }) answer)
+    ds ≡ deeds_if (is_meant name x.number x.slot) (Submit (record { channel = channel; flags = q.flags; body = q.body }) h.send_limit answer)
 Fell h x (call.Receive from bytes answer) ds =
     Reaches x.number x.slot (record { host = h; from = from; bytes = bytes; answer = answer }) ds
 Fell h x (call.Service answer buf) ds = ds ≡ asked_for h x.number answer buf
@@ -142,6 +142,7 @@ Fell h x (call.SetTimeout name limit minimum maximum answer) ds =
     ds ≡ deeds_if (is_meant name x.number x.slot) (Set (setting.Timeout limit minimum maximum) answer)
 Fell h x (call.NextEvent answer) ds = ds ≡ taken_from h x.number answer
 Fell h x (call.Admit what answer) ds = ds ≡ []
+Fell h x (call.SetSendLimit bytes commands) ds = ds ≡ []
 
 -- slot i, which is s, if it holds a peer
 abbrev pub occupied_in : ℕ → SlotState → Option Peering → Option Occupied

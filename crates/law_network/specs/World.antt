@@ -61,6 +61,7 @@ side_of (happen.Tick side ms) = side
 side_of (happen.Take side) = side
 side_of (happen.Disconnect side peer how info) = side
 side_of (happen.Admit side what) = side
+side_of (happen.SetSendLimit side bytes commands) = side
 
 -- the one host call of an event that was not refused, by what was answered
 abbrev pub Makes : World → WorldEvent → Answer → Happening → Type 0
@@ -74,10 +75,11 @@ Makes w (happen.Tick side ms) answers.Done e = e ≡ Calls (call.Tick ms)
 Makes w (happen.Take side) (answers.Taken event) e = e ≡ Calls (call.NextEvent event)
 Makes w (happen.Disconnect side peer how info) answers.Done e = e ≡ Calls (call.Disconnect how peer info (Ok tt))
 Makes w (happen.Admit side what) answers.Done e = e ≡ Calls (call.Admit what (Ok tt))
+Makes w (happen.SetSendLimit side bytes commands) answers.Done e = e ≡ Calls (call.SetSendLimit bytes commands)
 Makes w _ _ e = ⊥
 
 -- why an event is refused: a host call by what its host says, a delivery by the first refusal that applies. Memory may be wanting where nothing
--- else is refused, but for a tick, a disconnect, and a take where no event waits
+-- else is refused, but for a tick, a disconnect, a setting, and a take where no event waits
 abbrev pub IsRefusedFor : Refusal → Option Refusal → Type 0
 IsRefusedFor why (Some first) = why ≡ first
 IsRefusedFor why None = why ≡ Memory
@@ -100,6 +102,7 @@ Refuses w (happen.Tick side ms) why = ⊥
 Refuses w (happen.Take side) why = RefusesTake why (site_of w side).host
 Refuses w (happen.Disconnect side peer how info) why = RefusesCall (call.Disconnect how peer info (Err why)) (site_of w side)
 Refuses w (happen.Admit side what) why = RefusesCall (call.Admit what (Err why)) (site_of w side)
+Refuses w (happen.SetSendLimit side bytes commands) why = ⊥
 
 -- a step: an event that is refused changes nothing, any other makes its one call on its side
 abbrev pub Steps : World → WorldEvent → Result Answer Refusal → World → Type 0

@@ -18,28 +18,29 @@ use enet_host::HostCore;
 ///
 /// `one_call`: each call does to each slot one of four things (`Fares`). Its peer, if it has one, stays as it was: what fell to it, if
 /// anything, was refused or had no effect (an acknowledgement that matches nothing, a tick by which nothing was due, an emission of
-/// nothing). Or its peer does alone what fell to it: commands that came, submissions, disconnects, emissions with the very
-/// datagram that they gave, those that gave nothing too, takes, ticks, settings, throttle limits, each with what it answers, also where
-/// it refuses, stops or wants memory (`Deed`); and where that leaves the peer free, so is the slot, with the next generation and the
-/// connection's sessions. Or a connection begins in it, for which the user asks or a CONNECT: the user's in the lowest slot that is free
-/// and has a generation left, that of a CONNECT whose connection isn't there yet in the same one, if there is one. Or such a CONNECT finds
-/// none, the host gives way, and the slot is that of the peer which has waited longest for its client: that one is let go, and the
-/// connection begins in its slot. A refused `set_bandwidth` falls to no peer: the memory that was wanting may have been for another. Each
-/// time it is said, too, how many bytes the slot counts for its next share of bandwidth. Of the host this sees what its connections share
-/// alone (`Common`): settings and clock, the turn order of slots, when the bandwidth is shared out and among how many connected peers,
-/// whether the address of a slot's peer sent too little for another answer, where connections begin, whether as many clients are let in as
-/// may be, and the test of a CONNECT's address and connect id. `of_the_host`: of these no connection changes the settings, the clock, and
-/// when the bandwidth is shared out: `set_bandwidth`, `admit` and `tick` do, by their arguments and by these alone.
+/// nothing). Or its peer does alone what fell to it: commands that came, submissions, disconnects, emissions with the very datagram that
+/// they gave, those that gave nothing too, takes, ticks, settings, throttle limits, each with what it answers, also where it refuses, stops
+/// or wants memory (`Deed`); and where that leaves the peer free, so is the slot, with the next generation, the connection's sessions and
+/// why it ended. Or a connection begins in it, for which the user asks or a CONNECT: the user's in the lowest slot that is free and has a
+/// generation left, that of a CONNECT whose connection isn't there yet in the same one, if there is one. Or such a CONNECT finds none, the
+/// host gives way, and the slot is that of the peer which has waited longest for its client: that one is let go, and the connection begins
+/// in its slot. A refused `set_bandwidth` falls to no peer: the memory that was wanting may have been for another. Each time it is said,
+/// too, how many bytes the slot counts for its next share of bandwidth. Of the host this sees what its connections share alone (`Common`):
+/// settings and clock, the turn order of slots, when the bandwidth is shared out and among how many connected peers, whether the address of
+/// a slot's peer sent too little for another answer, where connections begin, whether as many clients are let in as may be, the test of a
+/// CONNECT's address and connect id, and the limit of what a peer may have queued or unacknowledged. `of_the_host`: of these no connection
+/// changes the settings, the clock, the limit, and when the bandwidth is shared out: `set_bandwidth`, `admit`, `set_send_limit` and `tick`
+/// do, by their arguments and by these alone.
 ///
-/// `one_answer`: a peer alone answers in one way, and goes on in one way, want of memory apart. `one_way`: so a slot fares in one way by a
-/// call with its answers, whatever else the host holds. `alike`: so two hosts that hold the same in a slot leave it alike, where they agree
-/// on what the call looks at there (`Agree`). Of a slot with a peer that is nothing where a peer is asked or told something by the user;
-/// the clock where a datagram comes, and, only if the peer waits for its client to confirm, whether the host is full and which slot a
-/// CONNECT gets; the clock and whose turn is first where one is asked for; the turn where an event is; and of a tick the clock, whether its
-/// own peer's address sent too little for another answer, whether the bandwidth is shared out, and then how much among how many. A free
-/// slot sees besides what decides whether and how a connection begins there. So what other slots hold makes no other difference. What is
-/// answered of a datagram tells how many of its commands reached the peer by a count, which stops at 4,294,967,295: for these two it has no
-/// more bytes than that.
+/// `one_answer`: a peer alone answers in one way, and goes on in one way, want of memory apart. So whether a submission is refused, by E9
+/// too, goes by that peer and the limit alone. `one_way`: so a slot fares in one way by a call with its answers, whatever else the host
+/// holds. `alike`: so two hosts that hold the same in a slot leave it alike, where they agree on what the call looks at there (`Agree`). Of
+/// a slot with a peer that is nothing where a peer is asked or told something by the user; the clock where a datagram comes, and, only if
+/// the peer waits for its client to confirm, whether the host is full and which slot a CONNECT gets; the clock and whose turn is first
+/// where one is asked for; the turn where an event is; and of a tick the clock, whether its own peer's address sent too little for another
+/// answer, whether the bandwidth is shared out, and then how much among how many. A free slot sees besides what decides whether and how a
+/// connection begins there. So what other slots hold makes no other difference. What is answered of a datagram tells how many of its
+/// commands reached the peer by a count, which stops at 4,294,967,295: for these two it has no more bytes than that.
 ///
 /// `keeps`: from its opening on a host holds no peer that is free, whatever is called.
 ///
@@ -48,7 +49,8 @@ use enet_host::HostCore;
 ///
 /// `beginnings`: from a host's opening on each peer has lived so since it began by one of the calls, as `connecting` or `answering` of
 /// `enet_peer` with the sessions of its slot and what the host's secret draws for it, or, in a host that is joined from the start, as
-/// `joined`. A slot's sessions are those with which the peer before ended, 0xFF where there was none.
+/// `joined`. A slot's sessions are those with which the peer before ended, 0xFF where there was none; and why a connection ended is told of
+/// the peer before, or of none.
 ///
 /// `events`: each deed that takes effect is the event of that name at one end of a connection, as the law of one connection has it,
 /// where a command that comes is one of the other end's log and in time; the others leave the peer as it was. So a connection of two

@@ -27,7 +27,7 @@ pub enum WorldEvent {
         /// The connect id.
         word: u32,
     },
-    /// The user of a side submits a packet to a peer: E2, E3, E4, E5, E1.
+    /// The user of a side submits a packet to a peer: E2, E3, E4, E5, E9, E1.
     Submit {
         /// The side whose user submits.
         side: Side,
@@ -82,6 +82,15 @@ pub enum WorldEvent {
         /// What it sets.
         what: Admission,
     },
+    /// The user of a side sets at how much queued or unacknowledged each peer of its host takes no further packet. It isn't refused.
+    SetSendLimit {
+        /// The side whose user sets it.
+        side: Side,
+        /// The bytes of the payloads.
+        bytes: u64,
+        /// The commands: a packet that is cut counts as many as it has pieces.
+        commands: u64,
+    },
 }
 
 /// What a step answers.
@@ -89,7 +98,7 @@ pub enum WorldEvent {
 pub enum Answer {
     /// The peer that was made.
     Peer(PeerRef),
-    /// A submission, a tick or a disconnect was done.
+    /// A submission, a tick, a disconnect or a setting was done.
     Done,
     /// What the host answered to a datagram.
     Received(Received),

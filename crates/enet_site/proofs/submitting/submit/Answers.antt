@@ -1,4 +1,4 @@
-use Rattle.enet_slot.specs.Calls.{submission}
+use Rattle.enet_slot.specs.Calls.{submission, unless_full}
 use Rattle.enet_host.specs.Calls.{on_named}
 use Rattle.enet_sender.specs.CommandChoice as command_choice
 use Rattle.enet_codec.specs.declared.event.PeerRef.{PeerRef}
@@ -14,7 +14,7 @@ submit_to-requires-clause-channel c =
 pub submit_to-requires-clause-open : goal.submit_to-requires-clause-open
 submit_to-requires-clause-open c =
     let p = place-of c.own.inside.ends.items c.deref.result.now c.args.peer c.in-Some-position_of.place c.index_mut-end.result.now c.deref.ensures.value c.in-Some-position_of.ensures.first c.index_mut-end.ensures.value in
-    is-open (λ (n : PeerRef) (q : command_choice.Packet). on_named c.args.host.now.slots n (submission c.args.channel q)) c.index_mut-end.result.now.name c.args.peer c.args.flags c.args.body.now c.in-Ok.body c.len.result
+    is-open (λ (n : PeerRef) (q : command_choice.Packet). on_named c.args.host.now.slots n (unless_full c.args.host.now.send_limit (submission c.args.channel q))) c.index_mut-end.result.now.name c.args.peer c.args.flags c.args.body.now c.in-Ok.body c.len.result
     p.named c.in-Ok.ensures.cases c.len.ensures.value c.in_default.ensures.agrees
 
 pub invariant_of-own : goal.invariant_of-own
