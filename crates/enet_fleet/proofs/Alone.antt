@@ -86,6 +86,7 @@ refuses f (happen.Stranger to addr bytes) why was there r = refl
 refuses f (happen.Turn node) why was there r = refl
 refuses f (happen.Tick node ms) why was there r = refl
 refuses f (happen.Take node) why was there r = refl
+refuses f (happen.SetSendLimit node bytes commands) why was there r = refl
 
 -- and all stay as they were
 refused-at : (n m : Node) (f : Fleet) (calls : List Call) (was : Place) → place_of f n ≡ Some was → ((at : Place) → place_of f m ≡ Some at → call.Steps calls at.site.host at.site.host) → call.Steps (at_node n m calls) was.site.host was.site.host

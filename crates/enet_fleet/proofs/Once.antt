@@ -400,6 +400,7 @@ brought-by f (happen.Take node) (answers.Taken None) what m sender x qs sends he
 brought-by f (happen.Take node) (answers.Taken (Some told')) what m sender x qs sends here mk r = subst (BroughtRecent x qs sender.site) (sym mk.0) tt
 brought-by f (happen.Disconnect node peer how info) answers.Done what m sender x qs sends here mk r = subst (BroughtRecent x qs sender.site) (sym mk) tt
 brought-by f (happen.Admit node what') answers.Done what m sender x qs sends here mk r = subst (BroughtRecent x qs sender.site) (sym mk) tt
+brought-by f (happen.SetSendLimit node bytes commands) answers.Done what m sender x qs sends here mk r = subst (BroughtRecent x qs sender.site) (sym mk) tt
 brought-by f v a what m sender x qs sends here mk r = absurd mk
 
 -- a run

@@ -84,6 +84,7 @@ allowed-of f (happen.Take node) (answers.Taken None) e m = plain-call f node (ca
 allowed-of f (happen.Take node) (answers.Taken (Some told)) e m = plain-call f node (call.NextEvent (Some told.0)) e refl m.0
 allowed-of f (happen.Disconnect node peer how info) answers.Done e m = plain-call f node (call.Disconnect how peer info (Ok tt)) e refl m
 allowed-of f (happen.Admit node what') answers.Done e m = plain-call f node (call.Admit what' (Ok tt)) e refl m
+allowed-of f (happen.SetSendLimit node bytes commands) answers.Done e m = plain-call f node (call.SetSendLimit bytes commands) e refl m
 allowed-of f event answer e m = absurd m
 
 pub sound-step : (f g : Fleet) (event : FleetEvent) (answer : Result Answer Refusal) → Steps f event answer g → Sound f → Sound g

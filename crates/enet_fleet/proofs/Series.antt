@@ -56,6 +56,7 @@ set-at f n was there (call.SetPingInterval name ms answer) is h acts = called n 
 set-at f n was there (call.SetTimeout name limit minimum maximum answer) is h acts =
     called n (call.SetTimeout name limit minimum maximum answer) f was (record was.site { host = h }) refl there (acts, refl) refl
 set-at f n was there (call.Admit what answer) is h acts = called n (call.Admit what answer) f was (record was.site { host = h }) refl there (acts, refl) refl
+set-at f n was there (call.SetSendLimit bytes commands) is h acts = called n (call.SetSendLimit bytes commands) f was (record was.site { host = h }) refl there (acts, refl) refl
 set-at f n was there c is h acts = absurd (let e : false ≡ true = is in cc)
 
 allowed-at : (n : Node) (c : Call) → is_setting c ≡ true → AllowsCall n Server c
@@ -64,6 +65,7 @@ allowed-at n (call.ConfigureThrottle name interval acceleration deceleration ans
 allowed-at n (call.SetPingInterval name ms answer) is = plain n (call.SetPingInterval name ms answer) refl
 allowed-at n (call.SetTimeout name limit minimum maximum answer) is = plain n (call.SetTimeout name limit minimum maximum answer) refl
 allowed-at n (call.Admit what answer) is = plain n (call.Admit what answer) refl
+allowed-at n (call.SetSendLimit bytes commands) is = plain n (call.SetSendLimit bytes commands) refl
 allowed-at n c is = absurd (let e : false ≡ true = is in cc)
 
 pub settings-happen : SettingsHappen

@@ -169,6 +169,12 @@ admitted f n was new what there h =
     let c = call.Admit what (Ok tt) in
     (Calls c, refl, called n c f was new refl there (h (length f.asked) f.server.site) refl)
 
+pub limited : (f : Fleet) (n : Node) (was : Place) (new : Site) (bytes commands : ℕ) → place_of f n ≡ Some was → CallsAt (call.SetSendLimit bytes commands) was.site new
+    → Steps f (happen.SetSendLimit n bytes commands) (Ok answers.Done) (with_place f n (record was { site = new }))
+limited f n was new bytes commands there h =
+    let c = call.SetSendLimit bytes commands in
+    (Calls c, refl, called n c f was new refl there (h (length f.asked) f.server.site) refl)
+
 pub heard : (f : Fleet) (n : Node) (was : Place) (new : Site) (addr : Addr) (bytes : List ℕ) (answer : Received) → place_of f n ≡ Some was
     → is_host (length f.clients) addr ≡ false → ((next : ℕ) → Called next (call.Receive addr bytes answer) was.site new)
     → Steps f (happen.Stranger n addr bytes) (Ok (answers.Received answer)) (with_place f n (record was { site = new }))

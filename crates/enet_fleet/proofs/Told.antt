@@ -86,6 +86,7 @@ adds f (happen.Take node) (answers.Taken (Some told)) what m n q here = subst (A
 })
 adds f (happen.Disconnect node peer how info) answers.Done what m n q here = adds-none n q _ _ what _ m (λ channel. refl) refl (λ channel. refl) refl
 adds f (happen.Admit node what') answers.Done what m n q here = adds-none n q _ _ what _ m (λ channel. refl) refl (λ channel. refl) refl
+adds f (happen.SetSendLimit node bytes commands) answers.Done what m n q here = adds-none n q _ _ what _ m (λ channel. refl) refl (λ channel. refl) refl
 adds f event answer what m n q here = absurd m
 
 -- nor a guest
@@ -101,6 +102,7 @@ brings f (happen.Take node) (answers.Taken None) what m n here none = ap is_gues
 brings f (happen.Take node) (answers.Taken (Some told)) what m n here none = ap is_guest m.0
 brings f (happen.Disconnect node peer how info) answers.Done what m n here none = ap is_guest m
 brings f (happen.Admit node what') answers.Done what m n here none = ap is_guest m
+brings f (happen.SetSendLimit node bytes commands) answers.Done what m n here none = ap is_guest m
 brings f event answer what m n here none = absurd m
 
 any-push : {X : Type 0} (g : X → Bool) (xs : List X) (x : X) → list_any g (xs ++ x ∷ []) ≡ false → (list_any g xs ≡ false) × (g x ≡ false)
@@ -154,6 +156,7 @@ asks-on f (happen.Take node) (answers.Taken None) what m = asks-none f node what
 asks-on f (happen.Take node) (answers.Taken (Some told)) what m = asks-none f node what _ [] m.0 refl refl
 asks-on f (happen.Disconnect node peer how info) answers.Done what m = asks-none f node what _ [] m refl refl
 asks-on f (happen.Admit node what') answers.Done what m = asks-none f node what _ [] m refl refl
+asks-on f (happen.SetSendLimit node bytes commands) answers.Done what m = asks-none f node what _ [] m refl refl
 asks-on f event answer what m = absurd m
 
 -- a connection that begins is its client's, whose end it begins

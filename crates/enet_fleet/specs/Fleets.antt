@@ -93,6 +93,7 @@ node_of (happen.Tick node ms) = node
 node_of (happen.Take node) = node
 node_of (happen.Disconnect node peer how info) = node
 node_of (happen.Admit node what) = node
+node_of (happen.SetSendLimit node bytes commands) = node
 
 -- the host that it hears; any other event speaks to the server at most
 abbrev pub from_of : FleetEvent → Node
@@ -128,6 +129,7 @@ Makes f (happen.Take node) (answers.Taken None) e = e ≡ Calls (call.NextEvent 
 Makes f (happen.Take node) (answers.Taken (Some told)) e = (e ≡ Calls (call.NextEvent (Some told.0))) × IsFrom (place_of f node) told.0 told.1
 Makes f (happen.Disconnect node peer how info) answers.Done e = e ≡ Calls (call.Disconnect how peer info (Ok tt))
 Makes f (happen.Admit node what) answers.Done e = e ≡ Calls (call.Admit what (Ok tt))
+Makes f (happen.SetSendLimit node bytes commands) answers.Done e = e ≡ Calls (call.SetSendLimit bytes commands)
 Makes f _ _ e = ⊥
 
 -- whether E17 applies: a host of the event isn't there, or its stranger's address is a host's
@@ -167,6 +169,7 @@ RefusesThere f (happen.Tick node ms) why = ⊥
 RefusesThere f (happen.Take node) why = RefusesTakeAt (place_of f node) why
 RefusesThere f (happen.Disconnect node peer how info) why = RefusesAt (place_of f node) (call.Disconnect how peer info (Err why))
 RefusesThere f (happen.Admit node what) why = RefusesAt (place_of f node) (call.Admit what (Err why))
+RefusesThere f (happen.SetSendLimit node bytes commands) why = ⊥
 
 -- why an event is refused: E17 comes first
 abbrev pub RefusesIf : Bool → Fleet → FleetEvent → Refusal → Type 0

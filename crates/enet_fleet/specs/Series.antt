@@ -42,6 +42,7 @@ is_setting (call.ConfigureThrottle name interval acceleration deceleration answe
 is_setting (call.SetPingInterval name ms answer) = true
 is_setting (call.SetTimeout name limit minimum maximum answer) = true
 is_setting (call.Admit what answer) = true
+is_setting (call.SetSendLimit bytes commands) = true
 is_setting c = false
 
 abbrev pub with_host : Place → Host → Place

@@ -107,6 +107,22 @@ fn admit(hosts: &mut Hosts, node: Node, what: Admission) -> Result<Answer, Refus
     Ok(Answer::Done)
 }
 
+/// The user of a host sets at how much queued or unacknowledged its peers take no further packet.
+fn set_send_limit(
+    hosts: &mut Hosts,
+    node: Node,
+    bytes: u64,
+    commands: u64,
+) -> Result<Answer, Refusal>
+    ensures { Steps hosts.old (happen.SetSendLimit node bytes commands) result hosts.new }
+{
+    let Some(here) = hosts.place_mut(node) else {
+        return Err(Refusal::NoSuchHost);
+    };
+    here.site.set_send_limit(bytes, commands);
+    Ok(Answer::Done)
+}
+
 /// What an event does.
 pub(crate) fn happen(
     hosts: &mut Hosts,
@@ -142,5 +158,10 @@ pub(crate) fn happen(
             info,
         } => disconnect(hosts, *node, *peer, *how, *info),
         FleetEvent::Admit { node, what } => admit(hosts, *node, *what),
+        FleetEvent::SetSendLimit {
+            node,
+            bytes,
+            commands,
+        } => set_send_limit(hosts, *node, *bytes, *commands),
     }
 }

@@ -157,6 +157,18 @@ most_of others = of_two (λ host peers. do
   peers ← number_below (2 ^ 16) peers
   Some (admit_at host (Most peers))) others
 
+-- `send-limit <host> <bytes> <commands>`
+abbrev pub send_limit_at : Host → ℕ → ℕ → Line
+send_limit_at (OfWorld side) bytes commands = InWorld (world.SetSendLimit side bytes commands)
+send_limit_at (OfFleet node) bytes commands = InFleet (fleet.SetSendLimit node bytes commands)
+
+abbrev pub send_limit_of : List (List ℕ) → Option Line
+send_limit_of others = of_three (λ host bytes commands. do
+  host ← host_named host
+  bytes ← number_below (2 ^ 64) bytes
+  commands ← number_below (2 ^ 64) commands
+  Some (send_limit_at host bytes commands)) others
+
 -- `now`, `ask` or `later <host> <peer> <data>`
 abbrev pub disconnect_at : Host → PeerRef → DisconnectMode → ℕ → Line
 disconnect_at (OfWorld side) peer how info = InWorld (world.Disconnect side peer how info)
@@ -182,7 +194,8 @@ event_of form others =
     else (if bytes_eq form (codes "take") then take_of others
     else (if bytes_eq form (codes "give-way") then give_way_of others
     else (if bytes_eq form (codes "most") then most_of others
-    else disconnect_of form others))))))))
+    else (if bytes_eq form (codes "send-limit") then send_limit_of others
+    else disconnect_of form others)))))))))
 
 -- What a line of these words spells.
 unfoldable pub line_of : List (List ℕ) → Option Line

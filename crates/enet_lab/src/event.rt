@@ -1,7 +1,7 @@
 //! What a line makes happen at a host, of whichever kind of network it is.
 
 ghost use Rattle.std.specs.Prelude.{◌≡◌};
-ghost use Rattle.enet_lab.specs.EnetLines.{admit_at, connect_at, submit_at, turn_at, tick_at, take_at, disconnect_at};
+ghost use Rattle.enet_lab.specs.EnetLines.{admit_at, send_limit_at, connect_at, submit_at, turn_at, tick_at, take_at, disconnect_at};
 
 use crate::host::Host;
 use crate::line::Line;
@@ -91,6 +91,24 @@ impl Host {
         match self {
             Host::OfWorld(side) => Line::InWorld(WorldEvent::Admit { side, what }),
             Host::OfFleet(node) => Line::InFleet(FleetEvent::Admit { node, what }),
+        }
+    }
+
+    /// Its user sets how much may be queued or unacknowledged for a peer when another packet is submitted to it.
+    pub(crate) fn set_send_limit(self, bytes: u64, commands: u64) -> Line
+        ensures { result ≡ send_limit_at self bytes commands }
+    {
+        match self {
+            Host::OfWorld(side) => Line::InWorld(WorldEvent::SetSendLimit {
+                side,
+                bytes,
+                commands,
+            }),
+            Host::OfFleet(node) => Line::InFleet(FleetEvent::SetSendLimit {
+                node,
+                bytes,
+                commands,
+            }),
         }
     }
 

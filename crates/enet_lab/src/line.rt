@@ -2,7 +2,7 @@
 
 ghost use Rattle.std.specs.Prelude.{◌≡◌, ◌∷◌, IfOk};
 ghost use Rattle.enet_text.specs.Words.{words};
-ghost use Rattle.enet_lab.specs.EnetLines.{mode_named, pair_of, open_of, fleet_of, calm_of, rounds_of, connect_of, submit_of, deliver_of, deliver_side_of, deliver_from_of, stranger_of, turn_of, tick_of, take_of, give_way_of, most_of, disconnect_of, event_of, line_of, spells};
+ghost use Rattle.enet_lab.specs.EnetLines.{mode_named, pair_of, open_of, fleet_of, calm_of, rounds_of, connect_of, submit_of, deliver_of, deliver_side_of, deliver_from_of, stranger_of, turn_of, tick_of, take_of, give_way_of, most_of, send_limit_of, disconnect_of, event_of, line_of, spells};
 
 use crate::host::{host_named, is, node_named, side_named};
 use enet_codec::{Addr, Admission, DisconnectMode};
@@ -193,6 +193,9 @@ fn read_event(alloc: Global, form: &[u8], rest: &[u8]) -> Result<Option<Line>, A
     if is(form, b"most") {
         return Ok(most(rest));
     }
+    if is(form, b"send-limit") {
+        return Ok(send_limit(rest));
+    }
     Ok(disconnect(form, rest))
 }
 
@@ -323,6 +326,16 @@ fn most(text: &[u8]) -> Option<Line>
     let host = host_named(host)?;
     let peers = u16_of(peers)?;
     Some(host.admit(Admission::Most { peers }))
+}
+
+fn send_limit(text: &[u8]) -> Option<Line>
+    ensures { result ≡ send_limit_of (words text.now) }
+{
+    let (host, bytes, commands) = three(text)?;
+    let host = host_named(host)?;
+    let bytes = u64_of(bytes)?;
+    let commands = u64_of(commands)?;
+    Some(host.set_send_limit(bytes, commands))
 }
 
 fn disconnect(form: &[u8], text: &[u8]) -> Option<Line>

@@ -29,10 +29,12 @@ use Rattle.enet_outbox.specs.Outbox.{Outbox, matched_by, told_by, with_growth, a
 use Rattle.enet_outbox.specs.Outbox as outbox
 use Rattle.enet_outbox.specs.Emission.{filled}
 use Rattle.enet_outbox.proofs.Filled.{by-filling}
+use Rattle.enet_peer.specs.declared.parts.Ending.{Ending}
+use Rattle.enet_peer.specs.declared.parts.Ending.TheVariants.{AskedHere, AskedThere, BadAnswer}
 use Rattle.enet_peer.specs.declared.parts.PeerState.{PeerState}
 use Rattle.enet_peer.specs.declared.parts.PeerState.TheVariants as state
 use Rattle.enet_peer.specs.Peering.{Peering}
-use Rattle.enet_peer.specs.Endings.{settled, disconnecting, ended, is_later, freed, cut_off_in}
+use Rattle.enet_peer.specs.Endings.{settled, disconnecting, ended, is_later, freed, silence_ending, cut_off_in}
 use Rattle.enet_peer.specs.Refusing.{told_full}
 use Rattle.enet_peer.proofs.Refusals.{heeded-holds}
 use Rattle.enet_peer.specs.CommandEffect.{Outcome, obeyed, unless_refused, stopped, is_allowed, is_connect, by_body, answered, answered_at, is_answered_in, is_connecting, on_acknowledge, on_match, sampled, with_answer, on_verify_in, welcomed, on_disconnect_in, on_last_disconnect}
@@ -113,8 +115,8 @@ IsSilent p = p.state ≡ state.Ended → IsEmpty p.outbox
 not-it : (s : PeerState) (p : Peering) → p.state ≡ s → s ≢ state.Ended → IsSilent p
 not-it s p is n e = absurd (n (sym is ∙ e))
 
-silent-ended : (p : Peering) (info : ℕ) → IsSilent (ended p info)
-silent-ended p info e = cleared-empty p.outbox
+silent-ended : (p : Peering) (why : Ending) (info : ℕ) → IsSilent (ended p why info)
+silent-ended p why info e = cleared-empty p.outbox
 
 silent-settled : (p : Peering) → IsSilent p → IsSilent (settled p)
 silent-settled p h = by (is_later p.state && outbox.is_done p.outbox)
@@ -125,7 +127,7 @@ silent-settled p h = by (is_later p.state && outbox.is_done p.outbox)
 
 silent-answer : (p : Peering) (s : PeerState) (what : Control) → IsSilent p → IsSilent (with_answer s what p)
 silent-answer p state.Answering (control.VerifyConnect verify) h = λ e. absurd (cc)
-silent-answer p state.Disconnecting (control.Disconnect info) h = silent-ended p 0
+silent-answer p state.Disconnecting (control.Disconnect info) h = silent-ended p AskedHere 0
 silent-answer p s what h = h
 
 -- a command comes to a peer that hasn't ended
@@ -157,19 +159,19 @@ silent-verify : (p : Peering) (v : Verify) (s : PeerState) → IsSilent p → Is
 silent-verify p v state.Connecting h = by (confirmed p.offer v)
   where
     by : (o : Option Terms) → IsSilent (welcomed p v o)
-    by None = unwelcomed-holds IsSilent p v h (silent-ended p 0)
+    by None = unwelcomed-holds IsSilent p v h (silent-ended p BadAnswer 0)
     by (Some terms) = λ e. absurd (cc)
 silent-verify p v s h = h
 
 silent-last : (p : Peering) (b : Bool) (info : ℕ) → IsSilent (on_last_disconnect p b info)
 silent-last p true info = λ e. absurd (cc)
-silent-last p false info = silent-ended p info
+silent-last p false info = silent-ended p AskedThere info
 
 silent-disconnect : (p : Peering) (s : PeerState) (b : Bool) (info : ℕ) → IsSilent p → IsSilent (on_disconnect_in s p b info)
 silent-disconnect p state.Connected b info h = silent-last p b info
 silent-disconnect p state.DisconnectLater b info h = silent-last p b info
-silent-disconnect p state.Connecting b info h = silent-ended p info
-silent-disconnect p state.Disconnecting b info h = silent-ended p info
+silent-disconnect p state.Connecting b info h = silent-ended p AskedThere info
+silent-disconnect p state.Disconnecting b info h = silent-ended p AskedThere info
 silent-disconnect p state.Answering b info h = λ e. absurd (cc)
 silent-disconnect p s b info h = h
 
@@ -221,7 +223,7 @@ silent-obeyed p now sent m h = by p.state refl
 
 -- what else happens at it
 silent-went : (p : Peering) (s : PeerState) → IsSilent p → IsSilent (gone_on_in s p)
-silent-went p state.AckDisconnect h = silent-ended p p.info
+silent-went p state.AckDisconnect h = silent-ended p AskedThere p.info
 silent-went p state.Parting h = by (nat_lt 0 (length p.outbox.control.queued))
   where
     by : (b : Bool) → IsSilent (cond b p (freed p))
@@ -241,7 +243,7 @@ silent-ticked p n h = by (expiry_of p n)
   where
     cut : (s : PeerState) → IsSilent (cut_off_in s p)
     cut state.Answering = λ e. absurd (cc)
-    cut s = silent-ended p 0
+    cut s = silent-ended p (silence_ending s) 0
 
     pings : (q : Peering) → IsSilent q → IsSilent (pinged q n)
     pings q g = go (is_pinged q n) refl

@@ -47,6 +47,7 @@ use Rattle.law_network.specs.Own.{IsOwn, config_by, clock_by}
 use Rattle.law_network.specs.Steps.{Happening, Calls, Delivers, beside}
 use Rattle.law_network.specs.World.{World, HappensAt, Makes, Runs, site_of, side_of, other, address_of, joined_config}
 use Rattle.law_network.specs.World as world
+use Rattle.law_network.proofs.Accepting.{accepted}
 use Rattle.law_network.proofs.Alone.{by-call}
 use Rattle.law_network.proofs.Beginning.{each-beginning, lived-all}
 use Rattle.law_network.proofs.Matching.{was-set, matches}
@@ -81,7 +82,7 @@ pub record Habit (now time : ℕ) (p : Peering) : Type 0 where
 -- ---- what a peer does at a moment
 -- a deed that is none of time, at a moment, and sets nothing of how long the peer waits
 abbrev pub IsNow : ℕ → Deed → Type 0
-IsNow n (deed.Submit packet answer) = Unit {0}
+IsNow n (deed.Submit packet limit answer) = Unit {0}
 IsNow n (deed.Emit now given) = now ≡ n
 IsNow n (deed.Come b m answer) = b.now ≡ n
 IsNow n (deed.Tick now short) = ⊥
@@ -99,15 +100,15 @@ low-now : (n now : ℕ) → n ≡ now % 2 ^ 32 → n < 2 ^ 32
 low-now n now e = omega arith
 
 deed-keeps : (now time : ℕ) (d : Deed) (p q : Peering) → IsNow (now % 2 ^ 32) d → Alone d p q → Habit now time p → Habit now time q
-deed-keeps now time (deed.Submit x (Ok done)) p q at a h = subst (Habit now time) (sym a.1) (record {
+deed-keeps now time (deed.Submit x limit (Ok done)) p q at a h = subst (Habit now time) (sym a.1) (record {
   aged = λ near. fair-submitted (Aged now time) most p x.channel (record { flags = x.flags; body = x.body }) (h.aged near);
   rests = fair-submitted (Rests (now % 2 ^ 32)) most p x.channel (record { flags = x.flags; body = x.body }) h.rests;
   wide = h.wide;
   unset = h.unset;
   modest = modest-submitted p x.channel (record { flags = x.flags; body = x.body }) h.modest;
-  unsent = unsent-lasts.submits p x.channel (record { flags = x.flags; body = x.body }) a.0 h.unsent;
+  unsent = unsent-lasts.submits p x.channel (record { flags = x.flags; body = x.body }) (accepted limit p x.channel (record { flags = x.flags; body = x.body }) a.0) h.unsent;
 })
-deed-keeps now time (deed.Submit x (Err why)) p q at a h = subst (Habit now time) (sym a.1) h
+deed-keeps now time (deed.Submit x limit (Err why)) p q at a h = subst (Habit now time) (sym a.1) h
 deed-keeps now time (deed.Emit n given) p q at a h = subst (Habit now time) (sym (a.1 ∙ ap (λ m. emitted p m) at)) (record {
   aged = λ near. ages-emitted now time p (h.aged near);
   rests = rests-emitted (now % 2 ^ 32) p (low-now (now % 2 ^ 32) now refl) h.rests;
@@ -188,6 +189,7 @@ fell-now h x (call.NextEvent (Some (tells.Receive name packet))) ds k f = subst 
 fell-now h x (call.NextEvent (Some (tells.Disconnect name info))) ds k f = subst (Each (IsNow h.clock)) (sym f) (each-up-to (IsNow h.clock) h.event_turn name.slot x.number _ _ tt tt)
 fell-now h x (call.NextEvent (Some (tells.Refused seat number why))) ds k f = subst (Each (IsNow h.clock)) (sym f) tt
 fell-now h x (call.Admit what answer) ds k f = subst (Each (IsNow h.clock)) (sym f) tt
+fell-now h x (call.SetSendLimit bytes commands) ds k f = subst (Each (IsNow h.clock)) (sym f) tt
 fell-now h x c ds k f = absurd k
 
 -- ---- a host
@@ -364,8 +366,10 @@ is-tick-or w (happen.Take side) (answers.Taken event) what m = inr (subst IsStil
 is-tick-or w (happen.Take side) answer what m = absurd m
 is-tick-or w (happen.Disconnect side peer how info) answers.Done what m = inr (subst IsStillThing (sym m) tt)
 is-tick-or w (happen.Admit side what') answers.Done what m = inr (subst IsStillThing (sym m) tt)
+is-tick-or w (happen.SetSendLimit side bytes commands) answers.Done what m = inr (subst IsStillThing (sym m) tt)
 is-tick-or w (happen.Disconnect side peer how info) answer what m = absurd m
 is-tick-or w (happen.Admit side what') answer what m = absurd m
+is-tick-or w (happen.SetSendLimit side bytes commands) answer what m = absurd m
 
 world-step : (time : ℕ) (w v : World) (e : WorldEvent) (answer : Result Answer Refusal) → world.Steps w e answer v → WorldHabits time w → WorldHabits (time + passes e) v
 world-step time w v e (Err why) step k = λ side. subst (λ (u : World). HostHabits (time + passes e) (site_of u side).host) (sym step.1) (host-more time (time + passes e) (site_of w side).host (omega arith) (k side))

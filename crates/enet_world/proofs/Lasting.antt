@@ -19,6 +19,7 @@ use Rattle.law_connection.proofs.Events.{took}
 use Rattle.law_connection.proofs.PeerChanges.{Core, Changes, kept-moved, kept-left, kept-set, kept-emitted, kept-given_way, kept-heeded, kept-told_again}
 use Rattle.law_network.specs.Deeds.{Deed, Alone, AllAlone, emitted}
 use Rattle.law_network.specs.Deeds as deed
+use Rattle.law_network.proofs.Accepting.{accepted}
 use Rattle.law_network.proofs.Matching.{was-set, matches}
 use Rattle.law_network.proofs.Submitting.{same-some}
 use Rattle.law_network.specs.Shown.{RunsAt}
@@ -42,8 +43,9 @@ obeys P (Err stop.Memory) wants o p q a h after = subst P (sym a.2) h
 obeys P (Err why) wants o p q a h after = subst P (sym a.1) after
 
 pub lasts-alone : (P : Peering → Type 0) → Lasts P → (d : Deed) (p q : Peering) → Alone d p q → P p → P q
-lasts-alone P k (deed.Submit x (Ok done)) p q a h = subst P (sym a.1) (k.submits p x.channel (record { flags = x.flags; body = x.body }) a.0 h)
-lasts-alone P k (deed.Submit x (Err why)) p q a h = subst P (sym a.1) h
+lasts-alone P k (deed.Submit x limit (Ok done)) p q a h =
+    subst P (sym a.1) (k.submits p x.channel (record { flags = x.flags; body = x.body }) (accepted limit p x.channel (record { flags = x.flags; body = x.body }) a.0) h)
+lasts-alone P k (deed.Submit x limit (Err why)) p q a h = subst P (sym a.1) h
 lasts-alone P k (deed.Emit now given) p q a h = subst P (sym a.1) (k.emits p now h)
 lasts-alone P k (deed.Come b m answer) p q a h = obeys P answer (wants_memory p b.now b.sent m) (heeded b.full p b.now b.sent m) p q a h (k.comes b.full p b.now b.sent m h)
 lasts-alone P k (deed.Tick now short) p q a h = subst P (sym a) (k.ticks short p now h)
@@ -126,8 +128,8 @@ falls-changes : (f : PeerState → Bool) → Falls f → Changes (IsIn f)
 falls-changes f k = record {
   quiet = λ p q e h. ap (λ (c : Core). f c.state) e ∙ h;
   controls = λ p what plain on h. h;
-  ends = λ p info here h. k.ended;
-  cuts = λ p now gone over h. k.ended;
+  ends = λ p why info here h. k.ended;
+  cuts = λ p why now gone over h. k.ended;
   frees = λ p h. k.free;
   parts = λ p info h. k.parting;
   disconnects = λ p info up h. k.asking;

@@ -130,8 +130,8 @@ unfolding AsksAlone
 asks-changes = record {
   quiet = λ p q e h. subst (λ (c : Core). (c.state ≡ state.Connecting) ⊎ NoOffers c.control) (sym e) h;
   controls = λ p what plain on h. elim h [ inl e ↦ inl e | inr a ↦ inr (one-queued p.outbox.control what plain a) ];
-  ends = λ p info here h. inr (none-offered p.outbox.control.number);
-  cuts = λ p now gone over h. inr (none-offered p.outbox.control.number);
+  ends = λ p why info here h. inr (none-offered p.outbox.control.number);
+  cuts = λ p why now gone over h. inr (none-offered p.outbox.control.number);
   frees = λ p h. inr (none-offered p.outbox.control.number);
   parts = λ p info h. inr (one-queued (record { number = p.outbox.control.number; queued = []; sent = [] }) (control.DisconnectNow info) refl (none-offered p.outbox.control.number));
   disconnects = λ p info up h. inr (one-queued (record { number = p.outbox.control.number; queued = []; sent = [] }) (control.Disconnect info) refl (none-offered p.outbox.control.number));

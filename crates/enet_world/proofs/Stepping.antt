@@ -64,3 +64,8 @@ pub admitted : (side : Side) (what : Admission) (here new far : Site) (n : ℕ) 
     → Steps (world_of side here far n) (happen.Admit side what) (Ok answers.Done) (world_of side new far n)
 admitted side what here new far n h =
     done side here new far n n (happen.Admit side what) answers.Done (Calls (call.Admit what (Ok tt))) refl refl (h n far) refl
+
+pub limited : (side : Side) (bytes commands : ℕ) (here new far : Site) (n : ℕ) → CallsAt (call.SetSendLimit bytes commands) here new
+    → Steps (world_of side here far n) (happen.SetSendLimit side bytes commands) (Ok answers.Done) (world_of side new far n)
+limited side bytes commands here new far n h =
+    done side here new far n n (happen.SetSendLimit side bytes commands) answers.Done (Calls (call.SetSendLimit bytes commands)) refl refl (h n far) refl

@@ -114,6 +114,7 @@ adds w (happen.Take side) (answers.Taken (Some event)) what m s q here = subst (
 })
 adds w (happen.Disconnect side peer how info) answers.Done what m s q here = adds-none s q _ _ what _ m (λ channel. refl) refl (λ channel. refl) refl
 adds w (happen.Admit side what') answers.Done what m s q here = adds-none s q _ _ what _ m (λ channel. refl) refl (λ channel. refl) refl
+adds w (happen.SetSendLimit side bytes commands) answers.Done what m s q here = adds-none s q _ _ what _ m (λ channel. refl) refl (λ channel. refl) refl
 adds w event answer what m s q here = absurd m
 
 -- no stranger is there
@@ -127,6 +128,7 @@ brings-none w (happen.Tick side ms) answers.Done what m = ap is_guest m
 brings-none w (happen.Take side) (answers.Taken event) what m = ap is_guest m
 brings-none w (happen.Disconnect side peer how info) answers.Done what m = ap is_guest m
 brings-none w (happen.Admit side what') answers.Done what m = ap is_guest m
+brings-none w (happen.SetSendLimit side bytes commands) answers.Done what m = ap is_guest m
 brings-none w event answer what m = absurd m
 
 -- what begins, of an event that makes a call: by a Connect one connection, with this end
@@ -163,6 +165,7 @@ begins w (happen.Tick side ms) answers.Done what m = begins-none w _ _ what _ m 
 begins w (happen.Take side) (answers.Taken event) what m = begins-none w _ _ what _ m refl refl
 begins w (happen.Disconnect side peer how info) answers.Done what m = begins-none w _ _ what _ m refl refl
 begins w (happen.Admit side what') answers.Done what m = begins-none w _ _ what _ m refl refl
+begins w (happen.SetSendLimit side bytes commands) answers.Done what m = begins-none w _ _ what _ m refl refl
 begins w event answer what m = absurd m
 
 -- ---- what is told of a world

@@ -56,8 +56,8 @@ unsent-changes : Changes IsUnsent
 unsent-changes = record {
   quiet = λ p q e h at i. ap (λ (c : Core). sender_in (slice_get c.senders i)) e ∙ h (ap (λ (c : Core). c.state) (sym e) ∙ at) i;
   controls = λ p what plain on h. h;
-  ends = λ p info here h at. absurd (cc);
-  cuts = λ p now gone over h at. absurd (cc);
+  ends = λ p why info here h at. absurd (cc);
+  cuts = λ p why now gone over h at. absurd (cc);
   frees = λ p h at. absurd (cc);
   parts = λ p info h at. absurd (cc);
   disconnects = λ p info up h at. absurd (cc);

@@ -131,6 +131,21 @@ fn admit(
     Ok(Answer::Done)
 }
 
+/// The user of a side sets at how much queued or unacknowledged its host's peers take no further packet.
+fn set_send_limit(
+    here: &mut Site,
+    far: &Site,
+    count: u64,
+    side: Side,
+    bytes: u64,
+    commands: u64,
+) -> Result<Answer, Refusal>
+    ensures { Steps (world_of side here.old far.now count) (happen.SetSendLimit side bytes commands) result (world_of side here.new far.now count) }
+{
+    here.set_send_limit(bytes, commands);
+    Ok(Answer::Done)
+}
+
 /// The side at which an event happens.
 pub fn side_of(event: &WorldEvent) -> Side
     ensures { result ≡ side_of event.now }
@@ -143,7 +158,8 @@ pub fn side_of(event: &WorldEvent) -> Side
         | WorldEvent::Tick { side, .. }
         | WorldEvent::Take { side }
         | WorldEvent::Disconnect { side, .. }
-        | WorldEvent::Admit { side, .. } => side,
+        | WorldEvent::Admit { side, .. }
+        | WorldEvent::SetSendLimit { side, .. } => side,
     }
 }
 
@@ -185,5 +201,10 @@ pub(crate) fn happen(
             info,
         } => disconnect(here, far, *count, *side, *peer, *how, *info),
         WorldEvent::Admit { side, what } => admit(here, far, *count, *side, *what),
+        WorldEvent::SetSendLimit {
+            side,
+            bytes,
+            commands,
+        } => set_send_limit(here, far, *count, *side, *bytes, *commands),
     }
 }
