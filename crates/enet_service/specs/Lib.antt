@@ -1,2 +1,3 @@
 pub mod ServiceRuns
 pub mod Queues
+pub mod Lacking

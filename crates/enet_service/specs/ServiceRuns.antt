@@ -1,5 +1,5 @@
 -- What a service's thread does in a run.
-use Rattle.std.specs.Prelude.{◌≡◌, ◌⊎◌, ℕ, ◌+◌, ◌*◌, ◌≤◌, ◌<◌, nat_lt, if◌then◌else◌, min, List, [], ◌∷◌, ◌++◌, Option, length}
+use Rattle.std.specs.Prelude.{◌≡◌, ◌⊎◌, ℕ, ◌+◌, ◌*◌, ◌≤◌, ◌<◌, nat_lt, if◌then◌else◌, min, List, [], ◌∷◌, ◌++◌, Option, Some, None, length}
 use Rattle.std.specs.List.{All}
 use Rattle.enet_codec.specs.declared.config.Config.{Config}
 use Rattle.enet_codec.specs.declared.event.DisconnectMode.{DisconnectMode}
@@ -20,6 +20,7 @@ use Rattle.enet_bridge.specs.declared.source.QueueSource.{QueueSource}
 use Rattle.enet_bridge.specs.declared.sink.QueueSink.{QueueSink}
 use Rattle.enet_bridge.specs.Ends.{orders}
 use Rattle.enet_bridge.specs.Serving.{queue_of, drain_of, poster_of}
+use Rattle.enet_outbox.specs.declared.parts.SendLimit.{SendLimit}
 use Rattle.enet_host.specs.Host.{Host}
 use Rattle.enet_host.specs.Opening.{opened}
 use Rattle.enet_turn.specs.declared.report.Report.{Report}
@@ -58,6 +59,16 @@ pub record AreNew (queue : SubmitQueue) (events : Queue) (ends : Ends) : Type 0 
 -- a service that did nothing yet: its host as opened, and nothing waits
 abbrev pub beginning : Config → Service Host
 beginning config = record { host = opened config; waiting = nothing_waits }
+
+-- the limit that a host has once this one is set, if there is one to be set
+abbrev pub limit_after : Option SendLimit → Option SendLimit → Option SendLimit
+limit_after None limit = limit
+limit_after (Some old) None = Some old
+limit_after (Some old) (Some limit) = Some limit
+
+-- a service whose host has this limit on what it sends from now on, if there is one to be set
+abbrev pub limited : Option SendLimit → Service Host → Service Host
+limited limit s = record s { host = record s.host { send_limit = limit_after s.host.send_limit limit } }
 
 -- so few orders were taken and events told that a run for a time may go on
 abbrev pub AreFew : Report → Type 0

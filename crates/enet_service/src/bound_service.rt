@@ -5,6 +5,7 @@ use crate::watch::Watch;
 use crate::watched::WatchedHost;
 use crate::{Report, Service, Wire};
 use enet_codec::{Config, Refusal};
+use enet_outbox::SendLimit;
 use std::alloc::Global;
 
 /// A service over our host, and the wire at which it is reached. It is given up by [`BoundService::close`] alone.
@@ -16,7 +17,7 @@ pub struct BoundService<N> {
 impl<N: Wire + Drop> BoundService<N> {
     ghost use Rattle.std.specs.Prelude.{◌≡◌, true, false, IfOk, IfErr, Err};
     ghost use Rattle.enet_codec.specs.Config.{is_in_range};
-    ghost use Rattle.enet_service.specs.ServiceRuns.{beginning};
+    ghost use Rattle.enet_service.specs.ServiceRuns.{beginning, limited};
 
     /// A host of this configuration, which did nothing yet, at this wire.
     ///
@@ -31,6 +32,19 @@ impl<N: Wire + Drop> BoundService<N> {
             wire,
             service: Service::new(host),
         })
+    }
+
+    /// Sets at how much queued or unacknowledged its host's peers take no further packet, if there is a limit ([`HostCore::set_send_limit`]):
+    /// an order to submit one is refused then, by E9. Where None is given all stays as it is. It is made to be called before the first turn.
+    ///
+    /// [`HostCore::set_send_limit`]: enet_host::HostCore::set_send_limit
+    pub fn set_send_limit(&mut self, limit: Option<SendLimit>)
+        ensures limited { self.new.service ≡ limited limit self.old.service }
+        ensures wire { self.new.wire ≡ self.old.wire }
+    {
+        if let Some(SendLimit { bytes, commands }) = limit {
+            self.service.host.set_send_limit(bytes, commands);
+        }
     }
 
     /// Shows what turns did, with what the host noted in them, to whoever watches; then the host forgets what it noted.

@@ -3,7 +3,7 @@
 //! # What it is for
 //!
 //! - A service beside a game thread: [`Queues::open`], [`BoundService::open`] and [`beside_turns`], which runs the service beside a function
-//!   of the user's; then [`settle`].
+//!   of the user's; then [`settle`]. [`BoundService::set_send_limit`] bounds what waits for each peer, before the first run.
 //! - One thread that does all: by [`run`], or by the parts of a turn, between which it makes the orders (`enet_turn`, of which all is handed
 //!   on here).
 //!
@@ -49,6 +49,7 @@ pub use enet_bridge::{
     Source, TakerBell,
 };
 pub use enet_host::HostCore;
+pub use enet_outbox::SendLimit;
 pub use enet_turn::{Core, Fault, Report, Service, Waiting, run};
 pub use enet_wire::{
     Bell, MOST_LOST_PER_TURN, MOST_PER_TURN, MemoryWire, MioWire, SendOutcome, Step, Told,

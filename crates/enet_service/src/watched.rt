@@ -1,18 +1,21 @@
-//! A host whose operator is told who came and went, whom it asked for a connection, and which orders were refused.
+//! A host whose operator is told who came and went, whom it asked for a connection, which orders were refused, and who lacks a packet.
 
+ghost use Rattle.std.specs.Prelude.{◌≡◌};
 ghost use Rattle.enet_turn.specs.Calls.{why_of};
 ghost use Rattle.enet_turn.specs.Hosting.{AppliesOrder};
 ghost use Rattle.enet_submit.specs.declared.order.Order.TheVariants as orders;
+ghost use Rattle.enet_service.specs.Lacking.{is_lacked};
 
 use crate::Core;
-use enet_codec::{Addr, Config, DisconnectMode, Event, PeerRef, Refusal, Stop};
+use enet_codec::{Addr, Config, DisconnectMode, Event, PeerRef, RELIABLE, Refusal, Stop};
 use enet_host::HostCore;
+use enet_peer::Ending;
 use enet_submit::Order;
 use std::alloc::Global;
 use std::marker::Model;
 
-/// So many notes of refused orders are kept at most until they are looked at, and so many others: so that refused orders never take the place
-/// of who comes and goes.
+/// So many notes of refused orders are kept at most until they are looked at, so many of peers that lack a packet, and so many others: so
+/// none of these takes the place of another.
 const MOST_NOTES: usize = 4_096;
 
 /// What happened at a host, as its operator is told; the `Note` of `enet_wire` is of one call of a wire.
@@ -21,14 +24,31 @@ pub enum Note {
     /// An order to connect was carried out: this peer asks there, under this connect id, which is the order's `word`. Its Connect event
     /// names the same peer, so of several orders to connect each is known again by its word, where the words differ. Where the other host
     /// doesn't answer no further note comes; the Disconnect event names this peer.
-    Asked { met: Met, connect_id: u32 },
+    Asked {
+        met: Met,
+        connect_id: u32,
+    },
     /// This peer connected. `info` is the word that it gave.
-    Came { met: Met, info: u32 },
+    Came {
+        met: Met,
+        info: u32,
+    },
     /// The connection of this peer has ended. `info` is the word of the other end's DISCONNECT, 0 where this end's own was acknowledged
-    /// or the peer timed out.
-    Went { met: Met, info: u32 },
+    /// or the peer timed out; `why` tells which.
+    Went {
+        met: Met,
+        info: u32,
+        why: Option<Ending>,
+    },
     /// An order was refused: one to this peer, or where None stands one to connect.
-    Refused { peer: Option<PeerRef>, why: Refusal },
+    Refused {
+        peer: Option<PeerRef>,
+        why: Refusal,
+    },
+    /// A reliable packet was refused to this peer because so much waited for it (E9): what the peer gets lacks it. It is noted once a peer.
+    Lacks {
+        met: Met,
+    },
 }
 
 /// A peer and where it is.
@@ -45,15 +65,18 @@ pub struct WatchedHost {
     // The peer of each slot whose connection was told and whose end wasn't.
     met: Vec<Option<Met>>,
     notes: Vec<Note>,
-    // How many of them are of refused orders, and how many others.
+    // By their slots, the last peer of which it was noted that it lacks a packet.
+    lacking: Vec<Option<PeerRef>>,
+    // How many of the notes are of refused orders, how many of peers that lack a packet, and how many others.
     noted_refusals: usize,
+    noted_lacking: usize,
     noted_others: usize,
-    // How many notes found no place, those of refused orders apart.
+    // How many of the others found no place.
     missed: u64,
     refused: u64,
     // How many datagrams were stopped so far, and how many orders refused, by the number of the reason.
     stops: [u64; 14],
-    refusals: [u64; 9],
+    refusals: [u64; 10],
 }
 
 impl Model for WatchedHost {
@@ -72,6 +95,7 @@ impl WatchedHost {
     ghost use Rattle.std.specs.Prelude.{◌≡◌, true, false, List, length, IfOk, IfErr, Err};
     ghost use Rattle.enet_codec.specs.Config.{is_in_range};
     ghost use Rattle.enet_host.specs.Host.{all_names};
+    ghost use Rattle.enet_host.specs.Calls.{with_send_limit};
     ghost use Rattle.enet_host.specs.Opening.{opened};
     ghost use Rattle.enet_service.specs.ServiceRuns.{PartsFrom};
 
@@ -86,20 +110,24 @@ impl WatchedHost {
         if !config.is_in_range() {
             return Err(Refusal::BadConfig);
         }
+        let slots = usize::from(config.peers);
         let mut met = Vec::new(alloc);
-        if met.resize(usize::from(config.peers), None).is_err() {
+        let mut lacking = Vec::new(alloc);
+        if met.resize(slots, None).is_err() || lacking.resize(slots, None).is_err() {
             return Err(Refusal::Memory);
         }
         Ok(WatchedHost {
             host: HostCore::open(alloc, config)?,
             met,
             notes: Vec::new(alloc),
+            lacking,
             noted_refusals: 0,
+            noted_lacking: 0,
             noted_others: 0,
             missed: 0,
             refused: 0,
             stops: [0; 14],
-            refusals: [0; 9],
+            refusals: [0; 10],
         })
     }
 
@@ -110,13 +138,21 @@ impl WatchedHost {
         &self.host
     }
 
+    /// Sets at how much queued or unacknowledged its peers take no further packet ([`HostCore::set_send_limit`]).
+    pub fn set_send_limit(&mut self, bytes: u64, commands: u64)
+        ensures { self.new ≡ with_send_limit self.old (record { bytes = bytes; commands = commands }) }
+    {
+        self.host.set_send_limit(bytes, commands);
+    }
+
     /// What was noted since [`WatchedHost::forget`], in order.
     pub fn notes(&self) -> &[Note] {
         self.notes.as_slice()
     }
 
-    /// How many notes since then weren't kept, those of refused orders apart: 4,096 are, if there is memory. So many of refused orders are
-    /// kept beside them; [`WatchedHost::refused`] counts all.
+    /// How many notes since then weren't kept of who was asked, came and went: 4,096 are, if there is memory. So many of refused orders are
+    /// kept beside them; [`WatchedHost::refused`] counts all. If there is no place for the note that a peer lacks a packet, the next refused
+    /// one that it lacks makes it.
     pub fn missed(&self) -> u64 {
         self.missed
     }
@@ -131,7 +167,7 @@ impl WatchedHost {
         self.stops.get(usize::from(number)).copied().unwrap_or(0)
     }
 
-    /// How many orders were refused so far for the reason of this number: 1 for E1 to 8 for E8. A host has no other reason; 0 of others.
+    /// How many orders were refused so far for the reason of this number: 1 for E1 to 9 for E9. A host has no other reason; 0 of others.
     pub fn refusals(&self, number: u8) -> u64 {
         self.refusals.get(usize::from(number)).copied().unwrap_or(0)
     }
@@ -147,6 +183,7 @@ impl WatchedHost {
     {
         self.notes.clear();
         self.noted_refusals = 0;
+        self.noted_lacking = 0;
         self.noted_others = 0;
         self.missed = 0;
         self.refused = 0;
@@ -207,6 +244,26 @@ impl WatchedHost {
         }
     }
 
+    // Notes once that a peer lacks a packet, if this is such a refusal.
+    fn note_lacking(&mut self, peer: PeerRef, flags: u8, why: Refusal)
+        ensures { self.new ≡ self.old }
+    {
+        if !is_lacked(flags, why) || self.noted_lacking >= MOST_NOTES {
+            return;
+        }
+        let Some(address) = self.host.address(peer) else {
+            return;
+        };
+        let Some(place) = self.lacking.get_mut(usize::from(peer.slot)) else {
+            return;
+        };
+        let met = Met { peer, address };
+        if *place != Some(peer) && self.notes.push(Note::Lacks { met }).is_ok() {
+            *place = Some(peer);
+            self.noted_lacking += 1;
+        }
+    }
+
     // Asks for a connection, and notes which peer asks.
     fn ask(&mut self, addr: Addr, channels: u8, info: u32, word: u32) -> Result<(), Refusal>
         ensures { AppliesOrder self.old (orders.Connect addr channels info word) (why_of result) self.new }
@@ -254,7 +311,8 @@ impl WatchedHost {
             return;
         };
         if let Some(met) = place.take() {
-            self.note(Note::Went { met, info });
+            let why = self.host.ending(met.peer);
+            self.note(Note::Went { met, info, why });
         }
     }
 }
@@ -282,7 +340,10 @@ impl Core for WatchedHost {
                 body,
             } => match self.host.submit(peer, channel, flags, body) {
                 Ok(()) => return Ok(()),
-                Err((why, _body)) => Err(why),
+                Err((why, _body)) => {
+                    self.note_lacking(peer, flags, why);
+                    Err(why)
+                }
             },
             Order::Connect {
                 addr,
@@ -316,6 +377,16 @@ impl Core for WatchedHost {
     }
 }
 
+// Whether a packet with these flags was refused because its receiver is full (E9), though it is reliable.
+fn is_lacked(flags: u8, why: Refusal) -> bool
+    ensures { result ≡ is_lacked flags why }
+{
+    match why {
+        Refusal::Full => flags & RELIABLE != 0,
+        _ => false,
+    }
+}
+
 // The number of a reason for which a host refuses an order.
 fn number_of(why: Refusal) -> usize {
     match why {
@@ -327,6 +398,7 @@ fn number_of(why: Refusal) -> usize {
         Refusal::WindowEnd => 6,
         Refusal::NoSlot => 7,
         Refusal::BadConfig => 8,
+        Refusal::Full => 9,
         _ => 0,
     }
 }

@@ -16,7 +16,7 @@ use Rattle.enet_host.specs.Opening.{host_basis, Connects}
 use Rattle.enet_host.specs.Receiving.{Receives}
 use Rattle.enet_host.specs.Serving.{Serves}
 use Rattle.enet_host.specs.Ticking.{ticked}
-use Rattle.enet_slot.specs.Calls.{Does, DoesWithMemory, submission, leaving}
+use Rattle.enet_slot.specs.Calls.{Does, DoesWithMemory, submission, unless_full, leaving}
 use Rattle.enet_host.specs.Calls.{Takes, on_named}
 use Rattle.enet_turn.specs.Calls.{Calls, why_of}
 
@@ -24,13 +24,13 @@ use Rattle.enet_turn.specs.Calls.{Calls, why_of}
 abbrev pub Ticks : Host → ℕ → Host → Type 0
 Ticks old ms new = new ≡ ticked old ms
 
--- an order is the call that it names
+-- an order is the call that it names: a packet is refused, too, where its peer is full
 abbrev pub AppliesOrder : Host → Order → Option Refusal → Host → Type 0
 AppliesOrder old (Connect addr channels info word) why new =
     (answer : Result PeerRef Refusal) × Connects (host_basis old) old.slots (record { address = addr; channels = channels; info = info; word = word }) answer new.slots
     × KeepsRest old new × (why ≡ why_of answer)
 AppliesOrder old (Submit peer channel flags body) why new =
-    (answer : Result (Unit {0}) Refusal) × DoesWithMemory answer (on_named old.slots peer (submission channel (record { flags = flags; body = body }))) old.slots new.slots
+    (answer : Result (Unit {0}) Refusal) × DoesWithMemory answer (on_named old.slots peer (unless_full old.send_limit (submission channel (record { flags = flags; body = body })))) old.slots new.slots
     × KeepsRest old new × (why ≡ why_of answer)
 AppliesOrder old (Disconnect peer how info) why new =
     (answer : Result (Unit {0}) Refusal) × Does answer (on_named old.slots peer (leaving how info)) old.slots new.slots × KeepsRest old new × (why ≡ why_of answer)

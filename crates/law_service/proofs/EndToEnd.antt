@@ -37,13 +37,13 @@ use Rattle.law_headline.specs.Page.{User, IsHeadline, IsBehind, is_of}
 use Rattle.law_headline.proofs.Kept.{stays-recorded}
 use Rattle.law_headline.proofs.Covered.{stays-covered}
 use Rattle.law_headline.proofs.Page.{IsUsers, IsBegun, called, called-some, has-end, named-page, holds-behind}
-use Rattle.enet_service.specs.ServiceRuns.{beginning}
+use Rattle.enet_service.specs.ServiceRuns.{beginning, limited}
 use Rattle.enet_turn.specs.Spans.{Span, rounds_in}
 use Rattle.law_service.specs.Told.{told, submitted_in, taken_in}
-use Rattle.law_service.specs.Law.{noted}
+use Rattle.law_service.specs.Law.{noted, setting, begun}
 use Rattle.law_service.specs.EndToEnd.{rounds_of, Running, brings_guest, user_of, user_in, user_of_calls, user_if, HoldsThroughout, AtEachMoment, configs, IsCall, Makes, AllMake, is_node, call_at, calls_at, asks, asked, EndToEnd, Part, Threads, ThreadsAt, user_by, user_at, BetweenThreads}
 use Rattle.law_service.proofs.Lives.{Behind, all-behind}
-use Rattle.law_service.proofs.Telling.{nothing-sorted, life-tells}
+use Rattle.law_service.proofs.Telling.{nothing-sorted, setting-silent, sent-behind, life-tells}
 
 push : {X Y : Type 0} (g : X → List Y) (hs : List X) (h : X) → flat_map g (hs ++ h ∷ []) ≡ flat_map g hs ++ g h
 push g hs h = flat_map-append g hs (h ∷ []) ∙ ap (λ (l : List _). flat_map g hs ++ l) (append-nil (g h))
@@ -539,7 +539,7 @@ user-calls : (hosts : Addr → Bool) (r : Running) → user_of_calls hosts r.cal
 user-calls hosts r = (λ i. record { submitted = submitted_in r.calls; taken = λ q. takes q i; guests = list_any (brings_guest hosts) r.calls })
   where
     takes : (q : PeerRef) → taken_in r.calls q ≡ (user_of hosts r).taken q
-    takes q = sym ((life-tells (beginning r.config) r.spans r.left r.calls refl r.turns).1 q)
+    takes q = sym ((life-tells (limited r.limit (beginning r.config)) (setting r.limit) r.spans r.left r.calls (setting-silent r.limit) refl r.turns).1 q)
 
 pub end-to-end : EndToEnd
 end-to-end home apart server clients one all ms f r at-server at-clients = (named.0, (all-moments.0, λ x. named.1 x ∙ sym (all-moments.1 x)))
@@ -567,15 +567,16 @@ end-to-end home apart server clients one all ms f r at-server at-clients = (name
 behind : (hosts : Addr → Bool) (r : Running) (t : Threads r) → IsBehind (user_of hosts r) (user_by hosts r t)
 behind hosts r t = record {
   same = refl;
-  more = λ p channel. (let m = k.more p channel in (m.0, m.1 ∙ ap (λ (cs : List Call). submitted_in cs p channel ++ m.0) (sym k.calls_are)));
+  more = λ p channel. (let m = k.more p channel in
+      (m.0, m.1 ∙ ap (λ (ps : List Packet). ps ++ m.0) (sym (sent-behind (setting r.limit) k.calls r.calls (setting-silent r.limit) k.calls_are p channel))));
   fewer = λ p. (
     filter (is_of p) k.left,
     ap (λ (spans : List Span). filter (is_of p) (told (rounds_in spans) r.left.waiting)) t.spans_are ∙ ap (filter (is_of p)) k.got ∙ filter-append (is_of p) (flat_map (λ (x : Part). x.got) t.parts) k.left,
   );
 }
   where
-    k : Behind (noted (beginning r.config) []) t.parts (noted r.left r.calls)
-    k = all-behind (noted (beginning r.config) []) t.parts (noted r.left r.calls) nothing-sorted t.in_order t.over
+    k : Behind (begun r.config r.limit) t.parts (noted r.left r.calls)
+    k = all-behind (begun r.config r.limit) t.parts (noted r.left r.calls) nothing-sorted t.in_order t.over
 
 pub behind-at : (hosts : Addr → Bool) (o : Option Running) (t : ThreadsAt o) → IsBehind (user_in hosts o) (user_at hosts o t)
 behind-at hosts None t = record { more = λ p channel. ([], refl); fewer = λ p. ([], refl); same = refl }

@@ -10,7 +10,9 @@ use Rattle.enet_codec.specs.declared.event.Event.{Event}
 use Rattle.enet_codec.specs.declared.event.PeerRef.{PeerRef}
 use Rattle.enet_codec.specs.declared.packet.Packet.{Packet}
 use Rattle.enet_submit.specs.declared.order.Submission.{Submission}
+use Rattle.enet_outbox.specs.declared.parts.SendLimit.{SendLimit}
 use Rattle.enet_host.specs.Host.{Host}
+use Rattle.enet_host.specs.Opening.{opened}
 use Rattle.law_network.specs.Calls.{Call}
 use Rattle.law_network.specs.Steps.{Calls}
 use Rattle.law_headline.specs.Kept.{submitted_by}
@@ -20,16 +22,16 @@ use Rattle.enet_turn.specs.Hosting.{host_calls}
 use Rattle.enet_turn.specs.Phases.{Chain}
 use Rattle.enet_service.specs.Queues.{given, accepted}
 use Rattle.enet_turn.specs.Run.{all_gave, all_puts}
-use Rattle.enet_service.specs.ServiceRuns.{beginning}
+use Rattle.enet_service.specs.ServiceRuns.{beginning, limited}
 use Rattle.enet_turn.specs.Spans.{Span, IsSpan, Spans, rounds_in}
 use Rattle.enet_turn.proofs.PhaseSteps.{chain_more}
 use Rattle.enet_turn.specs.Turn.{Round}
 use Rattle.law_service.specs.EndToEnd.{Running, Part, AreRuns, AreOver, Threads, refusals_of, packets_in}
-use Rattle.law_service.specs.Law.{noted}
+use Rattle.law_service.specs.Law.{noted, begun}
 use Rattle.law_service.specs.Noting.{Noted, noting}
 use Rattle.law_service.specs.Queues.{EachLifeHasThreads}
 use Rattle.law_service.specs.Told.{held_in, told, is_refusal_of, is_refused, refusal, packet_unless, packets_of, submitted_in}
-use Rattle.law_service.proofs.Lifting.{Leads, simulates}
+use Rattle.law_service.proofs.Lifting.{Leads, simulates, limit-is-call}
 use Rattle.law_service.proofs.Simulation.{over, spans-on}
 use Rattle.law_service.proofs.Telling.{Ledger, Sorted, sorted-on, told-refusals, accepted-append, spans-ledger, sent-by}
 
@@ -135,11 +137,19 @@ all-spans a [] b c = c
 all-spans a (x ∷ parts) b c = chain_more (IsSpan noting) a x.spans c.0 (flat_map (λ (y : Part). y.spans) parts) b c.1.1 (all-spans c.0 parts b c.2)
 
 pub life-has-threads : EachLifeHasThreads
-life-has-threads config parts left c over-all =
-    let m = runs-on (beginning config).host (beginning config) parts left (record { host = (beginning config).host; calls = [] }) c (refl, refl) in
-    let runs : AreRuns noting (noted (beginning config) []) parts (noted left m.0.calls) =
-    subst (λ (k : Noted). AreRuns noting (noted (beginning config) []) parts (over k left.waiting)) (λ i. record { host = m.1.0 i; calls = m.0.calls }) m.2 in (
-      record { config = config; spans = flat_map (λ (x : Part). x.spans) parts; left = left; calls = m.0.calls; turns = all-spans (noted (beginning config) []) parts (noted left m.0.calls) runs },
+life-has-threads config limit parts left c over-all =
+    let m = runs-on (opened config) (limited limit (beginning config)) parts left (begun config limit).host c (refl, limit-is-call config limit) in
+    let runs : AreRuns noting (begun config limit) parts (noted left m.0.calls) =
+    subst (λ (k : Noted). AreRuns noting (begun config limit) parts (over k left.waiting)) (λ i. record { host = m.1.0 i; calls = m.0.calls }) m.2 in (
+      record {
+        config = config;
+        limit = limit;
+        spans = flat_map (λ (x : Part). x.spans) parts;
+        left = left;
+        calls = m.0.calls;
+        turns = all-spans (begun config limit) parts (noted left m.0.calls) runs;
+      },
+      refl,
       refl,
       refl,
       record { parts = parts; in_order = runs; spans_are = refl; over = over-all },

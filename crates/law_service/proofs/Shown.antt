@@ -15,7 +15,7 @@ use Rattle.enet_turn.specs.Hosting.{host_calls}
 use Rattle.enet_turn.specs.Phases.{Chain}
 use Rattle.enet_service.specs.Queues.{given, accepted}
 use Rattle.enet_turn.specs.Run.{all_gave, all_puts}
-use Rattle.enet_service.specs.ServiceRuns.{Advances, Standing, TakesTurns, beginning}
+use Rattle.enet_service.specs.ServiceRuns.{Advances, Standing, TakesTurns, beginning, limited}
 use Rattle.enet_turn.specs.Spans.{Span, Parts, Spans, rounds_in}
 use Rattle.enet_turn.specs.Turn.{Round}
 use Rattle.enet_bridge.specs.Ends.{orders}
@@ -137,7 +137,7 @@ have-parts old (run ∷ runs) new c =
     }
 
 pub each-life-shows : EachLifeShows
-each-life-shows config runs left c =
-    let h : HaveParts (beginning config) runs left = have-parts (beginning config) runs left c in
-    let r = life-has-threads config h.parts left h.in_order h.over in
-    (r.0, r.1, r.2, r.3, subst (λ (ps : List Part). AreThreadsOf runs ps) (sym r.4) h.threads)
+each-life-shows config limit runs left c =
+    let h : HaveParts (limited limit (beginning config)) runs left = have-parts (limited limit (beginning config)) runs left c in
+    let r = life-has-threads config limit h.parts left h.in_order h.over in
+    (r.0, r.1, r.2, r.3, r.4, subst (λ (ps : List Part). AreThreadsOf runs ps) (sym r.5) h.threads)

@@ -21,6 +21,7 @@ use Rattle.enet_peer.specs.declared.parts.PeerEvent.{PeerEvent}
 use Rattle.enet_peer.specs.declared.parts.PeerEvent.TheVariants as told
 use Rattle.enet_slot.specs.Calls.{event_of}
 use Rattle.enet_slot.specs.Slot.{name_of}
+use Rattle.enet_outbox.specs.declared.parts.SendLimit.{SendLimit}
 use Rattle.enet_host.specs.Host.{Host}
 use Rattle.enet_host.specs.Calls.{TakesOne}
 use Rattle.law_connection.specs.LinkSteps.{Has}
@@ -40,7 +41,7 @@ use Rattle.law_headline.specs.Kept.{submitted_by, taken_by}
 use Rattle.law_headline.specs.Page.{is_of}
 use Rattle.law_service.specs.Noting.{Noted, Notes, IsOrder, noting, why_submitted}
 use Rattle.law_service.specs.Told.{told as told_by, held_in, is_refusal_of, packet_in, packet_unless, packets_of, submitted, taken, submitted_in, taken_in, Answered, refusal, is_refused, unless_refused, settled}
-use Rattle.law_service.specs.Law.{noted, AreNumbered, EachRunTells}
+use Rattle.law_service.specs.Law.{noted, setting, AreNumbered, EachRunTells}
 use Rattle.enet_turn.specs.Spans.{Span, Parts, Spans, rounds_in}
 use Rattle.law_service.proofs.Merging.{AreMerged, merged-left, merged-right, merged-append, both-none, first-of, second-of}
 use Rattle.law_service.proofs.Simulation.{over}
@@ -571,28 +572,53 @@ module _ (old new : Service Noted) (gave : List (Option Submission)) (puts : Lis
       (ap (filter (is_of name)) (sym l.orders_put ∙ ap (λ (o : Option Event). option_to_list o ++ flat_map refusal l.answered) none) ∙ none-of-peer name l.answered)
       ∙ ap (filter (is_of name)) (sym l.host_put)
 
-tells-by : (old : Service Host) (rounds : List Round) (new : Service Host) (calls : List Call) → old.waiting ≡ nothing_waits → Ledger (noted old []) (noted new calls) (all_gave rounds) (all_puts rounds) → AreTold rounds new calls
-tells-by old rounds new calls none l = (sends, takes)
+-- calls that submit nothing, and take nothing
+pub record AreSilent (first : List Call) : Type 0 where
+  pub sent : (name : PeerRef) (channel : ℕ) → submitted_in first name channel ≡ []
+  pub got : (name : PeerRef) → taken_in first name ≡ []
+
+none-silent : AreSilent []
+none-silent = record { sent = λ name channel. refl; got = λ name. refl }
+
+-- the call that sets a limit is one
+pub setting-silent : (limit : Option SendLimit) → AreSilent (setting limit)
+setting-silent None = record { sent = λ name channel. refl; got = λ name. refl }
+setting-silent (Some limit) = record { sent = λ name channel. refl; got = λ name. refl }
+
+-- so with them other calls submit, and take, what they do
+pub sent-behind : (first calls all : List Call) → AreSilent first → all ≡ first ++ calls → (name : PeerRef) (channel : ℕ) → submitted_in all name channel ≡ submitted_in calls name channel
+sent-behind first calls all s are name channel =
+    ap (λ (cs : List Call). submitted_in cs name channel) are ∙ flat_map-append (λ (c : Call). submitted_by name channel (Calls c)) first calls
+    ∙ ap (λ (ps : List Packet). ps ++ submitted_in calls name channel) (s.sent name channel)
+
+got-behind : (first calls all : List Call) → AreSilent first → all ≡ first ++ calls → (name : PeerRef) → taken_in all name ≡ taken_in calls name
+got-behind first calls all s are name =
+    ap (λ (cs : List Call). taken_in cs name) are ∙ flat_map-append (λ (c : Call). taken_by name (Calls c)) first calls ∙ ap (λ (es : List Event). es ++ taken_in calls name) (s.got name)
+
+tells-by : (old : Service Host) (first : List Call) (rounds : List Round) (new : Service Host) (calls : List Call) → AreSilent first → old.waiting ≡ nothing_waits → Ledger (noted old first) (noted new calls) (all_gave rounds) (all_puts rounds)
+    → AreTold rounds new calls
+tells-by old first rounds new calls silent none l = (sends, takes)
   where
     sorted : Sorted old.waiting
     sorted = subst Sorted (sym none) nothing-sorted
 
     refusals : filter is_refused (told_by rounds new.waiting) ≡ flat_map refusal l.answered
-    refusals = told-refusals (noted old []) (noted new calls) (all_gave rounds) (all_puts rounds) l sorted ∙ ap (λ (w : Waiting). option_to_list w.refusal ++ flat_map refusal l.answered) none
+    refusals = told-refusals (noted old first) (noted new calls) (all_gave rounds) (all_puts rounds) l sorted ∙ ap (λ (w : Waiting). option_to_list w.refusal ++ flat_map refusal l.answered) none
 
     takes : (name : PeerRef) → taken rounds new.waiting name ≡ taken_in calls name
     takes name =
-        told-of (noted old []) (noted new calls) (all_gave rounds) (all_puts rounds) l name (ap (λ (w : Waiting). w.refusal) none)
-        ∙ ap (λ (w : Waiting). filter (is_of name) (option_to_list w.event ++ l.made)) none ∙ l.taken_are name ∙ ap (λ (c : List Call). taken_in c name) (sym l.calls_are)
+        told-of (noted old first) (noted new calls) (all_gave rounds) (all_puts rounds) l name (ap (λ (w : Waiting). w.refusal) none)
+        ∙ ap (λ (w : Waiting). filter (is_of name) (option_to_list w.event ++ l.made)) none ∙ l.taken_are name ∙ sym (got-behind first l.calls calls silent l.calls_are name)
 
     sends : AreNumbered (given (all_gave rounds)) → (name : PeerRef) (channel : ℕ) → submitted rounds new.waiting name channel ≡ submitted_in calls name channel
     sends numbered name channel =
-        sent-by (noted old []) (noted new calls) (all_gave rounds) (all_puts rounds) l (told_by rounds new.waiting) (λ x. any-filtered x (told_by rounds new.waiting) ∙ ap (list_any (is_refusal_of x)) refusals) numbered name channel ∙ ap (λ (c : List Call). submitted_in c name channel) (sym l.calls_are)
+        sent-by (noted old first) (noted new calls) (all_gave rounds) (all_puts rounds) l (told_by rounds new.waiting) (λ x. any-filtered x (told_by rounds new.waiting) ∙ ap (list_any (is_refusal_of x)) refusals) numbered name channel
+        ∙ sym (sent-behind first l.calls calls silent l.calls_are name channel)
 
 pub each-tells : EachRunTells
-each-tells kind old rounds new calls none r = tells-by old rounds new calls none (rounds-ledger kind (noted old []) rounds (noted new calls) r)
+each-tells kind old rounds new calls none r = tells-by old [] rounds new calls none-silent none (rounds-ledger kind (noted old []) rounds (noted new calls) r)
 
-pub life-tells : (old : Service Host) (spans : List Span) (new : Service Host) (calls : List Call) → old.waiting ≡ nothing_waits → Spans noting (noted old []) spans (noted new calls)
+pub life-tells : (old : Service Host) (first : List Call) (spans : List Span) (new : Service Host) (calls : List Call) → AreSilent first → old.waiting ≡ nothing_waits → Spans noting (noted old first) spans (noted new calls)
     → (AreNumbered (given (all_gave (rounds_in spans))) → (name : PeerRef) (channel : ℕ) → submitted (rounds_in spans) new.waiting name channel ≡ submitted_in calls name channel)
     × ((name : PeerRef) → taken (rounds_in spans) new.waiting name ≡ taken_in calls name)
-life-tells old spans new calls none r = tells-by old (rounds_in spans) new calls none (spans-ledger (noted old []) spans (noted new calls) r)
+life-tells old first spans new calls silent none r = tells-by old first (rounds_in spans) new calls silent none (spans-ledger (noted old first) spans (noted new calls) r)

@@ -8,6 +8,7 @@ use Rattle.enet_codec.specs.declared.event.Event.{Event}
 use Rattle.enet_codec.specs.declared.event.PeerRef.{PeerRef}
 use Rattle.enet_codec.specs.declared.packet.Packet.{Packet}
 use Rattle.enet_submit.specs.declared.order.Submission.{Submission}
+use Rattle.enet_outbox.specs.declared.parts.SendLimit.{SendLimit}
 use Rattle.enet_host.specs.Host.{Host}
 use Rattle.law_headline.specs.declared.node.Node.{Node}
 use Rattle.law_headline.specs.declared.node.Node.TheVariants.{Server, Client}
@@ -25,20 +26,21 @@ use Rattle.enet_turn.specs.Calls.{Calls as HostCalls}
 use Rattle.enet_turn.specs.Phases.{Chain}
 use Rattle.enet_service.specs.Queues.{given}
 use Rattle.enet_turn.specs.Run.{all_gave}
-use Rattle.enet_service.specs.ServiceRuns.{beginning}
 use Rattle.enet_turn.specs.Turn.{Round}
 use Rattle.law_service.specs.Noting.{Noted, noting}
 use Rattle.enet_turn.specs.Spans.{Span, Spans, rounds_in}
 use Rattle.law_service.specs.Told.{held_in, told, is_refused, packets_of, submitted_in, taken, taken_in}
-use Rattle.law_service.specs.Law.{noted, AreNumbered}
+use Rattle.law_service.specs.Law.{noted, begun, AreNumbered}
 
--- a host's service and what it did: its settings, its turns and partings, what they left, and the calls of its host that they made
+-- a host's service and what it did: its settings, the limit on what it sends, if it was given one before the first turn, its turns and partings,
+-- what they left, and the calls of its host: that which set the limit, and those that turns and partings made
 pub record Running : Type 0 where
   pub config : Config
+  pub limit : Option SendLimit
   pub spans : List Span
   pub left : Service Host
   pub calls : List Call
-  pub turns : Spans noting (noted (beginning config) []) spans (noted left calls)
+  pub turns : Spans noting (begun config limit) spans (noted left calls)
 
 abbrev pub rounds_of : Running → List Round
 rounds_of r = rounds_in r.spans
@@ -156,7 +158,7 @@ AreOver (a ∷ b ∷ parts) = (a.left ≡ held_in a.after) × AreOver (b ∷ par
 -- the game threads of a service, one in each of its runs
 pub record Threads (r : Running) : Type 0 where
   pub parts : List Part
-  pub in_order : AreRuns noting (noted (beginning r.config) []) parts (noted r.left r.calls)
+  pub in_order : AreRuns noting (begun r.config r.limit) parts (noted r.left r.calls)
   pub spans_are : r.spans ≡ flat_map (λ part. part.spans) parts
   pub over : AreOver parts
 

@@ -13,16 +13,17 @@
 //! Neither: that a datagram, an order or an event arrives, that a thread runs, or how long a turn takes.
 #![tactic(auto)]
 
-ghost use Rattle.law_service.specs.Law.{EachRunIsCalls, EachLifeIsCalls, EachRunTells, EachCallHappens};
+ghost use Rattle.law_service.specs.Law.{EachRunIsCalls, EachLifeIsCalls, EachLimitIsCall, EachRunTells, EachCallHappens};
 ghost use Rattle.law_service.specs.Queues.{EachHasThread, EachLifeHasThreads, EachRunShows, EachLifeShows, EachMomentShows};
 ghost use Rattle.law_service.specs.EndToEnd.{AtEachMoment, EndToEnd, BetweenThreads, NeverStuck};
 
 /// Turns of a service, of either kind, are calls of its host, each by its contract (`calls`), also where its owner parts from peers between
-/// turns (`lives`). What the orders that they were given submitted, but for those that were refused, is what these calls submitted, and the
-/// events that they told are what these calls took (`tells`).
+/// turns (`lives`). If a limit on what its host sends is set first, that is a call, too (`limits`). What the orders that they were given
+/// submitted, but for those that were refused, is what these calls submitted, and the events that they told are what these calls took (`tells`).
 pub fn each_turn_is_calls()
     ensures calls { EachRunIsCalls }
     ensures lives { EachLifeIsCalls }
+    ensures limits { EachLimitIsCall }
     ensures tells { EachRunTells }
 {}
 
