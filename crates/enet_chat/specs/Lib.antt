@@ -3,4 +3,5 @@ pub mod Lists
 pub mod Lone
 pub mod Peers
 pub mod Relaying
+pub mod Slow
 pub mod Private

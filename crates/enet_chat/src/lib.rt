@@ -5,6 +5,7 @@
 //! - [`Relay`] is a thread of its own between a service's two queues. [`LoneRelay`] shares the service's thread: what a turn told is expanded
 //!   between two of its phases.
 //! - [`Table`] is who is connected, by the events; a [`Gauge`] shows others how far a relay has come.
+//! - [`end_of_slow`] ends a client that can't be sent all that is reliable. The server gives it as an order of its own, beside the relay's.
 //!
 //! # Proved
 //!
@@ -20,6 +21,7 @@
 //! - Of the relay in its service's own thread (`Expands`): what it expands are the oldest events, and the orders behind those that waited are
 //!   for every receiver and in order what these give. Just these events and orders it counts, up to what 64 bits hold; after a refusal, too.
 //!   It ends well only with all expanded or with 256 orders that wait.
+//! - How a client that is too slow is ended (`slow_end`).
 //! - The list of its events takes one of the host only if fewer than 256 events and fewer than 1,048,576 bytes of packets wait (`IsPut`).
 //!
 //! # Only tested, or neither
@@ -29,9 +31,10 @@
 //!   scripts/check/check-clients.sh, through `enet_relay serve`: that the thread gets on.
 //! - Neither: that the bodies of the orders share their bytes, so that no copy is made; that events are kept while the service has orders
 //!   left; that the thread goes on until it is told that the service has ended (one that ends where it first finds no event meets the same
-//!   contract); which seat and numbers an [`OrderList`] gives its orders; that one [`LoneRelay::expand`] stops at 256 orders (one that takes
-//!   all events meets the same contract); what a relay with a thread of its own counts (one that counts nothing meets the same contract);
-//!   that a [`Gauge`] shows what its relay counts and a relay counts on from what it shows; that a call with Wait returns.
+//!   contract); which seat and numbers an [`OrderList`] gives its orders; that an [`EventList`] takes an event of the host if it has room,
+//!   and none before those are expanded with which it was made; that one [`LoneRelay::expand`] stops at 256 orders (one that takes all
+//!   events meets the same contract); what a relay with a thread of its own counts (one that counts nothing meets the same contract); that
+//!   a [`Gauge`] shows what its relay counts and a relay counts on from what it shows; that a call with Wait returns.
 #![tactic(auto)]
 
 mod batch;
@@ -41,6 +44,7 @@ mod lists;
 mod lone;
 mod relay;
 mod relaying;
+mod slow;
 mod table;
 
 pub use gauge::Gauge;
@@ -49,4 +53,5 @@ pub use lists::{EventList, OrderList};
 pub use lone::LoneRelay;
 pub use relay::relay_step;
 pub use relaying::{Relay, RelayParts};
+pub use slow::{TOO_SLOW, end_of_slow};
 pub use table::Table;

@@ -90,6 +90,7 @@ where
         mtu: MTU,
         max_packet: MOST_BYTES,
         max_waiting: MOST_BYTES,
+        send_limit: None,
         receive_buffer: None,
         rules: Rules::none(),
         secret: shown.secret,

@@ -22,8 +22,8 @@
 //!   of the server.
 //!
 //! Besides:
-//! - A server opens with the standard host of its settings, behind a guard with their rules, with nothing waiting ([`ChatServer::open`]). Who
-//!   is banned is changed by [`ChatServer::ban`] and [`ChatServer::unban`], which change nothing else.
+//! - A server opens with the standard host of its settings and with their limit on what is sent, behind a guard with their rules, with
+//!   nothing waiting ([`ChatServer::open`]). [`ChatServer::ban`] and [`ChatServer::unban`] change who is banned, and nothing else.
 //! - Where it takes leave (`TakesLeave`), its turns are given no order, and between them, once at least, it parts from every peer that its host
 //!   has then, behind all that was sent, but for a last time. What the relay keeps is as before.
 //!
@@ -47,7 +47,7 @@ mod registrar;
 mod server;
 mod threads;
 
-pub use enet_chat::Gauge;
+pub use enet_chat::{Gauge, TOO_SLOW, end_of_slow};
 pub use enet_guard::{Register, Rules};
-pub use enet_service::{Met, Note, RunLength, Unopened, Unwatched, Watch, WatchedHost};
+pub use enet_service::{Met, Note, RunLength, SendLimit, Unopened, Unwatched, Watch, WatchedHost};
 pub use server::{ChatServer, Settings};

@@ -15,7 +15,7 @@ use enet_guard::{Guarded, Register, Rules};
 use enet_host::HostCore;
 use enet_service::{
     BoundService, Ends, EventReceiver, MioWire, OrderSender, QueueSink, QueueSource, Queues,
-    Report, Returned, RunLength, Shared, Signals, Unopened, Watch, beside_turns, settle,
+    Report, Returned, RunLength, SendLimit, Shared, Signals, Unopened, Watch, beside_turns, settle,
 };
 use enet_submit::{Drain, Order};
 use std::alloc::Global;
@@ -47,6 +47,12 @@ pub struct Settings {
     pub max_packet: u32,
     /// Bytes of a client's packets at which no further packet begins: 1 to 33,554,432 (`Config::max_waiting`).
     pub max_waiting: u32,
+    /// How much is queued or unacknowledged for a client that is full; None for no limit. A packet for a full client is refused (E9). If it
+    /// is reliable, the watch of a run is told ([`Note::Lacks`]), and whoever serves ends that client ([`end_of_slow`]).
+    ///
+    /// [`Note::Lacks`]: enet_service::Note::Lacks
+    /// [`end_of_slow`]: enet_chat::end_of_slow
+    pub send_limit: Option<SendLimit>,
     /// How many bytes of datagrams the system is asked to keep until they are received; None for as many as [`MioWire`] asks for.
     pub receive_buffer: Option<u32>,
     /// Whom the guard in front of its host lets ask for a connection.
@@ -98,7 +104,7 @@ impl ChatServer {
     ghost use Rattle.enet_guard.specs.Guarding.{is_other};
     ghost use Rattle.enet_service.specs.ServiceRuns.{AreNew, IsCapacity};
     ghost use Rattle.enet_turn.specs.LoneTurn.{beside, lone};
-    ghost use Rattle.enet_serve.specs.Serving.{Serves, IsCutOffBeside, IsCutOffAlone, EndsRun, IsNotServed, IsOpened, is_in_range, host_of, faults_of, guard_of, waiting_of, service_of, peers_of, backlog_of, orders_of, unsettled_of, queue_capacity_of};
+    ghost use Rattle.enet_serve.specs.Serving.{Serves, IsCutOffBeside, IsCutOffAlone, EndsRun, IsNotServed, IsOpened, is_in_range, host_of, faults_of, told_of, guard_of, waiting_of, service_of, peers_of, backlog_of, orders_of, unsettled_of, queue_capacity_of};
     ghost use Rattle.enet_serve.specs.Leaving.{TakesLeave};
 
     /// A server at this address, with no peer.
@@ -119,10 +125,12 @@ impl ChatServer {
         let wire = MioWire::open(rt, settings.address)?;
         ask_for_buffer(&wire, settings.receive_buffer);
         let wire = Guarded::new(alloc, wire, settings.rules, settings.slots())?;
+        let mut bound = BoundService::open(alloc, wire, config)?;
+        bound.set_send_limit(settings.send_limit);
         Ok(ChatServer {
             alloc,
             queue_capacity: settings.queue_capacity,
-            bound: BoundService::open(alloc, wire, config)?,
+            bound,
             kept: Carryover::new(alloc),
         })
     }
@@ -290,6 +298,7 @@ impl ChatServer {
         ensures same { OnErr result ((orders_of self.new ≡ orders_of self.old) × (orders.new.items ≡ orders.old.items)) }
         ensures memory { IfErr result (λ why. why ≡ Refusal.Memory) }
         ensures host { (host_of self.new ≡ host_of self.old) × (waiting_of self.new ≡ waiting_of self.old) × (faults_of self.new ≡ faults_of self.old) }
+        ensures told { told_of self.new ≡ told_of self.old }
         ensures relay { (peers_of self.new ≡ peers_of self.old) × (backlog_of self.new ≡ backlog_of self.old) × (unsettled_of self.new ≡ unsettled_of self.old) × (queue_capacity_of self.new ≡ queue_capacity_of self.old) }
     {
         match self.kept.orders.append(orders) {
@@ -306,6 +315,7 @@ impl ChatServer {
         ensures same { OnErr result (guard_of self.new ≡ guard_of self.old) }
         ensures memory { IfErr result (λ why. why ≡ Refusal.Memory) }
         ensures host { (host_of self.new ≡ host_of self.old) × (waiting_of self.new ≡ waiting_of self.old) × (faults_of self.new ≡ faults_of self.old) }
+        ensures told { told_of self.new ≡ told_of self.old }
         ensures relay { (peers_of self.new ≡ peers_of self.old) × (backlog_of self.new ≡ backlog_of self.old) × (orders_of self.new ≡ orders_of self.old) × (unsettled_of self.new ≡ unsettled_of self.old) × (queue_capacity_of self.new ≡ queue_capacity_of self.old) }
     {
         self.bound.wire.guard.ban(ip)
@@ -315,6 +325,7 @@ impl ChatServer {
     pub fn unban(&mut self, ip: u32)
         ensures unbanned { guard_of self.new ≡ record (guard_of self.old) { banned = filter (is_other ip) (guard_of self.old).banned } }
         ensures host { (host_of self.new ≡ host_of self.old) × (waiting_of self.new ≡ waiting_of self.old) × (faults_of self.new ≡ faults_of self.old) }
+        ensures told { told_of self.new ≡ told_of self.old }
         ensures relay { (peers_of self.new ≡ peers_of self.old) × (backlog_of self.new ≡ backlog_of self.old) × (orders_of self.new ≡ orders_of self.old) × (unsettled_of self.new ≡ unsettled_of self.old) × (queue_capacity_of self.new ≡ queue_capacity_of self.old) }
     {
         self.bound.wire.guard.unban(ip);

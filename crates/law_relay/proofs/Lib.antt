@@ -1,3 +1,4 @@
+pub mod Merged
 pub mod Relay
 pub mod Pairs
 pub mod Refusals

@@ -9,14 +9,12 @@ use Rattle.enet_codec.specs.declared.event.Event.TheVariants as events
 use Rattle.enet_codec.specs.declared.event.PeerRef.{PeerRef}
 use Rattle.enet_codec.specs.declared.packet.Packet.{Packet}
 use Rattle.enet_codec.specs.declared.refusal.Refusal.{Refusal}
-use Rattle.law_network.specs.Calls.{Call}
 use Rattle.enet_bridge.specs.Ends.{orders}
 use Rattle.enet_service.specs.Queues.{given}
 use Rattle.enet_turn.specs.Run.{all_gave, all_puts}
-use Rattle.enet_service.specs.ServiceRuns.{beginning}
-use Rattle.law_service.specs.Told.{told, packet_in, submitted_in, Answered, refusal, is_refused, unless_refused, settled}
-use Rattle.law_service.specs.Law.{noted}
-use Rattle.law_service.proofs.Telling.{Ledger, nothing-sorted, told-refusals, spans-ledger}
+use Rattle.law_service.specs.Told.{told, packet_in, Answered, refusal, is_refused, unless_refused, settled}
+use Rattle.law_service.specs.Law.{noted, setting, begun}
+use Rattle.law_service.proofs.Telling.{Ledger, nothing-sorted, setting-silent, sent-behind, told-refusals, spans-ledger}
 use Rattle.law_headline.specs.Page.{User, IsHeadline, Follows, came, submitted_if, is_of}
 use Rattle.law_service.specs.EndToEnd.{rounds_of, Running, user_of}
 use Rattle.law_relay.specs.Relay.{Relaying, heard, as_chat, chat_for}
@@ -29,12 +27,12 @@ pub has-answers : EachHasAnswers
 has-answers r = record {
   answered = l.answered;
   given_is = l.given_are;
-  accepted_is = λ name channel. ap (λ (c : List Call). submitted_in c name channel) l.calls_are ∙ l.packets name channel;
-  refused_is = told-refusals (noted (beginning r.config) []) (noted r.left r.calls) (all_gave (rounds_of r)) (all_puts (rounds_of r)) l nothing-sorted;
+  accepted_is = λ name channel. sent-behind (setting r.limit) l.calls r.calls (setting-silent r.limit) l.calls_are name channel ∙ l.packets name channel;
+  refused_is = told-refusals (begun r.config r.limit) (noted r.left r.calls) (all_gave (rounds_of r)) (all_puts (rounds_of r)) l nothing-sorted;
 }
   where
-    l : Ledger (noted (beginning r.config) []) (noted r.left r.calls) (all_gave (rounds_of r)) (all_puts (rounds_of r))
-    l = spans-ledger (noted (beginning r.config) []) r.spans (noted r.left r.calls) r.turns
+    l : Ledger (begun r.config r.limit) (noted r.left r.calls) (all_gave (rounds_of r)) (all_puts (rounds_of r))
+    l = spans-ledger (begun r.config r.limit) r.spans (noted r.left r.calls) r.turns
 
 -- what follows the accepted ones follows all, but for the refused
 one-more : (why : Option Refusal) (ps rest : List Packet) (ms : List Asked) → ((bs : List (List ℕ)) → Follows rest bs → FollowsUnless ms bs)

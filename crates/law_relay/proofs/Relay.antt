@@ -21,7 +21,7 @@ use Rattle.law_service.specs.Told.{packet_in}
 use Rattle.law_headline.specs.Page.{User, IsHeadline, Follows, came, submitted_if}
 use Rattle.law_headline.proofs.Page.{longer}
 use Rattle.law_service.specs.EndToEnd.{rounds_of, Running, user_of}
-use Rattle.law_relay.specs.Relay.{Relaying, hears, heard, chat_flags, as_chat, chat_for, RelayRule, IsPart, BetweenClients}
+use Rattle.law_relay.specs.Relay.{AreEnds, AreMerged, Relaying, hears, heard, chat_flags, as_chat, chat_for, RelayRule, IsPart, BetweenClients}
 
 -- the two ways to compare names
 pub same-names : (a b : PeerRef) → is_same_name a b ≡ is_same b a
@@ -164,9 +164,29 @@ all-events q channel peers (e ∷ es) low once =
     ∙ (λ i. one-event q channel (noted peers e) e low more i ++ all-events q channel (noted peers e) es low more i)
     ∙ sym (flat_map-append (as_chat channel) (hears q channel (noted peers e) e) (heard q channel (noted peers e) es))
 
+-- orders that end connections have no packets
+packets-merged : (q : PeerRef) (channel : ℕ) (xs ys zs : List Order) → AreEnds ys → AreMerged xs ys zs → flat_map (packet_in q channel) zs ≡ flat_map (packet_in q channel) xs
+packets-merged q channel xs ys [] ends p = ap (flat_map (packet_in q channel)) (sym p.0)
+packets-merged q channel xs ys (z ∷ zs) ends (inl p) =
+    ap (λ (ps : List Packet). packet_in q channel z ++ ps) (packets-merged q channel p.0 ys zs ends p.2) ∙ ap (flat_map (packet_in q channel)) (sym p.1)
+packets-merged q channel xs ys (z ∷ zs) ends (inr p) =
+    let e : AreEnds (z ∷ p.0) = subst AreEnds p.1 ends in
+    ap (λ (ps : List Packet). ps ++ flat_map (packet_in q channel) zs) (no-packet z p.0 e) ∙ packets-merged q channel xs p.0 zs (and-rest z p.0 e) p.2
+  where
+    no-packet : (z : Order) (os : List Order) → AreEnds (z ∷ os) → packet_in q channel z ≡ []
+    no-packet (order.Connect addr channels info word) os e = absurd e
+    no-packet (order.Submit to number flags body) os e = absurd e
+    no-packet (order.Disconnect to how info) os e = refl
+
+    and-rest : (z : Order) (os : List Order) → AreEnds (z ∷ os) → AreEnds os
+    and-rest (order.Connect addr channels info word) os e = absurd e
+    and-rest (order.Submit to number flags body) os e = absurd e
+    and-rest (order.Disconnect to how info) os e = e
+
 pub relay-rule : RelayRule
 relay-rule r l q channel low =
-    sym (flat_map-append (packet_in q channel) (orders (given (all_gave (rounds_of r)))) l.waits) ∙ ap (flat_map (packet_in q channel)) (sym l.orders_done) ∙ packets-for q channel l.asked_for
+    sym (flat_map-append (packet_in q channel) (orders (given (all_gave (rounds_of r)))) l.waits)
+    ∙ packets-merged q channel l.asked_for l.ordered (orders (given (all_gave (rounds_of r))) ++ l.waits) l.ends l.orders_done ∙ packets-for q channel l.asked_for
     ∙ ap (flat_map (packet_in q channel)) (l.for_each q) ∙ sym (packets-for q channel (relayed_all [] l.expanded)) ∙ all-events q channel [] l.expanded low refl
 
 -- order

@@ -6,6 +6,7 @@ use Rattle.enet_codec.specs.declared.event.Event.TheVariants as events
 use Rattle.enet_codec.specs.declared.event.PeerRef.{PeerRef}
 use Rattle.enet_codec.specs.declared.packet.Packet.{Packet}
 use Rattle.enet_submit.specs.declared.order.Order.{Order}
+use Rattle.enet_submit.specs.declared.order.Order.TheVariants.{Disconnect}
 use Rattle.enet_bridge.specs.Ends.{orders}
 use Rattle.enet_service.specs.Queues.{given, accepted}
 use Rattle.enet_turn.specs.Run.{all_gave, all_puts}
@@ -16,15 +17,29 @@ use Rattle.law_service.specs.Told.{packet_in}
 use Rattle.law_headline.specs.Page.{User, IsHeadline, Follows, came}
 use Rattle.law_service.specs.EndToEnd.{rounds_of, Running, user_of}
 
--- a server's service whose game thread is the relay: the events that this expanded, and the orders that it asked for (as `Serves` says of a first run)
+-- orders that end connections, and nothing else
+abbrev pub AreEnds : List Order → Type 0
+AreEnds [] = Unit {0}
+AreEnds (Disconnect peer how info ∷ os) = AreEnds os
+AreEnds (o ∷ os) = ⊥
+
+-- the third list has the orders of both others, each once, and those of each in their order
+abbrev pub AreMerged : List Order → List Order → List Order → Type 0
+AreMerged xs ys [] = (xs ≡ []) × (ys ≡ [])
+AreMerged xs ys (z ∷ zs) = ((rest : List Order) × (xs ≡ z ∷ rest) × AreMerged rest ys zs) ⊎ ((rest : List Order) × (ys ≡ z ∷ rest) × AreMerged xs rest zs)
+
+-- A server's service whose game thread is the relay: the events that this expanded, and the orders that it asked for (as `Serves` says of a first run).
+-- Beside it the server was given orders that end connections. What the service was given, and what waits, are these and the relay's
 pub record Relaying (r : Running) : Type 0 where
   pub expanded : List Event
   pub backlog : List Event
   pub asked_for : List Order
+  pub ordered : List Order
   pub waits : List Order
   pub events : accepted (all_puts (rounds_of r)) ≡ expanded ++ backlog
   pub for_each : SameForEach asked_for (relayed_all [] expanded)
-  pub orders_done : asked_for ≡ orders (given (all_gave (rounds_of r))) ++ waits
+  pub ends : AreEnds ordered
+  pub orders_done : AreMerged asked_for ordered (orders (given (all_gave (rounds_of r))) ++ waits)
 
 -- the packets of others on a channel that came while peer q was in the table
 abbrev pub hears : PeerRef → ℕ → List PeerRef → Event → List Event

@@ -4,13 +4,14 @@
 //! is the chat for it (`relay_rule`); of each pair (i, j) of clients, what j takes on channel 0 of what i submitted there is whole, each
 //! once, in i's order, from some packet on, since j hears from its Connect on, and leaves out nothing flagged RELIABLE before the last
 //! (`each_pair`), but for orders that were refused, which are named (`refused_left_out`); on channel 1 it takes some of what i submitted
-//! there, each whole and once, in order; so it is of any runs of a `ChatServer`, one after another (`chat_server_in_order`).
+//! there, each whole and once, in order; so it is of any runs of a `ChatServer`, one after another (`chat_server_in_order`), also where
+//! `ChatServer::order` was given ends of connections between them (a kick, a ban, `end_of_slow`).
 //! So it is, too, where the last of them ended by E14, if its queues were settled, where it had two threads (`cut_off`); and after any turn of
 //! a run of two threads that goes on (`serves_on`).
 //! Premise: that of `law_service`, and for a run that goes on what the rules of its queues say of each moment, and what the relay did until
 //! then. Where the server takes leave of its clients after the runs, `ChatServer::take_leave` says what it does then (`TakesLeave`).
-//! Neither: a run that ended in another error, of which `serve` promises nothing; nor is it said of what i submitted unsequenced, on either
-//! channel.
+//! Neither: a run that ended in another error, of which `serve` promises nothing, or that comes after an order of a packet given by
+//! `ChatServer::order`; nor is it said of what i submitted unsequenced, on either channel.
 #![tactic(auto)]
 
 ghost use Rattle.law_relay.specs.Chat.{EachServed, EachHasServed, EachCutOff, EachServesOn, OfChatServer, OfChatThreads};
@@ -42,11 +43,12 @@ pub fn refused_left_out()
     ensures on_one { BetweenPairsOnOne }
 {}
 
-/// Any runs of a server, one after another, are as one, which has their turns and expanded their events (`runs`). From a fresh server on they
-/// make a service's turns, of which its wire told, and a relay's work, also where it takes leave after them (`served`), and where the wire cut
-/// off the last of them, with E14 (`cut_off`). So does a run of two threads that goes on, after any of its turns (`serves_on`). So what its
-/// clients take is in order: of each other, each once, and without a gap (`chats`); and so what their game threads take (`threads`). In
-/// `chats` the names of its peers are those of the last moment of all, to which each connection has kept its own.
+/// Any runs of a server, one after another, are as one, which has their turns and expanded their events (`runs`). Between two of them, before
+/// and after them the server may be given orders that end connections: these come among the relay's. From a fresh server on the runs make a
+/// service's turns, of which its wire told, and a relay's work, also where it takes leave after them (`served`), and where the wire cut off the
+/// last of them, with E14 (`cut_off`). So does a run of two threads that goes on, after any of its turns (`serves_on`). So what its clients
+/// take is in order: of each other, each once, and without a gap (`chats`); and so what their game threads take (`threads`). In `chats` the
+/// names of its peers are those of the last moment of all, to which each connection has kept its own.
 pub fn chat_server_in_order()
     ensures runs { EachServed }
     ensures served { EachHasServed }
