@@ -1,13 +1,13 @@
 #!/bin/sh
-# relay_run.sh PROGRAM WORDS..: runs `enet_relay serve` with these words and --control, so that SIGTERM (as by systemctl stop or podman stop)
-# and SIGINT make it tell its clients before it ends. The program itself catches no signal: SIGTERM would end it at once, and where it is process 1 of a container the kernel drops
-# SIGTERM. This shell catches both and says `stop` on the program's standard input. The program ends within a second or two, and this shell with
-# its status. Standard input is a FIFO. Where CONTROL names one, the FIFO is made there and stays, and who may write to it can say other lines to
+# relay_run.sh PROGRAM WORDS..: runs `enet_relay serve` with these words and --control. At SIGTERM (as by systemctl stop or podman stop) and
+# SIGINT it sends `stop` to the program, which notifies its clients and ends within a second or two; then this shell ends with its status.
+# The program itself catches no signal: SIGTERM would end it at once, and as process 1 of a container it gets none, since the kernel drops
+# it. Its standard input is a FIFO. If CONTROL names a file, the FIFO is there while it runs, and whoever may write to it can send lines to
 # the program (docs/OPERATING.md, "Control while it runs"); else nobody can. Used by deploy/systemd and deploy/container.
 fifo=${CONTROL:-$(mktemp -u)}
 umask 077
 rm -f "$fifo"
-# It is open for writing here, too, so that it has no end.
+# The FIFO is also open for writing here, so that it has no end.
 mkfifo "$fifo" && exec 3<> "$fifo" || exit 1
 [ -n "${CONTROL:-}" ] || rm "$fifo"
 # A signal that comes before the program reads waits for it in the FIFO.

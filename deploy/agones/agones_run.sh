@@ -8,10 +8,10 @@
 #     EMPTY_SECONDS (10) nobody was there; at SIGTERM and SIGINT always;
 #   - /shutdown whenever the program has ended.
 # The sidecar's /gameserver says whether it's allocated, the figure enet_peers how many play; both are asked each HEALTH_SECONDS. Players before
-# the allocation don't count, and if one of both can't be asked the game isn't over. So a stranger who connects can keep a server going while
+# the allocation don't count, and while one of the two doesn't answer the game isn't over. So a stranger who connects can keep a server going while
 # he stays, but end no game.
 # It passes on what the program says on standard error. It needs curl and mkfifo. Without AGONES_SDK_HTTP_PORT it tells nobody, and asks nobody:
-# then no game is over. Without --metrics among the words SHUTDOWN_EMPTY and ALLOCATE_SELF are refused, with status 2.
+# then no game ends by itself. Without --metrics among the words SHUTDOWN_EMPTY and ALLOCATE_SELF are refused, with status 2.
 sdk=${AGONES_SDK_HTTP_PORT:-}
 every=${HEALTH_SECONDS:-2}
 
@@ -30,7 +30,7 @@ fi
 room=$(mktemp -d) || exit 1
 mkfifo "$room/lines" "$room/control" || exit 1
 
-# Tells the sidecar. It may start later than this: what must be heard is said again until it is, for 30 seconds at most.
+# Tells the sidecar. It may start later than this: `insist` says a word again until it is heard, 60 times at most.
 tell() {
     [ -z "$sdk" ] || curl -sf -o /dev/null -m 2 -X POST -H 'Content-Type: application/json' -d '{}' "http://127.0.0.1:$sdk/$1"
 }

@@ -197,7 +197,7 @@ guests_fared() {
     [ "$status" -eq 0 ] || { echo "the guests ended with status $status: $(head -c 400 "$room/$1.client")"; return 1; }
     head -n 1 "$room/$1.err" | grep -Eq "$pattern" || { echo "the first line is $(head -n 1 "$room/$1.err")"; return 1; }
     [ "$(grep -Ec '^connect [01]\.0 at 127\.0\.0\.1:[0-9]+ info 7$' "$room/$1.err")" = 2 ] || { echo "no line of two connections"; return 1; }
-    [ "$(grep -Ec '^disconnect [01]\.0 at 127\.0\.0\.1:[0-9]+ info 5$' "$room/$1.err")" = "$2" ] || { echo "not $2 ends of connections"; return 1; }
+    [ "$(grep -Ec '^disconnect [01]\.0 at 127\.0\.0\.1:[0-9]+ info 5: asked there$' "$room/$1.err")" = "$2" ] || { echo "not $2 ends of connections"; return 1; }
     [ "$3" = '' ] || [ "$(tail -n 1 "$room/$1.err")" = "$3" ] || { echo "the last line is $(tail -n 1 "$room/$1.err")"; return 1; }
 }
 

@@ -170,6 +170,10 @@ serve --port 47001 --max-packet 0
 serve --port 47001 --max-packet 33554433
 serve --port 47001 --max-waiting 0
 serve --port 47001 --max-waiting 33554433
+serve --port 47001 --forever --max-unsent 1
+serve --port 47001 --forever --max-unsent 1073741825
+serve --port 47001 --max-unsent 1073741824
+serve --port 47001 --turns 2 --max-unsent 1073741824
 serve --port 47001 --room 0
 serve --port 47001 --room 65537
 serve --port 47001 --room 64 --queue-capacity 64
@@ -368,6 +372,10 @@ command_lines() {
     command_line no-subcommand 2 'bad command line' /dev/null "$room/out"
     command_line unknown-subcommand 2 'bad command line' /dev/null "$room/out" frob
     refused_command_lines
+    command_line unsent-below-two-packets 2 'bad command line: --max-unsent is below twice --max-packet' /dev/null "$room/out" \
+        serve --port 47001 --forever --max-unsent 524287
+    command_line unsent-below-two-of-its-packets 2 'bad command line: --max-unsent is below twice --max-packet' /dev/null "$room/out" \
+        serve --port 47001 --forever --max-packet 1000 --max-unsent 1999
     command_line a-word-too-many 2 'bad command line' /dev/null "$room/out" lab frob
     command_line help 0 '' /dev/null "$room/out" --help
     grep -q lab "$room/out" || fail help "it doesn't name the lab"
@@ -376,7 +384,7 @@ command_lines() {
     tells_version "$(<"$room/out")" || fail version "it tells '$(<"$room/out")'"
     command_line version-of-a-command 2 'bad command line' /dev/null "$room/out" serve --version
     command_line help-of-serve 0 '' /dev/null "$room/out" serve --help
-    grep -q -- '--queue-capacity' "$room/out" && grep -q -- '--threads' "$room/out" && grep -q -- '--no-secret' "$room/out" && grep -q -- '--control' "$room/out" && grep -q -- '--per-address' "$room/out" && grep -q -- '--max-packet' "$room/out" && grep -q -- '--max-waiting' "$room/out" && grep -q -- '--metrics' "$room/out" || fail help-of-serve 'an option is missing'
+    grep -q -- '--queue-capacity' "$room/out" && grep -q -- '--threads' "$room/out" && grep -q -- '--no-secret' "$room/out" && grep -q -- '--control' "$room/out" && grep -q -- '--per-address' "$room/out" && grep -q -- '--max-packet' "$room/out" && grep -q -- '--max-waiting' "$room/out" && grep -q -- '--max-unsent' "$room/out" && grep -q -- '--metrics' "$room/out" || fail help-of-serve 'an option is missing'
     command_line input-that-cannot-be-read 1 'input or output failed' / "$room/out" lab
     command_line output-that-cannot-be-written 1 'input or output failed' "$rows/one-reliable-packet.lab" /dev/full lab
 }

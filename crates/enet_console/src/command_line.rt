@@ -11,6 +11,12 @@ use std::net::{Ipv4Addr, SocketAddrV4};
 use std::rt::Env;
 use std::{env, io};
 
+/// So many bytes at least are unsent or unacknowledged before a client is full, if nothing is said of it.
+const UNSENT: u32 = 16_777_216;
+
+/// So many commands at least.
+const UNSENT_COMMANDS: u32 = 16_384;
+
 /// How long `serve` serves.
 #[derive(Clone, Copy)]
 pub enum Length {
@@ -35,6 +41,8 @@ pub struct ServeOptions {
     pub max_packet: u32,
     /// Bytes of a client's packets at which no further packet begins.
     pub max_waiting: u32,
+    /// How much is unsent or unacknowledged for a client that is full; None where none ever is.
+    pub max_unsent: Option<Unsent>,
     /// How long it serves.
     pub length: Length,
     /// Whether each connection and each end of one is told and, once a second, how many orders were refused.
@@ -49,6 +57,23 @@ pub struct ServeOptions {
     pub has_secret: bool,
     /// Where figures are told over HTTP.
     pub metrics: Option<SocketAddrV4>,
+}
+
+/// How much is queued, or sent and not acknowledged, for a client that is full.
+#[derive(Clone, Copy)]
+pub struct Unsent {
+    /// So many bytes of packets.
+    pub bytes: u32,
+    /// Or so many commands: packets, or the pieces of long ones.
+    pub commands: u32,
+}
+
+/// How long packets may be, and how much of them may wait.
+#[derive(Clone, Copy)]
+struct Lengths {
+    max_packet: u32,
+    max_waiting: u32,
+    max_unsent: Option<Unsent>,
 }
 
 /// Which threads serve.
@@ -125,6 +150,8 @@ pub enum Task {
 pub enum Unread {
     /// The command line was refused.
     Refused,
+    /// The bytes at which a client is full are fewer than those of two packets of the greatest length.
+    TooFewUnsent,
     /// There was no memory to read it.
     Memory,
     /// The help or the version couldn't be written.
@@ -208,6 +235,7 @@ fn serve_command<'a>(alloc: Global) -> Result<Command<'a>, AllocError> {
         .arg(queue_capacity(alloc)?)?
         .arg(max_packet(alloc))?
         .arg(max_waiting(alloc))?
+        .arg(max_unsent(alloc)?)?
         .arg(turns(alloc))?
         .arg(forever(alloc)?)?
         .arg(logs(alloc))?
@@ -344,6 +372,15 @@ fn max_waiting<'a>(alloc: Global) -> Arg<'a> {
     )
 }
 
+fn max_unsent<'a>(alloc: Global) -> Result<Arg<'a>, AllocError> {
+    number(alloc, "max-unsent", 2, 1_073_741_824)
+        .help(
+            "Bytes unsent or unacknowledged at which a client is full, as it is at 16384 commands or a 256th of these bytes, if that is more: it is ended at the next reliable packet, and gets no unreliable one. At least twice --max-packet [default: 16777216 or twice --max-packet with --forever, else no limit]",
+        )
+        .conflicts_with("turns")?
+        .requires_arg("forever")
+}
+
 fn forever<'a>(alloc: Global) -> Result<Arg<'a>, AllocError> {
     Arg::new(alloc, "forever")
         .long("forever")
@@ -418,16 +455,19 @@ fn number8<'a>(alloc: Global, name: &'a str, least: i64, most: i64) -> Arg<'a> {
 }
 
 // None where a word isn't one of ours, which the parser has refused before, or the address isn't one.
-fn task_of(alloc: Global, found: &ArgMatches<'_>) -> Result<Option<Task>, AllocError> {
+fn task_of(alloc: Global, found: &ArgMatches<'_>) -> Result<Option<Task>, Unread> {
     let Some((name, found)) = found.subcommand() else {
         return Ok(None);
     };
     match name {
         "lab" => Ok(Some(Task::Lab)),
         "inspect" => Ok(inspect_options(alloc, found)?.map(Task::Inspect)),
-        "serve" => match read_admission(alloc, found)? {
-            Some(admission) => Ok(serve_options(found, admission).map(Task::Serve)),
-            None => Ok(None),
+        "serve" => match (read_admission(alloc, found)?, length_of(found)) {
+            (Some(admission), Some(length)) => {
+                let lengths = lengths_of(found, length)?;
+                Ok(serve_options(found, admission, length, lengths).map(Task::Serve))
+            }
+            _ => Ok(None),
         },
         "demo" => Ok(demo_options(found).map(Task::Demo)),
         _ => Ok(None),
@@ -509,22 +549,62 @@ fn usual_lengths(length: Length) -> (u32, u32) {
     }
 }
 
-fn serve_options(found: &ArgMatches<'_>, admission: Admission) -> Option<ServeOptions> {
+// What is said of lengths, and of what isn't the usual. It may be refused where it is said how much may be unsent.
+fn lengths_of(found: &ArgMatches<'_>, length: Length) -> Result<Lengths, Unread> {
+    let (packet, waiting) = usual_lengths(length);
+    let max_packet = found.get_one::<u32>("max-packet").unwrap_or(packet);
+    Ok(Lengths {
+        max_packet,
+        max_waiting: found.get_one::<u32>("max-waiting").unwrap_or(waiting),
+        max_unsent: unsent_of(found, length, max_packet)?,
+    })
+}
+
+// How much is unsent for a client that is full, where the greatest packet has so many bytes: two of these always find room. Without
+// `--forever` no client is ever full.
+fn unsent_of(
+    found: &ArgMatches<'_>,
+    length: Length,
+    max_packet: u32,
+) -> Result<Option<Unsent>, Unread> {
+    if let Length::Turns(_) = length {
+        return Ok(None);
+    }
+    let least = max_packet.saturating_mul(2);
+    let bytes = found
+        .get_one::<u32>("max-unsent")
+        .unwrap_or(UNSENT.max(least));
+    if bytes < least {
+        return Err(Unread::TooFewUnsent);
+    }
+    let commands = (bytes / 256).max(UNSENT_COMMANDS);
+    Ok(Some(Unsent { bytes, commands }))
+}
+
+// None where the turns aren't a number, which the parser has refused before.
+fn length_of(found: &ArgMatches<'_>) -> Option<Length> {
+    if found.get_flag("forever") {
+        return Some(Length::Forever);
+    }
+    Some(Length::Turns(found.get_one::<u32>("turns")?))
+}
+
+fn serve_options(
+    found: &ArgMatches<'_>,
+    admission: Admission,
+    length: Length,
+    lengths: Lengths,
+) -> Option<ServeOptions> {
     let ip = found.get_one::<Ipv4Addr>("address")?.to_bits();
     let port = found.get_one::<u16>("port")?;
-    let length = if found.get_flag("forever") {
-        Length::Forever
-    } else {
-        Length::Turns(found.get_one::<u32>("turns")?)
-    };
-    let (packet, waiting) = usual_lengths(length);
     Some(ServeOptions {
         address: Addr { ip, port },
         peers: found.get_one::<u16>("peers")?,
         channels: found.get_one::<u8>("channels")?,
         queue_capacity: found.get_one::<u32>("queue-capacity")?,
-        max_packet: found.get_one::<u32>("max-packet").unwrap_or(packet),
-        max_waiting: found.get_one::<u32>("max-waiting").unwrap_or(waiting),
+        max_packet: lengths.max_packet,
+        max_waiting: lengths.max_waiting,
+        max_unsent: lengths.max_unsent,
         length,
         logs: found.get_flag("log"),
         threads: match (found.get_one::<u8>("threads"), length) {

@@ -24,7 +24,7 @@ mod word;
 pub use admission::Admission;
 pub use command_line::{
     Asked, DemoOptions, End, InspectOptions, Length, ServeOptions, ServerThreads, Task, Unread,
-    read_task,
+    Unsent, read_task,
 };
 pub use control::Control;
 pub use outlet::{Outlet, Stream};

@@ -20,6 +20,12 @@ peers_text s =
     ++ figure_text (codes "enet_sent_again") (codes "gauge") (codes "Commands that are not acknowledged and were sent more than once.") s.sent_again
     ++ figure_text (codes "enet_connects_passed_over_total") (codes "counter") (codes "CONNECTs that the guard kept from the host.") s.passed_over
 
+unfoldable pub queued_text : Standing → List ℕ
+queued_text s =
+    figure_text (codes "enet_queued_bytes") (codes "gauge") (codes "Bytes of packets that are queued for peers, or sent and not acknowledged.") s.queued
+    ++ figure_text (codes "enet_queued_bytes_most") (codes "gauge") (codes "Those of the peer that has the most.") s.queued_most
+    ++ figure_text (codes "enet_receivers_dropped_total") (codes "counter") (codes "Peers that were full when a reliable packet came for them, and were disconnected.") s.dropped
+
 unfoldable pub states_text : Standing → List ℕ
 states_text s =
     line_text (codes "enet_slots_by_state{state=\"free\"}") s.free
@@ -81,5 +87,5 @@ age_text (Some age) = known_age_text age
 -- all that is told
 unfoldable pub reading_text : Reading → List ℕ
 reading_text r =
-    (peers_text r.standing ++ slots_text r.standing ++ waiting_text r.standing ++ traffic_text r.standing)
+    (peers_text r.standing ++ queued_text r.standing ++ slots_text r.standing ++ waiting_text r.standing ++ traffic_text r.standing)
     ++ stops_text r ++ refusals_text r ++ trips_text r.trips ++ age_text r.age

@@ -22,4 +22,7 @@ standing_in numbers = record {
   events = slice_index numbers 15;
   in_transit = slice_index numbers 16;
   sent_again = slice_index numbers 17;
+  queued = slice_index numbers 18;
+  queued_most = slice_index numbers 19;
+  dropped = slice_index numbers 20;
 }

@@ -33,9 +33,9 @@ impl Figures {
     /// Nothing was done. An error for want of memory.
     pub fn new<R: Clock>(rt: &R, alloc: Global) -> Result<Figures, AllocError> {
         Ok(Figures {
-            standing: zeros(alloc, 18)?,
+            standing: zeros(alloc, 21)?,
             stops: zeros(alloc, 13)?,
-            refusals: zeros(alloc, 8)?,
+            refusals: zeros(alloc, 9)?,
             trips: zeros(alloc, BUCKETS)?,
             trips_sum: AtomicU64::new(0),
             begun: Instant::now(rt).ok(),
@@ -74,9 +74,9 @@ impl Figures {
 
     /// What is told now: what was noted at the last look, and how long ago that was. The start counts as a look.
     pub fn read<R: Clock>(&self, rt: &R) -> Reading {
-        let mut numbers = [0; 18];
+        let mut numbers = [0; 21];
         let mut stops = [0; 13];
-        let mut refusals = [0; 8];
+        let mut refusals = [0; 9];
         let mut counts = [0; BUCKETS];
         load_all(&self.standing, &mut numbers);
         load_all(&self.stops, &mut stops);
@@ -106,7 +106,7 @@ fn age_of(now: Option<u64>, looked_at: u64) -> Option<u64>
 }
 
 // The numbers of a standing in a row.
-fn numbers_of(standing: &Standing) -> [u64; 18]
+fn numbers_of(standing: &Standing) -> [u64; 21]
     ensures { standing_in result ≡ standing.now }
 {
     [
@@ -128,11 +128,14 @@ fn numbers_of(standing: &Standing) -> [u64; 18]
         standing.events,
         standing.in_transit,
         standing.sent_again,
+        standing.queued,
+        standing.queued_most,
+        standing.dropped,
     ]
 }
 
 /// The standing of these numbers.
-pub(crate) fn standing_of(numbers: &[u64; 18]) -> Standing
+pub(crate) fn standing_of(numbers: &[u64; 21]) -> Standing
     ensures { result ≡ standing_in numbers.now }
 {
     Standing {
@@ -154,6 +157,9 @@ pub(crate) fn standing_of(numbers: &[u64; 18]) -> Standing
         events: numbers[15],
         in_transit: numbers[16],
         sent_again: numbers[17],
+        queued: numbers[18],
+        queued_most: numbers[19],
+        dropped: numbers[20],
     }
 }
 

@@ -13,9 +13,9 @@ impl Reading {
         ensures { result ≡ nothing }
     {
         Reading {
-            standing: standing_of(&[0; 18]),
+            standing: standing_of(&[0; 21]),
             stops: [0; 13],
-            refusals: [0; 8],
+            refusals: [0; 9],
             trips: Trips {
                 counts: [0; 13],
                 sum: 0,
@@ -31,7 +31,7 @@ impl Reading {
         note(&mut self.stops, reason, count);
     }
 
-    /// So many orders were refused for the reason of this number (1 to 8) since the start. Another number is passed over.
+    /// So many orders were refused for the reason of this number (1 to 9) since the start. Another number is passed over.
     pub fn refused(&mut self, reason: u8, count: u64)
         ensures { self.new ≡ with_refusals reason count self.old }
     {

@@ -2,7 +2,7 @@
 
 ghost use Rattle.std.specs.Prelude.{◌≡◌, ◌++◌, IfOk, OnOk};
 ghost use Rattle.std.specs.String.{string_bytes};
-ghost use Rattle.enet_metrics.specs.Readings.{peers_text, slots_text, states_text, waiting_text, datagrams_text, bytes_text, traffic_text, stops_text, refusals_text, age_text, known_age_text, reading_text, is_alive};
+ghost use Rattle.enet_metrics.specs.Readings.{peers_text, queued_text, slots_text, states_text, waiting_text, datagrams_text, bytes_text, traffic_text, stops_text, refusals_text, age_text, known_age_text, reading_text, is_alive};
 
 use crate::text::{push_figure, push_head, push_line, push_reasons, push_seconds};
 use crate::trips::{Trips, push_trips};
@@ -41,6 +41,11 @@ pub struct Standing {
     pub in_transit: u64,
     /// Commands that aren't acknowledged and were sent more than once.
     pub sent_again: u64,
+    /// Bytes of packets that are queued for peers, or sent and not acknowledged, and those of the peer that has the most.
+    pub queued: u64,
+    pub queued_most: u64,
+    /// Peers that were full when a reliable packet came for them, and were disconnected.
+    pub dropped: u64,
 }
 
 /// All that is told of a service.
@@ -49,8 +54,8 @@ pub struct Reading {
     pub standing: Standing,
     /// How many datagrams were stopped, for the reasons S1 to S13.
     pub stops: [u64; 13],
-    /// How many orders were refused, for the reasons E1 to E8.
-    pub refusals: [u64; 8],
+    /// How many orders were refused, for the reasons E1 to E9.
+    pub refusals: [u64; 9],
     pub trips: Trips,
     /// How many milliseconds ago the service last looked; None where the clock can't be read.
     pub age: Option<u64>,
@@ -91,9 +96,10 @@ fn push_reading(text: &mut String, reading: &Reading) -> Result<(), AllocError>
 
 fn push_standing(text: &mut String, standing: &Standing) -> Result<(), AllocError>
     ensures { OnOk result (string_bytes text.new ≡ string_bytes text.old
-        ++ (peers_text standing.now ++ slots_text standing.now ++ waiting_text standing.now ++ traffic_text standing.now)) }
+        ++ (peers_text standing.now ++ queued_text standing.now ++ slots_text standing.now ++ waiting_text standing.now ++ traffic_text standing.now)) }
 {
     push_peers(text, standing)?;
+    push_queued(text, standing)?;
     push_slots(text, standing)?;
     push_waiting(text, standing)?;
     push_traffic(text, standing)?;
@@ -130,6 +136,33 @@ fn push_peers(text: &mut String, standing: &Standing) -> Result<(), AllocError>
         "counter",
         "CONNECTs that the guard kept from the host.",
         standing.passed_over,
+    )?;
+    Ok(())
+}
+
+fn push_queued(text: &mut String, standing: &Standing) -> Result<(), AllocError>
+    ensures { OnOk result (string_bytes text.new ≡ string_bytes text.old ++ queued_text standing.now) }
+{
+    push_figure(
+        text,
+        "enet_queued_bytes",
+        "gauge",
+        "Bytes of packets that are queued for peers, or sent and not acknowledged.",
+        standing.queued,
+    )?;
+    push_figure(
+        text,
+        "enet_queued_bytes_most",
+        "gauge",
+        "Those of the peer that has the most.",
+        standing.queued_most,
+    )?;
+    push_figure(
+        text,
+        "enet_receivers_dropped_total",
+        "counter",
+        "Peers that were full when a reliable packet came for them, and were disconnected.",
+        standing.dropped,
     )?;
     Ok(())
 }

@@ -1,9 +1,9 @@
-//! What the server does at its operator's word.
+//! What the server does at its operator's word, and about clients that are too slow.
 
 use bytes::Bytes;
 use enet_codec::{DisconnectMode, PeerRef, Refusal};
 use enet_console::{Control, Outlet, Stream, Word};
-use enet_serve::{ChatServer, Met, Note, WatchedHost};
+use enet_serve::{ChatServer, Met, Note, WatchedHost, end_of_slow};
 use enet_submit::Order;
 use std::alloc::{AllocError, Global};
 use std::collections::VecDeque;
@@ -36,6 +36,8 @@ pub struct Desk {
     bans: VecDeque<Ban>,
     // Whether it is to end.
     stops: bool,
+    // Whether there was no memory for an end of a client.
+    lacks_memory: bool,
 }
 
 impl Desk {
@@ -54,16 +56,21 @@ impl Desk {
             orders: VecDeque::new(alloc),
             bans: VecDeque::new(alloc),
             stops: false,
+            lacks_memory: false,
         })
     }
 
     /// Whether the server is to be asked for something, or to end.
     pub fn is_waiting(&self) -> bool {
-        self.stops || !self.orders.is_empty() || !self.bans.is_empty()
+        self.stops || self.lacks_memory || !self.orders.is_empty() || !self.bans.is_empty()
     }
 
-    /// Hands to the server what it is asked for. True where that was nothing, and it is to end. E1 for want of memory.
+    /// Hands to the server what it is asked for. True where that was nothing, and it is to end. E1 for want of memory, also where that kept a
+    /// client from its end.
     pub fn hand_over(&mut self, server: &mut ChatServer) -> Result<bool, Refusal> {
+        if self.lacks_memory {
+            return Err(Refusal::Memory);
+        }
         let is_done = self.stops && self.orders.is_empty() && self.bans.is_empty();
         for _ban in 0..self.bans.len() {
             match self.bans.pop_front() {
@@ -86,12 +93,21 @@ impl Desk {
         self.answers.line(rt, line);
     }
 
-    /// Notes when peers connect.
+    /// Notes when peers connect, and has those end that are too slow.
     pub fn note<R: Clock>(&mut self, rt: &R, host: &WatchedHost) {
         for note in host.notes() {
-            if let Note::Came { met, .. } = note {
-                self.note_met(rt, met.peer);
+            match note {
+                Note::Came { met, .. } => self.note_met(rt, met.peer),
+                Note::Lacks { met } => self.end_slow(met.peer),
+                _ => {}
             }
+        }
+    }
+
+    // Has the connection of a peer end that lacks a reliable packet.
+    fn end_slow(&mut self, peer: PeerRef) {
+        if self.orders.push_back(end_of_slow(peer)).is_err() {
+            self.lacks_memory = true;
         }
     }
 
@@ -136,8 +152,9 @@ impl Desk {
         let throttle = host.host().throttle(peer).unwrap_or(0);
         let transit = host.host().in_transit(peer).unwrap_or(0);
         let allowance = host.host().allowance(peer).unwrap_or(0);
+        let waiting = host.host().outstanding(peer).map_or(0, |it| it.bytes);
         format!(in alloc;
-            "peer {slot}.{generation} at {ip}:{port} for {seconds} s round trip {trip} ms throttle {throttle} in transit {transit} bytes allowance {allowance}\n"
+            "peer {slot}.{generation} at {ip}:{port} for {seconds} s round trip {trip} ms throttle {throttle} in transit {transit} bytes allowance {allowance} waiting {waiting} bytes\n"
         )
     }
 

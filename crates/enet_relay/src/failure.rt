@@ -16,6 +16,9 @@ pub enum Failure {
     /// The command line was refused.
     #[error("bad command line")]
     CommandLine,
+    /// It was, since too little may wait for a client.
+    #[error("bad command line: --max-unsent is below twice --max-packet")]
+    TooFewUnsent,
     /// There was no memory to read the command line.
     #[error("E1 Memory")]
     Memory,
@@ -55,7 +58,8 @@ impl Failure {
     /// 2 where what the program was given can't be read, else 1.
     pub fn status(self) -> u8 {
         match self {
-            Failure::CommandLine | Failure::Lab(LabFault::BadScript(_)) => 2,
+            Failure::CommandLine | Failure::TooFewUnsent => 2,
+            Failure::Lab(LabFault::BadScript(_)) => 2,
             Failure::Inspect(fault) if fault.is_unreadable() => 2,
             Failure::Timeline(fault) if fault.is_unreadable() => 2,
             _ => 1,
@@ -67,6 +71,7 @@ impl From<Unread> for Failure {
     fn from(why: Unread) -> Failure {
         match why {
             Unread::Refused => Failure::CommandLine,
+            Unread::TooFewUnsent => Failure::TooFewUnsent,
             Unread::Memory => Failure::Memory,
             Unread::Io => Failure::Io,
         }

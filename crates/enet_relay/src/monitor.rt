@@ -2,7 +2,7 @@
 
 use enet_host::SlotCounts;
 use enet_metrics::{Figures, Reading, Standing};
-use enet_serve::{Register, WatchedHost};
+use enet_serve::{Note, Register, WatchedHost};
 use std::alloc::Global;
 use std::rt::Clock;
 use std::sync::Arc;
@@ -14,7 +14,7 @@ const BETWEEN_ROUNDS: u64 = 1;
 /// The greatest numbers of a stop and of a host's refusal.
 const STOPS: u8 = 13;
 
-const REFUSALS: u8 = 8;
+const REFUSALS: u8 = 9;
 
 /// What whoever watches has counted itself.
 #[derive(Clone, Copy)]
@@ -38,6 +38,10 @@ pub struct Monitor {
     slots: SlotCounts,
     in_transit: u64,
     sent_again: u64,
+    queued: u64,
+    queued_most: u64,
+    // Since the start.
+    dropped: u64,
 }
 
 impl Monitor {
@@ -57,6 +61,9 @@ impl Monitor {
             },
             in_transit: 0,
             sent_again: 0,
+            queued: 0,
+            queued_most: 0,
+            dropped: 0,
         }
     }
 
@@ -67,6 +74,11 @@ impl Monitor {
         }
         for number in 1..=REFUSALS {
             self.reading.refused(number, host.refusals(number));
+        }
+        for note in host.notes() {
+            if let Note::Lacks { .. } = note {
+                self.dropped = self.dropped.saturating_add(1);
+            }
         }
         if self.is_time(rt) {
             self.slots = host.host().slot_counts();
@@ -98,6 +110,9 @@ impl Monitor {
             events: counted.events,
             in_transit: self.in_transit,
             sent_again: self.sent_again,
+            queued: self.queued,
+            queued_most: self.queued_most,
+            dropped: self.dropped,
         }
     }
 
@@ -115,9 +130,11 @@ impl Monitor {
         true
     }
 
-    // Goes over the connected peers: how long their round trips take, and what they have in transit.
+    // Goes over the connected peers: how long their round trips take, what they have in transit, and what is queued for them.
     fn take_round(&mut self, host: &WatchedHost) {
         self.in_transit = 0;
+        self.queued = 0;
+        self.queued_most = 0;
         for met in host.met() {
             if let Some(met) = met {
                 if let Some(trip) = host.host().round_trip(met.peer) {
@@ -125,6 +142,9 @@ impl Monitor {
                 }
                 let in_transit = host.host().in_transit(met.peer).unwrap_or(0);
                 self.in_transit = self.in_transit.saturating_add(u64::from(in_transit));
+                let queued = host.host().outstanding(met.peer).map_or(0, |it| it.bytes);
+                self.queued = self.queued.saturating_add(queued);
+                self.queued_most = self.queued_most.max(queued);
             }
         }
     }

@@ -4,9 +4,9 @@ use crate::failure::Failure;
 use crate::monitor::Monitor;
 use crate::watching::Operator;
 use enet_codec::{Refusal, Secret};
-use enet_console::{Admission, Length, ServeOptions, ServerThreads};
+use enet_console::{Admission, Length, ServeOptions, ServerThreads, Unsent};
 use enet_metrics::{Figures, Pages};
-use enet_serve::{ChatServer, Gauge, Rules, RunLength, Settings, Unopened, Watch};
+use enet_serve::{ChatServer, Gauge, Rules, RunLength, SendLimit, Settings, Unopened, Watch};
 use enet_service::{Report, system_secret};
 use std::alloc::Global;
 use std::net::{Ipv4Addr, Net, SocketAddr};
@@ -32,6 +32,7 @@ where
         mtu: options.admission.mtu,
         max_packet: options.max_packet,
         max_waiting: options.max_waiting,
+        send_limit: options.max_unsent.map(limit_of),
         receive_buffer: options.admission.receive_buffer,
         rules: rules_of(&options.admission),
         secret: secret_for(options.has_secret)?,
@@ -47,6 +48,14 @@ where
     server.take_leave(rt);
     server.close();
     served
+}
+
+// When a client is full.
+fn limit_of(unsent: Unsent) -> SendLimit {
+    SendLimit {
+        bytes: u64::from(unsent.bytes),
+        commands: u64::from(unsent.commands),
+    }
 }
 
 // By what its host draws, if it is to have that.
@@ -205,7 +214,8 @@ where
     println!(rt; "served {turns} received {received} sent {sent}").map_err(|_| Failure::Io)
 }
 
-// Serves until the process is stopped, or its operator says so. What the operator asks for comes between two runs.
+// Serves until the process is stopped, or its operator says so. What the operator asks for comes between two runs, and so do the ends of
+// clients that are too slow.
 fn serve_on<R>(
     rt: &R,
     server: &mut ChatServer,

@@ -4,7 +4,8 @@ use crate::desk::Desk;
 use crate::monitor::{Counted, Monitor};
 use enet_codec::{PeerRef, Refusal};
 use enet_console::{Outlet, Stream, Word};
-use enet_serve::{ChatServer, Gauge, Met, Note, Watch, WatchedHost};
+use enet_peer::Ending;
+use enet_serve::{ChatServer, Gauge, Met, Note, TOO_SLOW, Watch, WatchedHost};
 use enet_service::Report;
 use std::alloc::{AllocError, Global};
 use std::net::Ipv4Addr;
@@ -21,8 +22,9 @@ const BETWEEN_REFUSALS: u64 = 1;
 /// At one look so many lines of the operator are obeyed at most.
 const MOST_LINES: u32 = 16;
 
-/// Tells the server's operator on standard error: its totals each minute and, if that is asked, each connection, each end of one and, once a
-/// second, how many orders were refused; and does what the operator says. A line that can't be written, or not at once, ends nothing and holds up nothing.
+/// Tells the server's operator on standard error: its totals each minute and, if that is asked, each connection, each client that is too slow,
+/// each end of one and, once a second, how many orders were refused; and does what the operator says. A line that can't be written, or not at
+/// once, ends nothing and holds up nothing.
 #[derive(Drop)]
 pub struct Operator<'a, R> {
     rt: &'a R,
@@ -241,8 +243,23 @@ impl<R: Clock + Print + Eprint> Operator<'_, R> {
 fn logged(alloc: Global, note: &Note) -> Option<Result<String, AllocError>> {
     match note {
         Note::Asked { .. } | Note::Refused { .. } => None,
-        Note::Came { met, info } => Some(logged_met(alloc, "connect", met, *info)),
-        Note::Went { met, info } => Some(logged_met(alloc, "disconnect", met, *info)),
+        Note::Came { met, info } => Some(logged_met(alloc, "connect", met, *info, "")),
+        Note::Went { met, info, why } => {
+            Some(logged_met(alloc, "disconnect", met, *info, told_of(*why)))
+        }
+        Note::Lacks { met } => Some(logged_met(alloc, "too slow", met, TOO_SLOW, "")),
+    }
+}
+
+// Why a connection ended.
+fn told_of(ending: Option<Ending>) -> &'static str {
+    match ending {
+        Some(Ending::AskedHere) => ": asked here",
+        Some(Ending::AskedThere) => ": asked there",
+        Some(Ending::TimedOut) => ": timed out",
+        Some(Ending::NeverAnswered) => ": never answered",
+        Some(Ending::BadAnswer) => ": bad answer",
+        None => "",
     }
 }
 
@@ -261,10 +278,16 @@ fn logged_refusals(
     format!(in alloc; "orders refused {count}, the last to {slot}.{generation}: {why}\n")
 }
 
-fn logged_met(alloc: Global, what: &str, met: &Met, info: u32) -> Result<String, AllocError> {
+fn logged_met(
+    alloc: Global,
+    what: &str,
+    met: &Met,
+    info: u32,
+    why: &str,
+) -> Result<String, AllocError> {
     let slot = met.peer.slot;
     let generation = met.peer.generation;
     let ip = Ipv4Addr::from_bits(met.address.ip);
     let port = met.address.port;
-    format!(in alloc; "{what} {slot}.{generation} at {ip}:{port} info {info}\n")
+    format!(in alloc; "{what} {slot}.{generation} at {ip}:{port} info {info}{why}\n")
 }
