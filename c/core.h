@@ -27,12 +27,15 @@ uint32_t gofnjerta_core_disconnect_later(gofnjerta_host *host, const gofnjerta_p
 uint32_t gofnjerta_core_set_bandwidth(gofnjerta_host *host, uint32_t incoming, uint32_t outgoing);
 uint32_t gofnjerta_core_give_way(gofnjerta_host *host);
 uint32_t gofnjerta_core_set_most(gofnjerta_host *host, uint16_t peers);
+uint32_t gofnjerta_core_set_send_limit(gofnjerta_host *host, uint64_t bytes, uint64_t commands);
 uint32_t gofnjerta_core_set_secret(gofnjerta_host *host, const uint8_t *key);
 uint32_t gofnjerta_core_throttle_configure(gofnjerta_host *host, const gofnjerta_peer *peer, uint32_t interval, uint32_t acceleration,
                                            uint32_t deceleration);
 uint32_t gofnjerta_core_set_ping_interval(gofnjerta_host *host, const gofnjerta_peer *peer, uint32_t ms);
 uint32_t gofnjerta_core_set_timeout(gofnjerta_host *host, const gofnjerta_peer *peer, uint32_t limit, uint32_t minimum, uint32_t maximum);
 uint32_t gofnjerta_core_peer(gofnjerta_host *host, const gofnjerta_peer *peer, gofnjerta_reading *reading);
+uint32_t gofnjerta_core_line(gofnjerta_host *host, const gofnjerta_peer *peer, gofnjerta_line *line);
+uint32_t gofnjerta_core_ending(gofnjerta_host *host, const gofnjerta_peer *peer, uint32_t *why);
 uint32_t gofnjerta_core_allowance(gofnjerta_host *host, const gofnjerta_peer *peer, uint32_t *bytes);
 uint32_t gofnjerta_core_totals_of(gofnjerta_host *host, gofnjerta_totals *totals);
 uint32_t gofnjerta_core_held(gofnjerta_host *host, gofnjerta_held *held);

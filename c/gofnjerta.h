@@ -1,7 +1,7 @@
 /* A host of ENet 1.3 without a socket or a clock: datagrams, calls and time go in, datagrams and events come out. It talks with
  * programs that use libenet 1.3. The host is proved (crates/enet_c of Gofnjerta says what); the C in front of it (c/gofnjerta.c), which
  * tests pointers and lengths, is tested only. The library has no state except that of its handles, starts no thread, and calls nothing of
- * the C library except malloc, realloc, free and what copies memory.
+ * the C library except malloc, realloc, free and what copies memory, and nothing of the caller's except the writer of a record.
  *
  * What the caller must keep, since nothing can test it:
  * - A handle is all zero bytes before it is opened. From then until it is closed only this library writes it. It is one object: it may be
@@ -14,8 +14,8 @@
  * - malloc, realloc and free belong to one allocator, and align as C's do.
  * Values may be anything: a call returns a number for those that it refuses.
  *
- * Ownership: the library keeps no pointer of the caller's after a call. It copies what it is given, and writes results to the caller's
- * memory. Only gofnjerta_close frees what a handle holds.
+ * Ownership: the library keeps no pointer of the caller's after a call, except for those given to gofnjerta_record. It copies what it is
+ * given, and writes results to the caller's memory. Only gofnjerta_close frees what a handle holds.
  *
  * A call with a uint32_t result returns 0 if it succeeded, otherwise the number of the first reason that applies; GOFNJERTA_MEMORY is
  * the last of these. It has then changed nothing in the handle, except for gofnjerta_broadcast, and has written to the caller's memory only
@@ -48,7 +48,7 @@ typedef struct gofnjerta_host {
     bool is_open;
 } gofnjerta_host;
 
-/* Why a call was refused. No call of this library returns 6 or 9 to 17, which are other numbers of the proved host. */
+/* Why a call was refused. No call of this library returns 6 or 10 to 17, which are other numbers of the proved host. */
 enum {
     GOFNJERTA_OK = 0,
     GOFNJERTA_MEMORY = 1,          /* malloc or realloc refused; the call may be repeated, except gofnjerta_broadcast, which some
@@ -60,6 +60,7 @@ enum {
                                       larger than any object */
     GOFNJERTA_NO_SLOT = 7,         /* no slot is free that has a generation left */
     GOFNJERTA_BAD_CONFIG = 8,      /* a setting is out of its range, or no channel was asked for */
+    GOFNJERTA_FULL = 9,            /* as much is queued or unacknowledged for the peer as gofnjerta_set_send_limit says */
     GOFNJERTA_CLOSED = 32,         /* the handle holds no host */
     GOFNJERTA_OPEN = 33,           /* the handle holds a host already */
     GOFNJERTA_SHORT = 34,          /* the buffer is too short */
@@ -94,7 +95,10 @@ typedef struct gofnjerta_peer {
     uint32_t generation;
 } gofnjerta_peer;
 
-/* Flags of a packet that is submitted; other bits are ignored. Of one that came: how it was carried, one of these or 0. */
+/* Flags of a packet that is submitted; other bits are ignored. 0 is unreliable: it may be lost, and comes in the order of its channel or
+ * not at all. With 0 or UNSEQUENCED a packet that is too long for a datagram, above the peer's mtu - 28 bytes, goes as reliable pieces;
+ * with UNRELIABLE_FRAGMENT, but not RELIABLE, as unreliable ones, and is lost if one of them is. Of a packet that came: how it was
+ * carried, one of these or 0. */
 enum {
     GOFNJERTA_RELIABLE = 1,
     GOFNJERTA_UNSEQUENCED = 2,
@@ -123,8 +127,8 @@ enum { GOFNJERTA_NONE = 0, GOFNJERTA_CONNECT = 1, GOFNJERTA_DISCONNECT = 2, GOFN
 typedef struct gofnjerta_event {
     uint32_t kind;
     uint32_t info; /* CONNECT: at the end that was asked, the `info` given to gofnjerta_connect; at the end that asked, 0.
-                      DISCONNECT: the number that the other end gave, 0 if this end asked or the peer timed out. To tell these apart, let both
-                      ends disconnect with numbers above 0, and note which peers you disconnect */
+                      DISCONNECT: the number that the other end gave; 0 if it gave none, as when this end asked or the peer timed out.
+                      gofnjerta_ending tells these apart */
     gofnjerta_peer peer;
     uint8_t channel, flags; /* RECEIVE */
     uint64_t length;        /* RECEIVE: how many bytes the packet has */
@@ -150,7 +154,7 @@ typedef struct gofnjerta_reading {
     uint32_t connect_id;              /* the word of the end that connected */
     uint32_t round_trip, variance;    /* milliseconds: the mean, 500 at first, and its mean deviation */
     uint32_t in_transit;              /* bytes of reliable packets: sent, not acknowledged and not due to be resent */
-    uint32_t throttle;                /* 0 to 32: how many of 32 unreliable packets are sent */
+    uint32_t throttle;                /* 0 to 32: of 32 packets that aren't reliable one more than this is sent, from 31 on all */
     uint32_t throttle_interval;       /* milliseconds */
     uint32_t acceleration, deceleration; /* of the throttle, in parts of 32 an interval, as the end that connected asked */
     gofnjerta_address address;
@@ -158,6 +162,29 @@ typedef struct gofnjerta_reading {
     uint8_t channels;
     uint8_t incoming_session, outgoing_session; /* 0 to 3 */
 } gofnjerta_reading;
+
+/* How the line to a peer is. */
+typedef struct gofnjerta_line {
+    uint32_t round_trip, variance;  /* milliseconds: the mean, 500 at first, and its mean deviation */
+    uint32_t lowest, lowest_before; /* milliseconds: the lowest mean in the throttle's running interval, and in the one before; 500 at first */
+    uint32_t throttle;              /* 0 to 32: of 32 packets that aren't reliable one more than this is sent, from 31 on all */
+    uint32_t allowance;             /* bytes, as gofnjerta_read_allowance tells */
+    uint32_t in_transit;            /* bytes of reliable packets: sent, not acknowledged and not due to be resent */
+    uint64_t commands, bytes;       /* queued, or sent and not acknowledged, as gofnjerta_set_send_limit counts them */
+} gofnjerta_line;
+
+/* Why a connection ended. */
+enum {
+    GOFNJERTA_NO_ENDING = 0,      /* it hasn't ended, or ended without a DISCONNECT, or that was too long ago */
+    GOFNJERTA_ASKED_HERE = 1,     /* this end's DISCONNECT (gofnjerta_disconnect, _later) was acknowledged, or wasn't for longer than this
+                                     end waits */
+    GOFNJERTA_ASKED_THERE = 2,    /* the other end sent DISCONNECT, with which it also refuses a connection; also if this end had asked. The
+                                     event's `info` is its number */
+    GOFNJERTA_TIMED_OUT = 3,      /* the other end left a command unacknowledged for too long (gofnjerta_set_timeout); also while
+                                     gofnjerta_disconnect_later waits to send its DISCONNECT */
+    GOFNJERTA_NEVER_ANSWERED = 4, /* no answer of the server to CONNECT took effect for as long as the client waits */
+    GOFNJERTA_BAD_ANSWER = 5      /* the server's answer doesn't fit what the client asked for */
+};
 
 /* How much went through a host. Each number stops at its greatest value. */
 typedef struct gofnjerta_totals {
@@ -205,6 +232,16 @@ uint32_t gofnjerta_open(gofnjerta_host *host, const gofnjerta_config *config);
 /* Closes a host and frees what it holds; no peer is notified. Returns 0 for a closed handle, too. The handle may be opened again. */
 uint32_t gofnjerta_close(gofnjerta_host *host);
 
+/* Takes `length` bytes of a record, which follow those before. It returns 0; with another number the record ends there. It makes no call with
+ * the host. */
+typedef int (*gofnjerta_writer)(void *context, const void *bytes, size_t length);
+
+/* Opens a host as gofnjerta_open does, and records it until it is closed: each call that changes it, its settings and the datagrams that come
+ * among them, and what comes out. `write` is called with `context` and the pieces of the record, within those calls. The program
+ * gofnjerta_replay makes the same calls on a fresh host, and tells where anything else comes out. A record has the host's secret and each
+ * packet: keep it as you keep these. */
+uint32_t gofnjerta_record(gofnjerta_host *host, const gofnjerta_config *config, gofnjerta_writer write, void *context);
+
 /* Asks the host at an address for a connection with 1 to 255 channels, from the lowest free slot. `info` is a number for its user.
  * `word` names the connection: draw it from the system (getentropy), anew for each connection. A stranger who can guess it, and forges
  * the server's address, can be taken for the server. A drawn word also keeps datagrams of an earlier connection from being taken for this
@@ -212,13 +249,14 @@ uint32_t gofnjerta_close(gofnjerta_host *host);
 uint32_t gofnjerta_connect(gofnjerta_host *host, gofnjerta_address to, uint8_t channels, uint32_t info, uint32_t word, gofnjerta_peer *peer);
 
 /* Submits a packet: a copy of `length` bytes at `body`, which may be NULL where length is 0. NO_SUCH_PEER, NOT_CONNECTED,
- * NO_SUCH_CHANNEL, TOO_LARGE, MEMORY. */
+ * NO_SUCH_CHANNEL, TOO_LARGE, FULL (only after gofnjerta_set_send_limit), MEMORY. */
 uint32_t gofnjerta_submit(gofnjerta_host *host, gofnjerta_peer peer, uint8_t channel, uint8_t flags, const void *body, size_t length);
 
 /* Submits a packet to each of `count` peers: a copy of `length` bytes at `body`, which they share. Peers that have gone or aren't
  * connected are skipped. If one peer refuses it for another reason, the others still get it, and the first such reason is returned:
- * NO_SUCH_CHANNEL, TOO_LARGE, MEMORY. No peer gets it if there is no memory for the copy (MEMORY), or if length is above
- * GOFNJERTA_MAX_PACKET or `count` peers are larger than any object (TOO_LARGE). */
+ * NO_SUCH_CHANNEL, TOO_LARGE, FULL, MEMORY. Who refuses it as FULL must be read before, by gofnjerta_read_line: afterwards a peer that took
+ * it and is full by it looks the same, so don't submit it again to all that look full. No peer gets it if there is no memory for the copy
+ * (MEMORY), or if length is above GOFNJERTA_MAX_PACKET or `count` peers are larger than any object (TOO_LARGE). */
 uint32_t gofnjerta_broadcast(gofnjerta_host *host, const gofnjerta_peer *peers, size_t count, uint8_t channel, uint8_t flags,
                              const void *body, size_t length);
 
@@ -238,8 +276,8 @@ uint32_t gofnjerta_receive(gofnjerta_host *host, gofnjerta_address from, const v
  * dropped. SHORT, with length 0. */
 uint32_t gofnjerta_service(gofnjerta_host *host, void *buffer, size_t room, gofnjerta_datagram *datagram);
 
-/* The clock goes on by `ms` milliseconds, 60,000 at most. Commands whose timeout is over are resent, quiet peers pinged, and peers that
- * are silent too long dropped. Tick every few milliseconds, or when gofnjerta_due_in says. */
+/* The clock goes on by `ms` milliseconds, 60,000 at most. Commands whose timeout is over are resent, quiet peers pinged, and peers dropped
+ * that left a command unacknowledged too long. Tick every few milliseconds, or when gofnjerta_due_in says. */
 uint32_t gofnjerta_tick(gofnjerta_host *host, uint32_t ms);
 
 /* Milliseconds until timed work is due, at most 1,000: a shorter tick only changes the clock. A program that has sent all that
@@ -262,6 +300,13 @@ uint32_t gofnjerta_disconnect_later(gofnjerta_host *host, gofnjerta_peer peer, u
 
 /* Sets the host's bandwidths, in bytes per second; 0: no limit is known. Each connected peer is sent them. MEMORY. */
 uint32_t gofnjerta_set_bandwidth(gofnjerta_host *host, uint32_t incoming, uint32_t outgoing);
+
+/* Sets at how much that is queued, or sent and not acknowledged, a peer takes no further packet (FULL): at so many bytes of payload, or so
+ * many commands, which are packets, or the pieces of long ones. It holds for all peers, also those to come. What is there already stays. A
+ * peer with nothing queued or unacknowledged is never FULL: so 0 isn't "no limit", but one packet at a time. Without this call there is no
+ * limit; UINT64_MAX twice is as good as none. It doesn't bound memory: the pieces of a packet that was cut share its body until the last
+ * one is gone. */
+uint32_t gofnjerta_set_send_limit(gofnjerta_host *host, uint64_t bytes, uint64_t commands);
 
 /* Sets the host's secret: 32 bytes that the system drew (getentropy) and that nobody else knows. By them each peer that begins from now on
  * gets sent times and numbers of its own, so that a stranger who forges an address and doesn't see the answers can't connect in its
@@ -293,6 +338,13 @@ uint32_t gofnjerta_set_timeout(gofnjerta_host *host, gofnjerta_peer peer, uint32
 
 /* Reads a peer. NO_SUCH_PEER. */
 uint32_t gofnjerta_read_peer(gofnjerta_host *host, gofnjerta_peer peer, gofnjerta_reading *reading);
+
+/* Reads how the line to a peer is. NO_SUCH_PEER. */
+uint32_t gofnjerta_read_line(gofnjerta_host *host, gofnjerta_peer peer, gofnjerta_line *line);
+
+/* Reads why a peer's connection ended (GOFNJERTA_ASKED_HERE ..), before and after its DISCONNECT is taken, until the next peer of that
+ * slot, connected or not, is gone: ask when you take the DISCONNECT. */
+uint32_t gofnjerta_ending(gofnjerta_host *host, gofnjerta_peer peer, uint32_t *why);
 
 /* Reads a peer's allowance, 2,800 to 131,072 bytes, at first 65,536: the most that may be in transit to it. Each command of a reliable packet
  * counts by its payload and 28. From 65,536 on it limits nothing. It falls if the line drops packets, and grows as they are acknowledged.

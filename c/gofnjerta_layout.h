@@ -80,6 +80,17 @@ GOFNJERTA_FIELD(gofnjerta_reading, channels, 54, 1);
 GOFNJERTA_FIELD(gofnjerta_reading, incoming_session, 55, 1);
 GOFNJERTA_FIELD(gofnjerta_reading, outgoing_session, 56, 1);
 
+GOFNJERTA_STRUCT(gofnjerta_line, 48, 8);
+GOFNJERTA_FIELD(gofnjerta_line, round_trip, 0, 4);
+GOFNJERTA_FIELD(gofnjerta_line, variance, 4, 4);
+GOFNJERTA_FIELD(gofnjerta_line, lowest, 8, 4);
+GOFNJERTA_FIELD(gofnjerta_line, lowest_before, 12, 4);
+GOFNJERTA_FIELD(gofnjerta_line, throttle, 16, 4);
+GOFNJERTA_FIELD(gofnjerta_line, allowance, 20, 4);
+GOFNJERTA_FIELD(gofnjerta_line, in_transit, 24, 4);
+GOFNJERTA_FIELD(gofnjerta_line, commands, 32, 8);
+GOFNJERTA_FIELD(gofnjerta_line, bytes, 40, 8);
+
 GOFNJERTA_STRUCT(gofnjerta_totals, 32, 8);
 GOFNJERTA_FIELD(gofnjerta_totals, datagrams_in, 0, 8);
 GOFNJERTA_FIELD(gofnjerta_totals, bytes_in, 8, 8);

@@ -8,7 +8,8 @@
 #include <stdlib.h>
 #include <threads.h>
 
-/* Sizes go by steps of 16 bytes, up to 128 bytes; of each a thread keeps at most so many blocks. */
+/* Sizes go by steps of 16 bytes, up to 128 bytes. A thread keeps at most MOST blocks of each size (of the core, the layer and packets), some
+ * 1.1 MB in all, until it ends. */
 enum { STEP = 16, LONGEST = 128, MOST = 512 };
 
 /* What stands before a block. */

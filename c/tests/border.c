@@ -53,6 +53,7 @@ static void names(void) {
     CHECK(!strcmp(gofnjerta_error_name(GOFNJERTA_NO_SUCH_CHANNEL), "E4 NoSuchChannel"));
     CHECK(!strcmp(gofnjerta_error_name(GOFNJERTA_TOO_LARGE), "E5 TooLarge") && !strcmp(gofnjerta_error_name(GOFNJERTA_NO_SLOT), "E7 NoSlot"));
     CHECK(!strcmp(gofnjerta_error_name(GOFNJERTA_BAD_CONFIG), "E8 BadConfig") && !strcmp(gofnjerta_error_name(GOFNJERTA_CLOSED), "Closed"));
+    CHECK(!strcmp(gofnjerta_error_name(GOFNJERTA_FULL), "E9 Full"));
     CHECK(!strcmp(gofnjerta_error_name(GOFNJERTA_NULL), "Null") && !strcmp(gofnjerta_error_name(GOFNJERTA_NULL + 1), "?"));
     CHECK(!strcmp(gofnjerta_error_name(GOFNJERTA_OK), "OK") && !strcmp(gofnjerta_stop_name(0), "none"));
 }
@@ -423,6 +424,7 @@ static void nothing(void) {
     gofnjerta_datagram gave = {.length = 9};
     gofnjerta_received got = {9, 9, 9};
     gofnjerta_reading read = {.mtu = 9};
+    gofnjerta_line line = {.bytes = 9};
     gofnjerta_totals totals = {.bytes_in = 9};
     gofnjerta_held held = {.bytes = 9};
     gofnjerta_slots slots = {.free = 9};
@@ -444,6 +446,7 @@ static void nothing(void) {
     BOTH(disconnect_now, peer, 0);
     BOTH(disconnect_later, peer, 0);
     BOTH(set_bandwidth, 0, 0);
+    BOTH(set_send_limit, 1, 2);
     BOTH(set_secret, key);
     BOTH(give_way);
     BOTH(set_most, 1);
@@ -451,13 +454,15 @@ static void nothing(void) {
     BOTH(set_ping_interval, peer, 1);
     BOTH(set_timeout, peer, 1, 2, 3);
     BOTH(read_peer, peer, &read);
+    BOTH(read_line, peer, &line);
+    BOTH(ending, peer, &ms);
     BOTH(read_allowance, peer, &ms);
     BOTH(read_totals, &totals);
     BOTH(read_held, &held);
     BOTH(read_slots, &slots);
     BOTH(read_sent_again, &commands);
     BOTH(due_in, &ms);
-    CHECK(held.bytes == 9 && slots.free == 9 && commands == 9);
+    CHECK(held.bytes == 9 && slots.free == 9 && commands == 9 && line.bytes == 9);
     CHECK(peer.slot == 1 && peer.generation == 2 && got.stop == 9 && read.mtu == 9 && totals.bytes_in == 9 && ms == 9);
     CHECK(event.kind == GOFNJERTA_NONE && gave.length == 0 && !host.is_open && !host.at);
     ANSWERS(GOFNJERTA_NULL, gofnjerta_close(NULL));
@@ -475,6 +480,8 @@ static void nothing(void) {
     ANSWERS(GOFNJERTA_NULL, gofnjerta_next_event(&host, NULL));
     ANSWERS(GOFNJERTA_NULL, gofnjerta_body(&host, NULL, 1));
     ANSWERS(GOFNJERTA_NULL, gofnjerta_read_peer(&host, peer, NULL));
+    ANSWERS(GOFNJERTA_NULL, gofnjerta_read_line(&host, peer, NULL));
+    ANSWERS(GOFNJERTA_NULL, gofnjerta_ending(&host, peer, NULL));
     ANSWERS(GOFNJERTA_NULL, gofnjerta_read_allowance(&host, peer, NULL));
     ANSWERS(GOFNJERTA_NULL, gofnjerta_read_totals(&host, NULL));
     ANSWERS(GOFNJERTA_NULL, gofnjerta_read_held(&host, NULL));

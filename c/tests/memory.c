@@ -66,7 +66,12 @@ static void settle(gofnjerta_host *a, gofnjerta_host *b) {
     }
 }
 
-/* One packet in fragments and two that share a body, where the allocation of this number fails. */
+static int write_nowhere(void *context, const void *bytes, size_t length) {
+    (void)context, (void)bytes, (void)length;
+    return 0;
+}
+
+/* One packet in fragments and two that share a body, where the allocation of this number fails. One of the two hosts is recorded. */
 static void run(long number, const uint8_t *body) {
     static uint8_t got[5000];
     gofnjerta_host a = {0}, b = {0};
@@ -74,7 +79,7 @@ static void run(long number, const uint8_t *body) {
     gofnjerta_peer peer;
     gofnjerta_event event;
     left = number;
-    AGAIN(gofnjerta_open(&a, &config));
+    AGAIN(gofnjerta_record(&a, &config, write_nowhere, NULL));
     AGAIN(gofnjerta_open(&b, &config));
     AGAIN(gofnjerta_connect(&b, at_a, 2, 1, 2, &peer));
     settle(&a, &b);

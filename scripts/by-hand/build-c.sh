@@ -1,6 +1,6 @@
 #!/usr/bin/env bash
 # The host as a library for C, and libenet's API over it: `build-c.sh FOLDER [ARCHIVE]` makes of FOLDER, as /usr/local,
-#   include/gofnjerta.h   include/gofnjerta_layout.h   include/gofnjerta.hpp
+#   include/gofnjerta.h   include/gofnjerta_layout.h   include/gofnjerta.hpp   bin/gofnjerta_replay
 #   lib/libgofnjerta.a   lib/libgofnjerta.so.0   lib/libgofnjerta.so   lib/pkgconfig/gofnjerta.pc
 # and, for programs that are written for libenet,
 #   include/gofnjerta/enet/*.h   lib/libgofnjerta_enet.a   lib/gofnjerta/libenet.so.7   lib/pkgconfig/gofnjerta-enet.pc
@@ -16,7 +16,7 @@
 # is their place in the repository, which is called /usr/src/gofnjerta. Says at the end how to link; the status is 1 where something failed.
 set -eu
 [ $# -ge 1 ] || { echo "usage: build-c.sh FOLDER [ARCHIVE]" >&2; exit 1; }
-mkdir -p "$1/include/gofnjerta/enet" "$1/lib/pkgconfig" "$1/lib/gofnjerta/pkgconfig"
+mkdir -p "$1/bin" "$1/include/gofnjerta/enet" "$1/lib/pkgconfig" "$1/lib/gofnjerta/pkgconfig"
 folder=$(cd "$1" && pwd)
 [ $# -lt 2 ] || archive=$(realpath "$2")
 cd "$(dirname "$0")/../.."
@@ -42,6 +42,7 @@ ar rcs "$folder/lib/libgofnjerta.a" "$room/gofnjerta.o" "$room"/parts/*.o "$room
 compile -shared -Wl,-soname,libgofnjerta.so.0 -Wl,--version-script=c/gofnjerta.map -o "$folder/lib/libgofnjerta.so.0" "$room/gofnjerta.o" \
     "$room"/parts/*.o "$room"/memory/*.o
 ln -sf libgofnjerta.so.0 "$folder/lib/libgofnjerta.so"
+compile c/replay.c -o "$folder/bin/gofnjerta_replay" "$folder/lib/libgofnjerta.a"
 # The layer's files become one object, out of which only libenet's names are seen.
 mkdir "$room/layer"
 for source in c/enet/*.c; do

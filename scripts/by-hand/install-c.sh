@@ -37,7 +37,7 @@ find . ! -type d -printf '%P\n' | sort > "$room/list"
 while IFS= read -r file; do
     mkdir -p "$prefix/$(dirname "$file")"
     cp -P "$file" "$prefix/$file"
-    [ -L "$file" ] || chmod "$([[ $file == *.so* ]] && echo 755 || echo 644)" "$prefix/$file"
+    [ -L "$file" ] || chmod "$([[ $file == *.so* || $file == bin/* ]] && echo 755 || echo 644)" "$prefix/$file"
 done < "$room/list"
 cp "$room/list" "$prefix/$list"
 echo "installed: $(wc -l < "$room/list") files below $prefix; programs for libenet: PKG_CONFIG_PATH=$1/lib/gofnjerta/pkgconfig"

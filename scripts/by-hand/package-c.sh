@@ -1,7 +1,8 @@
 #!/usr/bin/env bash
 # Debian packages of the libraries for C: `package-c.sh FOLDER [ARCHIVE]` makes of them, in FOLDER, with the version in VERSION,
 #   libgofnjerta0_VERSION_ARCH.deb           libgofnjerta.so.0
-#   libgofnjerta-dev_VERSION_ARCH.deb        gofnjerta.h and .hpp, the table gofnjerta_layout.h, libgofnjerta.so and .a, and libenet's API by its name
+#   libgofnjerta-dev_VERSION_ARCH.deb        gofnjerta.h and .hpp, the table gofnjerta_layout.h, libgofnjerta.so and .a, gofnjerta_replay, and
+#                                            libenet's API by its name
 # and, as 1.3.17+gofnjertaVERSION,
 #   libenet7-gofnjerta_.._ARCH.deb           libenet.so.7 where Debian has it, for programs that are there
 #   libenet-gofnjerta-dev_.._ARCH.deb        enet/*.h, libenet.so, libenet.a and libenet.pc
@@ -19,7 +20,7 @@ trap 'rm -rf "$room"' EXIT
 bash scripts/by-hand/build-c.sh "$room/made" "${@:2}" > "$room/said"
 python3 scripts/lib/third-party.py enet_c > "$room/THIRD-PARTY.txt"
 made=$room/made
-for file in "$made"/lib/*.a "$made"/lib/libgofnjerta.so.0 "$made"/lib/gofnjerta/libenet.so.7; do strip_file "$file"; done
+for file in "$made"/lib/*.a "$made"/lib/libgofnjerta.so.0 "$made"/lib/gofnjerta/libenet.so.7 "$made"/bin/gofnjerta_replay; do strip_file "$file"; done
 enet=1.3.17
 in_place=$enet+gofnjerta$version
 
@@ -46,7 +47,8 @@ out. The host is proved; the C code around it is tested.
 END
 
 dev=$room/libgofnjerta-dev
-mkdir -p "$dev/$libs/pkgconfig" "$dev/usr/include/gofnjerta/enet" "$dev/usr/share/doc/libgofnjerta-dev"
+mkdir -p "$dev/$libs/pkgconfig" "$dev/usr/bin" "$dev/usr/include/gofnjerta/enet" "$dev/usr/share/doc/libgofnjerta-dev"
+install -m 755 "$made/bin/gofnjerta_replay" "$dev/usr/bin/"
 install -m 644 "$made/include/gofnjerta.h" "$made/include/gofnjerta_layout.h" "$made/include/gofnjerta.hpp" "$dev/usr/include/"
 install -m 644 "$made"/include/gofnjerta/enet/*.h "$dev/usr/include/gofnjerta/enet/"
 install -m 644 "$made/lib/libgofnjerta.a" "$made/lib/libgofnjerta_enet.a" "$dev/$libs/"
@@ -55,8 +57,8 @@ describe pkgconfig/gofnjerta.pc '' gofnjerta > "$dev/$libs/pkgconfig/gofnjerta.p
 describe pkgconfig/gofnjerta-enet.pc /gofnjerta gofnjerta_enet > "$dev/$libs/pkgconfig/gofnjerta-enet.pc"
 install -m 644 SECURITY.md docs/{C,ERRORS,MEMORY,PROTOCOL}.md "$dev/usr/share/doc/libgofnjerta-dev/"
 write_examples "$dev/usr/share/doc/libgofnjerta-dev/examples"
-make_package libgofnjerta-dev "$folder" "$version" libdevel "libgofnjerta0 (= $version)" 'proved host of ENet 1.3: headers and static libraries' << 'END'
-Multi-Arch: same
+make_package libgofnjerta-dev "$folder" "$version" libdevel "libgofnjerta0 (= $version), $(depends_on_libc "$made/bin/gofnjerta_replay")" \
+    'proved host of ENet 1.3: headers and static libraries' << 'END'
 Suggests: pkg-config
 
 What a C or C++ program is compiled with: gofnjerta.h for the host alone

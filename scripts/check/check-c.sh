@@ -2,8 +2,9 @@
 # The library for C and libenet's API over it: `check-c.sh [ARCHIVE]`. ARCHIVE is the proved part, by default crates/enet_c/out/libenet_c.a,
 # which `rt lib` makes there, or after `rt ci` scripts/lib/archive-c.sh. Builds both (scripts/by-hand/build-c.sh) and runs
 # - the tests of c/tests: the header against the library and bad use (border), two hosts in memory over a lossy net (lossy), whom a host lets
-#   in, by a model of the rules (admitted), each allocation failing in turn (memory), and the blocks that the layer keeps (pool, also as it
-#   is built for debugging); plain, with AddressSanitizer and UndefinedBehaviorSanitizer, and under valgrind;
+#   in, by a model of the rules (admitted), limits, lines and ends of connections (told), records of hosts (record, and the program
+#   gofnjerta_replay), each allocation failing in turn (memory), and the blocks that the layer keeps (pool, also as it is built for
+#   debugging); plain, with AddressSanitizer and UndefinedBehaviorSanitizer, and under valgrind;
 # - the structures of gofnjerta.h lie, for C and C++, as the lines of gofnjerta_layout.h say (shapes, shapes-c++), and its calls are all that the
 #   shared library gives away (declared);
 # - the layer: its structures lie as the reference library's header says (layout), what isn't offered is refused, and packets that are sent
@@ -18,7 +19,7 @@
 #   libenet on our shared library;
 # - programs that weren't written for it: libenet's tutorial (c/tests/tutorial.c) on the layer, and Debian's python3-enet, which was built
 #   for libenet, on our shared library (c/tests/binding.py), each with the reference library at the other end, both ways round;
-# - the programs that docs/C.md shows, in C and in Python, as they stand there but for their port, with either at the other end;
+# - the program that docs/C.md shows, and bindings/echo.py, as they are except for their port, with either at the other end;
 # - sockets by TCP, duplicatePeers, intercept, compressor, checksum and range coder (c/tests/offered.c), with each of the libraries at either
 #   end;
 # - what waits at a receiver never keeps the next packet out for good: the reference library or the layer sends, the layer receives
@@ -75,16 +76,29 @@ compile() {
 
 build_tests() {
     local made=$room/made wrap=-Wl,--wrap=malloc,--wrap=realloc,--wrap=free checked=(-fsanitize=address,undefined -fno-sanitize-recover=all)
-    compile border border "$made/lib/libgofnjerta.a" && compile lossy lossy "$made/lib/libgofnjerta.a" &&
-        compile admitted admitted "$made/lib/libgofnjerta.a" && compile admitted admitted-checked "${checked[@]}" c/gofnjerta.c "$room/checked.a" &&
-        compile memory memory "$wrap" "$made/lib/libgofnjerta.a" && compile pool pool -pthread "$wrap" c/pool.c &&
+    local test
+    for test in border lossy admitted told record; do
+        compile "$test" "$test" "$made/lib/libgofnjerta.a" && compile "$test" "$test-checked" "${checked[@]}" c/gofnjerta.c "$room/checked.a" ||
+            return 1
+    done
+    compile memory memory "$wrap" "$made/lib/libgofnjerta.a" && compile pool pool -pthread "$wrap" c/pool.c &&
         compile pool pool-checked -pthread "$wrap" "${checked[@]}" c/pool.c &&
         compile pool pool-debug -pthread "$wrap" -DGOFNJERTA_DEBUG c/pool.c && compile lossy lossy-shared -L"$made/lib" -lgofnjerta &&
         compile shapes shapes && compile layout layout-ours && cc c/tests/layout.c -o "$room/layout-theirs" && build_layer_tests &&
         compile tutorial our-tutorial "$made/lib/libgofnjerta_enet.a" && cc -Wall -Wextra c/tests/tutorial.c -o "$room/tutorial" -lenet &&
-        compile progress our-progress "$made/lib/libgofnjerta_enet.a" && cc -O1 -Wall -Wextra c/tests/progress.c -o "$room/progress" -lenet &&
-        compile border border-checked "${checked[@]}" c/gofnjerta.c "$room/checked.a" &&
-        compile lossy lossy-checked "${checked[@]}" c/gofnjerta.c "$room/checked.a"
+        compile progress our-progress "$made/lib/libgofnjerta_enet.a" && cc -O1 -Wall -Wextra c/tests/progress.c -o "$room/progress" -lenet
+}
+
+# The program that replays: a record, one with a changed byte, a cut one, and none.
+replayed() {
+    local replay=$room/made/bin/gofnjerta_replay file=$room/tape status
+    "$room/record" write "$file" && "$replay" "$file" && { head -c 20000 "$file"; echo; tail -c +20002 "$file"; } > "$file.changed" &&
+        head -c 20000 "$file" > "$file.cut" || return 1
+    for file in "$file.changed 1" "$file.cut 1" "$file.none 2"; do
+        "$replay" "${file% *}"
+        status=$?
+        [ "$status" -eq "${file##* }" ] || { echo "$file: status $status"; return 1; }
+    done
 }
 
 # The lines of gofnjerta_layout.h, as a binding reads them.
@@ -259,15 +273,16 @@ conversations() {
     wait
 }
 
-# Puts the program of docs/C.md in the language $1 into the file $2, for the port `port`.
+# Puts the program of docs/C.md, and the same in Python, into $room/echo.c and echo.py, for the port `port`.
 shown() {
-    sed -n "/^\`\`\`$1\$/,/^\`\`\`\$/{//!p}" docs/C.md | sed "s/7777/$port/" > "$2" && [ -s "$2" ]
+    sed -n '/^```c$/,/^```$/{//!p}' docs/C.md | sed "s/7777/$port/" > "$room/echo.c" && [ -s "$room/echo.c" ] &&
+        sed "s/7777/$port/" bindings/echo.py > "$room/echo.py"
 }
 
 # Makes both, and a program for libenet (the tutorial), those in C by the words of pkg-config, as docs/C.md says.
 make_shown() {
     local words
-    shown c "$room/echo.c" && shown python "$room/echo.py" || return 1
+    shown || return 1
     read -ra words <<< "$(PKG_CONFIG_PATH=$room/made/lib/pkgconfig pkg-config --cflags --libs gofnjerta)"
     cc -Wall -Wextra "$room/echo.c" "${words[@]}" -o "$room/shown" || return 1
     read -ra words <<< "$(PKG_CONFIG_PATH=$room/made/lib/pkgconfig pkg-config --cflags --libs gofnjerta-enet)"
@@ -341,9 +356,11 @@ elif ! build_all > "$room/said" 2>&1; then
     fail build "$room/said"
 else
     grind=(valgrind -q --error-exitcode=9 --leak-check=full --errors-for-leak-kinds=definite)
-    for name in border lossy admitted memory pool border-checked lossy-checked admitted-checked pool-checked pool-debug threads threads-checked; do
+    for name in border lossy admitted told record memory pool pool-debug threads; do
         try "$name" "$room/$name"
+        case $name in memory | pool-debug) ;; *) try "$name-checked" "$room/$name-checked" ;; esac
     done
+    try replayed replayed
     for name in "${layer_tests[@]}"; do
         try "$name" "$room/$name"
         try "$name-checked" "$room/$name-checked"

@@ -13,22 +13,25 @@ use Rattle.enet_codec.specs.declared.refusal.Refusal.{Refusal}
 use Rattle.enet_codec.specs.Outward.{errands}
 use Rattle.enet_codec.specs.Config.{is_admissible}
 use Rattle.enet_codec.specs.declared.config.Admission.{Admission}
+use Rattle.enet_outbox.specs.declared.parts.SendLimit.{SendLimit}
+use Rattle.enet_sender.specs.CommandChoice.{Packet}
 use Rattle.enet_slot.specs.declared.giving.Question.{Question}
 use Rattle.enet_slot.specs.Slot.{SlotState}
-use Rattle.enet_slot.specs.Calls.{submission}
+use Rattle.enet_slot.specs.Calls.{submission, unless_full}
 use Rattle.enet_slot.specs.Sharing.{wants_room}
 use Rattle.enet_host.specs.Host.{Host}
 use Rattle.enet_host.specs.Broadcast.{SubmitsEach}
-use Rattle.enet_host.specs.Calls.{on_named, with_admission, with_bandwidth, with_secret, Takes}
+use Rattle.enet_host.specs.Calls.{on_named, with_admission, with_bandwidth, with_secret, with_send_limit, Takes}
 use Rattle.enet_host.specs.Foretelling.{body_of}
 use Rattle.enet_host.specs.Opening.{host_basis, Opens, Connects, opened}
 use Rattle.enet_host.specs.Receiving.{Receives}
 use Rattle.enet_host.specs.Serving.{Serves}
 use Rattle.enet_c.specs.Numbers.{answered_by}
-use Rattle.enet_c.specs.Shapes.{name_shown, received_shown, no_datagram, datagram_shown, event_shown, reading_named, allowance_named}
+use Rattle.enet_c.specs.Shapes.{name_shown, received_shown, no_datagram, datagram_shown, event_shown, reading_named, allowance_named, line_named}
 use Rattle.enet_c.specs.declared.held.Held.{Held}
 use Rattle.enet_c.specs.declared.shapes.CoreDatagram.{CoreDatagram}
 use Rattle.enet_c.specs.declared.shapes.CoreEvent.{CoreEvent}
+use Rattle.enet_c.specs.declared.shapes.CoreLine.{CoreLine}
 use Rattle.enet_c.specs.declared.shapes.CorePeer.{CorePeer}
 use Rattle.enet_c.specs.declared.shapes.CoreReading.{CoreReading}
 use Rattle.enet_c.specs.declared.shapes.CoreReceived.{CoreReceived}
@@ -93,24 +96,31 @@ ReadsPeer name old new c = IsReading (reading_named c.before.host.slots name) ol
 abbrev pub ReadsAllowance : PeerRef → ℕ → ℕ → Crossing → Type 0
 ReadsAllowance name old new c = IsReading (allowance_named c.before.host.slots name) old new c.number × (c.after ≡ c.before)
 
+abbrev pub ReadsLine : PeerRef → CoreLine → CoreLine → Crossing → Type 0
+ReadsLine name old new c = IsReading (line_named c.before.host.slots name) old new c.number × (c.after ≡ c.before)
+
+-- a packet is submitted to the peer of this name, by the host's limit on what is queued or unacknowledged
+abbrev pub SubmitsTo : PeerRef → ℕ → Packet → Crossing → Type 0
+SubmitsTo name channel q c =
+    SettlesWithMemory (λ slots. on_named slots name (unless_full c.before.host.send_limit (submission channel q))) c
+
 -- a body is staged, or memory is refused
 abbrev pub Stages : List ℕ → Crossing → Type 0
 Stages body c =
     ((c.number ≡ 0) × (c.after ≡ record c.before { staged = Some body })) ⊎ ((c.number ≡ 1) × (c.after ≡ c.before))
 
--- the staged body is submitted by this call on slots, if there is one
-abbrev pub SubmitsBody : (List ℕ → List SlotState → Result (List SlotState) Refusal) → Option (List ℕ) → Crossing → Type 0
-SubmitsBody call None c = (c.number ≡ unstaged) × (c.after ≡ c.before)
-SubmitsBody call (Some body) c = SettlesWithMemory (call body) c
+-- the staged body is submitted in a packet of these flags, if there is one
+abbrev pub SubmitsBody : PeerRef → ℕ → ℕ → Option (List ℕ) → Crossing → Type 0
+SubmitsBody name channel flags None c = (c.number ≡ unstaged) × (c.after ≡ c.before)
+SubmitsBody name channel flags (Some body) c = SubmitsTo name channel (record { flags = flags; body = body }) c
 
 abbrev pub SubmitsStaged : PeerRef → ℕ → ℕ → Crossing → Type 0
-SubmitsStaged name channel flags c =
-    SubmitsBody (λ body slots. on_named slots name (submission channel (record { flags = flags; body = body }))) c.before.staged c
+SubmitsStaged name channel flags c = SubmitsBody name channel flags c.before.staged c
 
 -- a packet is submitted to each of these peers, or memory for its copy is refused
 pub record SubmitsToEach (names : List PeerRef) (packet : Outward) (c : Crossing) : Type 0 where
   pub answer : Result (Unit {0}) Refusal
-  pub submits : SubmitsEach (errands names (packet ∷ [])) answer c.before.host.slots c.after.host.slots
+  pub submits : SubmitsEach c.before.host.send_limit (errands names (packet ∷ [])) answer c.before.host.slots c.after.host.slots
   pub told : c.number ≡ answered_by answer
   pub rest : c.after ≡ record c.before { host = record c.before.host { slots = c.after.host.slots } }
 
@@ -126,6 +136,10 @@ SetsBandwidth incoming outgoing c =
 -- what peers that begin from now on draw by
 abbrev pub SetsSecret : Secret → Crossing → Type 0
 SetsSecret secret c = (c.number ≡ 0) × (c.after ≡ record c.before { host = with_secret c.before.host secret })
+
+-- how much may be queued or unacknowledged for a peer from now on
+abbrev pub SetsSendLimit : SendLimit → Crossing → Type 0
+SetsSendLimit limit c = (c.number ≡ 0) × (c.after ≡ record c.before { host = with_send_limit c.before.host limit })
 
 -- whom the host lets in from now on, or 8, with nothing changed, where that is out of its range
 abbrev pub AdmitsIf : Bool → Admission → Crossing → Type 0

@@ -10,13 +10,17 @@ use Rattle.enet_codec.specs.declared.event.PeerRef.{PeerRef}
 use Rattle.enet_codec.specs.declared.event.Received.{Received}
 use Rattle.enet_codec.specs.declared.stop.Stop.{Stop}
 use Rattle.enet_codec.specs.Stop.{stop_number}
+use Rattle.enet_peer.specs.declared.parts.Ending.{Ending}
+use Rattle.enet_peer.specs.declared.parts.Ending.TheVariants as ending
 use Rattle.enet_peer.specs.declared.parts.PeerState.{PeerState}
 use Rattle.enet_peer.specs.declared.parts.PeerState.TheVariants as state
 use Rattle.enet_peer.specs.Peering.{Peering}
 use Rattle.enet_outbox.specs.Outbox.{transit_of}
+use Rattle.enet_outbox.specs.Outstanding.{capped, outstanding_of}
 use Rattle.enet_slot.specs.declared.counting.SlotCounts.{SlotCounts}
 use Rattle.enet_slot.specs.Slot.{SlotState}
 use Rattle.enet_host.specs.declared.totals.Totals.{Totals}
+use Rattle.enet_host.specs.Calls.{ending_named}
 use Rattle.enet_host.specs.Held.{held_by, most_held}
 use Rattle.enet_host.specs.Host.{Host, named, slot_named}
 use Rattle.enet_host.specs.Memory.{memory_with}
@@ -25,6 +29,7 @@ use Rattle.enet_c.specs.declared.shapes.CoreConfig.{CoreConfig}
 use Rattle.enet_c.specs.declared.shapes.CoreDatagram.{CoreDatagram}
 use Rattle.enet_c.specs.declared.shapes.CoreEvent.{CoreEvent}
 use Rattle.enet_c.specs.declared.shapes.CoreHeld.{CoreHeld}
+use Rattle.enet_c.specs.declared.shapes.CoreLine.{CoreLine}
 use Rattle.enet_c.specs.declared.shapes.CorePeer.{CorePeer}
 use Rattle.enet_c.specs.declared.shapes.CoreReading.{CoreReading}
 use Rattle.enet_c.specs.declared.shapes.CoreReceived.{CoreReceived}
@@ -150,6 +155,35 @@ allowance_of p = p.outbox.allowance.bytes
 
 abbrev pub allowance_named : List SlotState → PeerRef → Option ℕ
 allowance_named slots name = option_map allowance_of (named slots name)
+
+-- how the line to a peer is, and what is queued or unacknowledged for it
+abbrev pub line_of : Peering → CoreLine
+line_of p = record {
+  round_trip = p.estimate.round_trip;
+  variance = p.estimate.variance;
+  lowest = p.outbox.throttle.lowest_round_trip;
+  lowest_before = p.outbox.throttle.last_round_trip;
+  throttle = p.outbox.throttle.value;
+  allowance = allowance_of p;
+  in_transit = transit_of p.outbox;
+  commands = (capped (outstanding_of p.outbox)).commands;
+  bytes = (capped (outstanding_of p.outbox)).bytes;
+}
+
+abbrev pub line_named : List SlotState → PeerRef → Option CoreLine
+line_named slots name = option_map line_of (named slots name)
+
+-- why the connection of a peer ended, 0 where nothing is known of it
+abbrev pub ending_number : Option Ending → ℕ
+ending_number None = 0
+ending_number (Some ending.AskedHere) = 1
+ending_number (Some ending.AskedThere) = 2
+ending_number (Some ending.TimedOut) = 3
+ending_number (Some ending.NeverAnswered) = 4
+ending_number (Some ending.BadAnswer) = 5
+
+abbrev pub ending_told : List SlotState → PeerRef → ℕ
+ending_told slots name = ending_number (ending_named slots name)
 
 -- how much a host holds of what others sent, and the memory that this takes with its slots, now and at most
 abbrev pub held_shown : Host → CoreHeld

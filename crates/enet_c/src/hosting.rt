@@ -2,15 +2,15 @@
 
 ghost use Rattle.std.specs.Prelude.{◌≡◌, None, map};
 ghost use Rattle.enet_codec.specs.Outward.{errands};
-ghost use Rattle.enet_slot.specs.Calls.{submission};
 ghost use Rattle.enet_host.specs.Broadcast.{SubmitsEach};
-ghost use Rattle.enet_host.specs.Calls.{on_named};
-ghost use Rattle.enet_c.specs.Border.{Asks, Broadcasts, Copies, PutsOut, SettlesWithMemory, SubmitsStaged, Tells};
-ghost use Rattle.enet_c.specs.Shapes.{name_meant, reading_named};
+ghost use Rattle.enet_c.specs.Border.{Asks, Broadcasts, Copies, PutsOut, SubmitsStaged, SubmitsTo, Tells};
+ghost use Rattle.enet_c.specs.Shapes.{name_meant, reading_named, line_named};
 
 use crate::held::Held;
 use crate::numbers::{OK, SHORT, UNSTAGED, UNTOLD, answer, number_of};
-use crate::shapes::{CoreAddress, CoreDatagram, CoreEvent, CorePeer, CoreReading, state_number};
+use crate::shapes::{
+    CoreAddress, CoreDatagram, CoreEvent, CoreLine, CorePeer, CoreReading, state_number,
+};
 use bytes::Bytes;
 use enet_host::{Addr, Event, Outward, PeerRef, Refusal};
 use std::alloc::Global;
@@ -41,7 +41,7 @@ impl Held {
 
     /// Submits a packet with a body of its own.
     pub(crate) fn give(&mut self, name: PeerRef, channel: u8, flags: u8, body: Bytes) -> u32
-        ensures { SettlesWithMemory (λ slots. on_named slots name (submission channel (record { flags = flags; body = body }))) (record { before = self.old; number = result; after = self.new }) }
+        ensures { SubmitsTo name channel (record { flags = flags; body = body }) (record { before = self.old; number = result; after = self.new }) }
     {
         match self.host.submit(name, channel, flags, body) {
             Ok(()) => OK,
@@ -58,7 +58,7 @@ impl Held {
         flags: u8,
         body: &[u8],
     ) -> u32
-        ensures { SettlesWithMemory (λ slots. on_named slots name (submission channel (record { flags = flags; body = body.now }))) (record { before = self.old; number = result; after = self.new }) }
+        ensures { SubmitsTo name channel (record { flags = flags; body = body.now }) (record { before = self.old; number = result; after = self.new }) }
     {
         if body.len() > SHORT_BODY {
             if let Some(why) = self.host.submission_refusal(name, channel, body.len()) {
@@ -115,7 +115,7 @@ impl Held {
 
     /// Submits packets to each of these peers.
     fn submit_each(&mut self, peers: &[CorePeer], packets: &[Outward]) -> Result<(), Refusal>
-        ensures submits { SubmitsEach (errands (map name_meant peers.now) packets.now) result self.old.host.slots self.new.host.slots }
+        ensures submits { SubmitsEach self.old.host.send_limit (errands (map name_meant peers.now) packets.now) result self.old.host.slots self.new.host.slots }
         ensures rest { self.new ≡ record self.old { host = record self.old.host { slots = self.new.host.slots } } }
     {
         let mut told = Ok(());
@@ -193,6 +193,30 @@ impl Held {
             channels: terms.channels,
             incoming_session: terms.incoming_session,
             outgoing_session: terms.outgoing_session,
+        })
+    }
+
+    /// How the line to a peer is, and what is queued or unacknowledged for it.
+    pub(crate) fn line(&self, name: PeerRef) -> Option<CoreLine>
+        ensures { result ≡ line_named self.now.host.slots name }
+    {
+        let host = &self.host;
+        let trips = host.round_trip(name)?;
+        let lows = host.lows(name)?;
+        let throttle = host.throttle(name)?;
+        let allowance = host.allowance(name)?;
+        let in_transit = host.in_transit(name)?;
+        let there = host.outstanding(name)?;
+        Some(CoreLine {
+            round_trip: trips.mean,
+            variance: trips.variance,
+            lowest: lows.running,
+            lowest_before: lows.last,
+            throttle,
+            allowance,
+            in_transit,
+            commands: there.commands,
+            bytes: there.bytes,
         })
     }
 }

@@ -7,11 +7,12 @@
 //!
 //! Proved: each call is safe and returns, whatever C passes by value, and answers and leaves what the host's call of that name does, by the
 //! host's own definitions (`Crosses`); with a closed handle, each but `open` writes nothing to the caller's memory. Calls that name a peer:
-//! `Settles` and `SettlesWithMemory` (`on_named`). `set_secret` is `SetsSecret` (`with_secret`). `connect` is `Asks` (the host's `Connects`), `receive` is `TakesIn` (`Receives`),
+//! `Settles` and `SettlesWithMemory` (`on_named`). `set_secret` is `SetsSecret` (`with_secret`), `set_send_limit` `SetsSendLimit` (`with_send_limit`). `connect` is `Asks` (the host's `Connects`), `receive` is `TakesIn` (`Receives`),
 //! `service` is `PutsOut` (`Serves`) and leaves the rest of the buffer alone, `next_event` is `Tells` (`Takes`) and keeps the body of the
-//! packet that it told, which `body` copies (`Copies`); `submit` answers 1 only where nothing else is refused, and `throttle_configure`
+//! packet that it told, which `body` copies (`Copies`); `submit` is `SubmitsTo` (`unless_full`, by the host's limit), and answers 1 only where
+//! nothing else is refused, and `throttle_configure`
 //! only where the host may want memory to tell the peer (`wants_room_in`); `broadcast` is the host's `submit_each` with one packet
-//! (`Broadcasts`); `peer`, `allowance` and `totals_of` show what the host holds, `slots` and `sent_again` what it counts, `held` how much
+//! (`Broadcasts`); `peer`, `line`, `allowance` and `totals_of` show what the host holds, `ending` why a connection ended (`ending_named`), `slots` and `sent_again` what it counts, `held` how much
 //! that is of what others sent (within what its settings allow), and `due_in` when time brings it something (`IsDueIn`); `open` is `Begins` (`Opens`), and `close` leaves the handle closed. A name that `error_name`
 //! or `stop_name` gives is that of the refusal or stop with this number.
 //! `compress` and `decompress` are the range coder's (`code_of`, `body_of`), and know no handle.
@@ -39,17 +40,18 @@ pub use opening::{gofnjerta_core_close, gofnjerta_core_open, gofnjerta_core_stan
 pub use own::{Handle, Own};
 pub use packing::{gofnjerta_core_compress, gofnjerta_core_decompress};
 pub use readings::{
-    gofnjerta_core_allowance, gofnjerta_core_due_in, gofnjerta_core_held, gofnjerta_core_peer,
-    gofnjerta_core_sent_again, gofnjerta_core_slots, gofnjerta_core_totals_of,
+    gofnjerta_core_allowance, gofnjerta_core_due_in, gofnjerta_core_ending, gofnjerta_core_held,
+    gofnjerta_core_line, gofnjerta_core_peer, gofnjerta_core_sent_again, gofnjerta_core_slots,
+    gofnjerta_core_totals_of,
 };
 pub use settings::{
     gofnjerta_core_disconnect, gofnjerta_core_disconnect_later, gofnjerta_core_disconnect_now,
     gofnjerta_core_give_way, gofnjerta_core_set_bandwidth, gofnjerta_core_set_most,
-    gofnjerta_core_set_ping_interval, gofnjerta_core_set_secret, gofnjerta_core_set_timeout,
-    gofnjerta_core_throttle_configure,
+    gofnjerta_core_set_ping_interval, gofnjerta_core_set_secret, gofnjerta_core_set_send_limit,
+    gofnjerta_core_set_timeout, gofnjerta_core_throttle_configure,
 };
 pub use shapes::{
-    CoreAddress, CoreConfig, CoreDatagram, CoreEvent, CoreHeld, CorePeer, CoreReading,
+    CoreAddress, CoreConfig, CoreDatagram, CoreEvent, CoreHeld, CoreLine, CorePeer, CoreReading,
     CoreReceived, CoreSecret, CoreSlots, CoreTotals,
 };
 pub use telling::{gofnjerta_core_body, gofnjerta_core_next_event};

@@ -4,12 +4,14 @@ ghost use Rattle.std.specs.Prelude.{◌≡◌, ◌≤◌, IfNone, IfSome};
 ghost use Rattle.enet_sender.specs.Counting.{added};
 ghost use Rattle.enet_slot.specs.Counting.{Counts, count_sent_again};
 ghost use Rattle.enet_host.specs.Ticking.{IsDueIn};
-ghost use Rattle.enet_c.specs.Border.{Crosses, Reads, ReadsAllowance, ReadsPeer};
-ghost use Rattle.enet_c.specs.Shapes.{name_meant, totals_shown, held_shown, slots_meant};
+ghost use Rattle.enet_c.specs.Border.{Crosses, Reads, ReadsAllowance, ReadsLine, ReadsPeer};
+ghost use Rattle.enet_c.specs.Shapes.{name_meant, ending_told, totals_shown, held_shown, slots_meant};
 
 use crate::numbers::{CLOSED, OK, number_of};
 use crate::own::Handle;
-use crate::shapes::{CoreHeld, CorePeer, CoreReading, CoreSlots, CoreTotals};
+use crate::shapes::{
+    CoreHeld, CoreLine, CorePeer, CoreReading, CoreSlots, CoreTotals, ending_number,
+};
 use enet_host::Refusal;
 use std::alloc::Global;
 
@@ -61,6 +63,53 @@ pub extern "C" fn gofnjerta_core_allowance(
         }
         None => number_of(Refusal::NoSuchPeer),
     }
+}
+
+/// Reads how the line to a peer is. E2 where there is none of this name; then nothing is written.
+#[unsafe(no_mangle)]
+pub extern "C" fn gofnjerta_core_line(
+    alloc: Global,
+    handle: &mut Handle,
+    peer: &CorePeer,
+    line: &mut CoreLine,
+) -> u32
+    ensures reads { Crosses (ReadsLine (name_meant peer.now) line.old line.new) handle.old.own.value result handle.new.own.value }
+    ensures closed { IfNone handle.old.own.value (line.new ≡ line.old) }
+{
+    let Some(held) = handle.take(alloc) else {
+        return CLOSED;
+    };
+    let found = held.line(peer.into_name());
+    handle.put(held);
+    match found {
+        Some(found) => {
+            *line = found;
+            OK
+        }
+        None => number_of(Refusal::NoSuchPeer),
+    }
+}
+
+/// Why a peer's connection ended: 1 this end asked, 2 the other end did, 3 it timed out, 4 it was never answered, 5 the answer didn't fit; 0
+/// where nothing is known of it, as of one that is there, of one that ended without a Disconnect event, or too long ago.
+#[unsafe(no_mangle)]
+pub extern "C" fn gofnjerta_core_ending(
+    alloc: Global,
+    handle: &mut Handle,
+    peer: &CorePeer,
+    why: &mut u32,
+) -> u32
+    ensures reads { Crosses Reads handle.old.own.value result handle.new.own.value }
+    ensures ending { IfSome handle.old.own.value (λ held. why.new ≡ ending_told held.host.slots (name_meant peer.now)) }
+    ensures closed { IfNone handle.old.own.value (why.new ≡ why.old) }
+{
+    let Some(held) = handle.take(alloc) else {
+        return CLOSED;
+    };
+    let found = held.host.ending(peer.into_name());
+    handle.put(held);
+    *why = ending_number(found);
+    OK
 }
 
 /// How much went through the host.

@@ -7,7 +7,7 @@ ghost use Rattle.enet_slot.specs.Calls.{leaving, pinging, throttling, waiting};
 ghost use Rattle.enet_slot.specs.Sharing.{wants_room_in};
 ghost use Rattle.enet_host.specs.Calls.{on_named};
 ghost use Rattle.enet_host.specs.Host.{named};
-ghost use Rattle.enet_c.specs.Border.{Crosses, Settles, SettlesWithMemory, SetsAdmission, SetsBandwidth, SetsSecret};
+ghost use Rattle.enet_c.specs.Border.{Crosses, Settles, SettlesWithMemory, SetsAdmission, SetsBandwidth, SetsSecret, SetsSendLimit};
 ghost use Rattle.enet_c.specs.Shapes.{name_meant, secret_meant};
 
 use crate::numbers::{CLOSED, OK, answer};
@@ -86,6 +86,24 @@ pub extern "C" fn gofnjerta_core_set_bandwidth(
     let done = held.host.set_bandwidth(incoming, outgoing);
     handle.put(held);
     answer(done)
+}
+
+/// Sets at how many bytes of payload or commands, queued or sent and not acknowledged, a peer takes no further packet (E9).
+#[unsafe(no_mangle)]
+pub extern "C" fn gofnjerta_core_set_send_limit(
+    alloc: Global,
+    handle: &mut Handle,
+    bytes: u64,
+    commands: u64,
+) -> u32
+    ensures { Crosses (SetsSendLimit (record { bytes = bytes; commands = commands })) handle.old.own.value result handle.new.own.value }
+{
+    let Some(mut held) = handle.take(alloc) else {
+        return CLOSED;
+    };
+    held.host.set_send_limit(bytes, commands);
+    handle.put(held);
+    OK
 }
 
 /// Sets the secret by which peers that begin from now on draw.

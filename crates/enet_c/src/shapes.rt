@@ -1,9 +1,10 @@
 //! What goes over the border by value or into the caller's memory.
 
 ghost use Rattle.std.specs.Prelude.{◌≡◌, ◌≤◌, IfSome};
-ghost use Rattle.enet_c.specs.Shapes.{config_shown, config_meant, secret_meant, address_shown, address_meant, name_shown, name_meant, no_datagram, datagram_shown, no_event, event_shown, received_shown, state_number, held_shown, slots_meant};
+ghost use Rattle.enet_c.specs.Shapes.{config_shown, config_meant, secret_meant, address_shown, address_meant, name_shown, name_meant, no_datagram, datagram_shown, no_event, event_shown, received_shown, state_number, ending_number, held_shown, slots_meant};
 
 use enet_host::{Addr, Config, Event, HostCore, PeerRef, PeerState, Received, Secret, SlotCounts};
+use enet_peer::Ending;
 use std::mem::size_of;
 
 const _: () = prove!(size_of::<CoreConfig>() == 32);
@@ -21,6 +22,8 @@ const _: () = prove!(size_of::<CoreDatagram>() == 20);
 const _: () = prove!(size_of::<CoreEvent>() == 32);
 
 const _: () = prove!(size_of::<CoreReading>() == 60);
+
+const _: () = prove!(size_of::<CoreLine>() == 48);
 
 const _: () = prove!(size_of::<CoreTotals>() == 32);
 
@@ -128,6 +131,26 @@ pub struct CoreReading {
     pub channels: u8,
     pub incoming_session: u8,
     pub outgoing_session: u8,
+}
+
+/// How the line to a peer is, and what is queued or unacknowledged for it.
+#[repr(C)]
+#[derive(Clone, Copy)]
+pub struct CoreLine {
+    /// The mean round trip and its mean deviation, in milliseconds.
+    pub round_trip: u32,
+    pub variance: u32,
+    /// The lowest mean in the throttle's running interval, and in the one before.
+    pub lowest: u32,
+    pub lowest_before: u32,
+    /// The throttle's value, 0 to 32.
+    pub throttle: u32,
+    /// Bytes that may be in transit by the allowance, and those that are.
+    pub allowance: u32,
+    pub in_transit: u32,
+    /// Queued, or sent and not acknowledged: how many commands, and the bytes of their payloads.
+    pub commands: u64,
+    pub bytes: u64,
 }
 
 /// How much went through a host.
@@ -394,5 +417,19 @@ pub(crate) fn state_number(state: PeerState) -> u32
         PeerState::AckDisconnect => 6,
         PeerState::Ended => 7,
         PeerState::Parting => 8,
+    }
+}
+
+/// The number of an ending, 0 where nothing is known of one.
+pub(crate) fn ending_number(ending: Option<Ending>) -> u32
+    ensures { result ≡ ending_number ending }
+{
+    match ending {
+        None => 0,
+        Some(Ending::AskedHere) => 1,
+        Some(Ending::AskedThere) => 2,
+        Some(Ending::TimedOut) => 3,
+        Some(Ending::NeverAnswered) => 4,
+        Some(Ending::BadAnswer) => 5,
     }
 }

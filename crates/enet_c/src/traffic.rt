@@ -1,10 +1,8 @@
 //! Connections, packets, datagrams and time.
 
 ghost use Rattle.std.specs.Prelude.{◌≡◌, None, map, IfNone};
-ghost use Rattle.enet_slot.specs.Calls.{submission};
-ghost use Rattle.enet_host.specs.Calls.{on_named};
 ghost use Rattle.enet_host.specs.Ticking.{ticked};
-ghost use Rattle.enet_c.specs.Border.{closed, Crosses, Asks, Broadcasts, PutsOut, SettlesWithMemory, Stages, SubmitsStaged, TakesIn};
+ghost use Rattle.enet_c.specs.Border.{closed, Crosses, Asks, Broadcasts, PutsOut, Stages, SubmitsStaged, SubmitsTo, TakesIn};
 ghost use Rattle.enet_c.specs.Shapes.{address_meant, name_meant};
 
 use crate::numbers::{CLOSED, OK, number_of};
@@ -37,7 +35,7 @@ pub extern "C" fn gofnjerta_core_connect(
     number
 }
 
-/// Submits a packet: E2, E3, E4 or E5 as the host's `submit`, and E1 where memory for the copy or the packet is refused.
+/// Submits a packet: E2, E3, E4, E5 or E9 as the host's `submit`, and E1 where memory for the copy or the packet is refused.
 #[unsafe(no_mangle)]
 pub extern "C" fn gofnjerta_core_submit(
     alloc: Global,
@@ -47,7 +45,7 @@ pub extern "C" fn gofnjerta_core_submit(
     flags: u8,
     body: &[u8],
 ) -> u32
-    ensures { Crosses (SettlesWithMemory (λ slots. on_named slots (name_meant peer.now) (submission channel (record { flags = flags; body = body.now })))) handle.old.own.value result handle.new.own.value }
+    ensures { Crosses (SubmitsTo (name_meant peer.now) channel (record { flags = flags; body = body.now })) handle.old.own.value result handle.new.own.value }
 {
     let Some(mut held) = handle.take(alloc) else {
         return CLOSED;
@@ -96,7 +94,7 @@ pub extern "C" fn gofnjerta_core_submit_staged(
 }
 
 /// Submits a packet to each of these peers, which share one copy of its body. Peers that have gone or aren't connected are passed by;
-/// else the answer is the first refusal, E4, E5 or E1, and the other peers get it. E1 without any submission where the copy finds no memory.
+/// else the answer is the first refusal, E4, E5, E9 or E1, and the other peers get it. E1 without any submission where the copy finds no memory.
 #[unsafe(no_mangle)]
 pub extern "C" fn gofnjerta_core_broadcast(
     alloc: Global,
