@@ -258,9 +258,20 @@ struct Received {
 
 // Readings are the C library's structures, with their comments in gofnjerta.h.
 using Reading = gofnjerta_reading;
+using LineReading = gofnjerta_line;
 using Totals = gofnjerta_totals;
 using Held = gofnjerta_held;
 using Slots = gofnjerta_slots;
+
+// Why a connection ended.
+enum class Ending : std::uint32_t {
+    None = GOFNJERTA_NO_ENDING,                 // it hasn't, or ended without a Disconnect, or too long ago
+    AskedHere = GOFNJERTA_ASKED_HERE,           // this end's DISCONNECT was acknowledged, or wasn't for longer than this end waits
+    AskedThere = GOFNJERTA_ASKED_THERE,         // the other end sent DISCONNECT, with which it also refuses; also if this end had asked
+    TimedOut = GOFNJERTA_TIMED_OUT,             // the other end left a command unacknowledged for too long (`Host::set_timeout`)
+    NeverAnswered = GOFNJERTA_NEVER_ANSWERED,   // no answer of the server to CONNECT took effect for as long as the client waits
+    BadAnswer = GOFNJERTA_BAD_ANSWER,           // the server's answer doesn't fit what the client asked for
+};
 
 // A host. The destructor closes it; no peer is notified.
 class Host {
@@ -273,6 +284,15 @@ public:
         Host host;
         if (std::uint32_t number = gofnjerta_open(&host.handle_, &config)) return Error(number);
         if (!host.known_.grow(config.peers) || !host.room_.grow(GOFNJERTA_ROOM)) return Error(GOFNJERTA_MEMORY);
+        return host;
+    }
+
+    // Opens a host and records it until it is closed, for the program gofnjerta_replay: `write(context, bytes, length)` is called with the
+    // pieces of the record, and returns 0. A record has the host's secret and each packet. E8, E1.
+    static Result<Host> record(const Config &config, gofnjerta_writer write, void *context) noexcept {
+        Host host;
+        if (!host.known_.grow(config.peers) || !host.room_.grow(GOFNJERTA_ROOM)) return Error(GOFNJERTA_MEMORY);
+        if (std::uint32_t number = gofnjerta_record(&host.handle_, &config, write, context)) return Error(number);
         return host;
     }
 
@@ -344,14 +364,15 @@ public:
         return event;
     }
 
-    // Submits a packet, which is copied. E2 if the peer is gone, E3, E4, E5, E1.
+    // Submits a packet, which is copied. E2 if the peer is gone, E3, E4, E5, E9 (`set_send_limit`), E1.
     Result<void> submit(Peer peer, std::uint8_t channel, Bytes data, Delivery delivery = Delivery::Reliable) noexcept {
         return done(gofnjerta_submit(&handle_, c(peer), channel, static_cast<std::uint8_t>(delivery), data.data(), data.size()));
     }
 
     // Submits a packet to each of `count` peers, which share one copy. Peers that are gone or aren't connected are skipped. If one refuses it
-    // for another reason, the others still get it, and the first such reason is returned: E4, E5, E1. Nobody gets it if there is no memory
-    // for the copy.
+    // for another reason, the others still get it, and the first such reason is returned: E4, E5, E9, E1. Who is full (E9) must be read
+    // before, by `read_line`: afterwards a peer that took it and is full by it looks the same, so don't submit it again to all that look
+    // full. Nobody gets it if there is no memory for the copy.
     Result<void> broadcast(const Peer *peers, std::size_t count, std::uint8_t channel, Bytes data,
                            Delivery delivery = Delivery::Reliable) noexcept {
         // A Peer lies as a gofnjerta_peer does, by the assertions above; the bytes between its fields don't matter.
@@ -391,6 +412,12 @@ public:
     // Sets how many peers that began by a CONNECT may be connected or leaving at once. A client above that gets a Disconnect with the info FULL.
     // Open the host with more slots than that. E8.
     Result<void> set_most(std::uint16_t peers) noexcept { return done(gofnjerta_set_most(&handle_, peers)); }
+    // Sets at how many bytes or commands, queued or sent and not acknowledged, a peer takes no further packet: E9. 0 isn't "no limit", but
+    // one packet at a time; UINT64_MAX twice is as good as none. It doesn't bound memory: the pieces of a packet that was cut share its
+    // body.
+    Result<void> set_send_limit(std::uint64_t bytes, std::uint64_t commands) noexcept {
+        return done(gofnjerta_set_send_limit(&handle_, bytes, commands));
+    }
     // Sets the host's bandwidths, in bytes a second; 0: no limit is known. Each connected peer is sent them. E1.
     Result<void> set_bandwidth(std::uint32_t incoming, std::uint32_t outgoing) noexcept {
         return done(gofnjerta_set_bandwidth(&handle_, incoming, outgoing));
@@ -413,6 +440,19 @@ public:
         Reading reading{};
         if (std::uint32_t number = gofnjerta_read_peer(&handle_, c(peer), &reading)) return Error(number);
         return reading;
+    }
+    // Reads how the line to a peer is, and what is queued or unacknowledged for it. E2.
+    Result<LineReading> read_line(Peer peer) noexcept {
+        LineReading line{};
+        if (std::uint32_t number = gofnjerta_read_line(&handle_, c(peer), &line)) return Error(number);
+        return line;
+    }
+    // Reads why a peer's connection ended, before and after its Disconnect, until the next peer of that slot, connected or not, is gone:
+    // ask when you take the Disconnect.
+    Result<Ending> ending(Peer peer) noexcept {
+        std::uint32_t why = 0;
+        if (std::uint32_t number = gofnjerta_ending(&handle_, c(peer), &why)) return Error(number);
+        return static_cast<Ending>(why);
     }
     // Reads how many bytes may be in transit to a peer: 2,800 to 131,072, at first 65,536. It falls if the line drops packets. E2.
     Result<std::uint32_t> read_allowance(Peer peer) noexcept {
@@ -447,7 +487,7 @@ private:
 
     // A host that was moved from has no room, and is closed.
     Error error(std::uint32_t number) const noexcept {
-        if (number == GOFNJERTA_NULL && !handle_.is_open) return Error(GOFNJERTA_CLOSED);
+        if (number == GOFNJERTA_NULL && handle_.at == nullptr) return Error(GOFNJERTA_CLOSED);
         return Error(number);
     }
 
@@ -483,21 +523,12 @@ public:
 
     // Opens a host and a socket at this address of the machine; ip 0: all of them, port 0: the system chooses. E8 if a setting is out of its
     // range, E1, SYSTEM if the address can't be had.
-    static Result<Endpoint> open(Address at, const Config &config) noexcept {
-        Endpoint endpoint;
-        Result<Host> host = Host::open(config);
-        if (!host) return host.error();
-        endpoint.host_ = std::move(*host);
-        std::uint8_t key[32];
-        if (!drawn(key, sizeof key) || !drawn(&endpoint.drawn_, sizeof endpoint.drawn_)) return Error(Error::SYSTEM);
-        if (Result<void> set = endpoint.host_.set_secret(key); !set) return set.error();
-        if (!endpoint.room_.grow(GOFNJERTA_ROOM + 1)) return Error(GOFNJERTA_MEMORY);
-        endpoint.socket_ = ::socket(AF_INET, SOCK_DGRAM | SOCK_NONBLOCK | SOCK_CLOEXEC, 0);
-        const sockaddr_in bound = system(at);
-        if (endpoint.socket_ < 0) return Error(Error::SYSTEM);
-        if (::bind(endpoint.socket_, reinterpret_cast<const sockaddr *>(&bound), sizeof bound) != 0) return Error(Error::SYSTEM);
-        endpoint.clock_ = now();
-        return endpoint;
+    static Result<Endpoint> open(Address at, const Config &config) noexcept { return over(Host::open(config), at); }
+
+    // As `open`, with a host that is recorded until it is closed (`Host::record`). For a server set `config` as `server` does, and call
+    // `give_way` and `set_most` of `host`.
+    static Result<Endpoint> record(Address at, const Config &config, gofnjerta_writer write, void *context) noexcept {
+        return over(Host::record(config, write, context), at);
     }
 
     // A server for this many clients, 1 to 3,071. Strangers can't keep them out by CONNECTs that nobody confirms: there are 1,024 more slots for
@@ -620,6 +651,22 @@ private:
 
         friend bool operator<(const Passing &a, const Passing &b) noexcept { return a.due != b.due ? a.due > b.due : a.order > b.order; }
     };
+
+    static Result<Endpoint> over(Result<Host> host, Address at) noexcept {
+        Endpoint endpoint;
+        if (!host) return host.error();
+        endpoint.host_ = std::move(*host);
+        std::uint8_t key[32];
+        if (!drawn(key, sizeof key) || !drawn(&endpoint.drawn_, sizeof endpoint.drawn_)) return Error(Error::SYSTEM);
+        if (Result<void> set = endpoint.host_.set_secret(key); !set) return set.error();
+        if (!endpoint.room_.grow(GOFNJERTA_ROOM + 1)) return Error(GOFNJERTA_MEMORY);
+        endpoint.socket_ = ::socket(AF_INET, SOCK_DGRAM | SOCK_NONBLOCK | SOCK_CLOEXEC, 0);
+        const sockaddr_in bound = system(at);
+        if (endpoint.socket_ < 0) return Error(Error::SYSTEM);
+        if (::bind(endpoint.socket_, reinterpret_cast<const sockaddr *>(&bound), sizeof bound) != 0) return Error(Error::SYSTEM);
+        endpoint.clock_ = now();
+        return endpoint;
+    }
 
     // Microseconds on a clock that only goes forward.
     static std::int64_t now() noexcept {

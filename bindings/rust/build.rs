@@ -13,8 +13,8 @@ fn give_up(why: &str) -> ! {
     exit(1)
 }
 
-/// Links the archive of a folder that `build-c.sh` made. The folder of its headers.
-fn link_archive(folder: &Path) -> PathBuf {
+/// Links the archive of a folder that `build-c.sh` made.
+fn link_archive(folder: &Path) {
     let archive = folder.join("lib").join("libgofnjerta.a");
     if !archive.is_file() {
         give_up(&format!("there is no {}", archive.display()));
@@ -22,7 +22,6 @@ fn link_archive(folder: &Path) -> PathBuf {
     println!("cargo:rerun-if-changed={}", archive.display());
     println!("cargo:rustc-link-search=native={}", folder.join("lib").display());
     println!("cargo:rustc-link-lib=static=gofnjerta");
-    folder.join("include")
 }
 
 /// The output of pkg-config with these words.
@@ -37,7 +36,7 @@ fn ask_pkg_config(words: &[&str]) -> String {
     }
 }
 
-/// Links what pkg-config names. The folder of its headers.
+/// Links what pkg-config names. The folder below which it is installed.
 fn link_by_pkg_config() -> PathBuf {
     for word in ask_pkg_config(&["--libs", "gofnjerta"]).split_whitespace() {
         if let Some(folder) = word.strip_prefix("-L") {
@@ -46,7 +45,7 @@ fn link_by_pkg_config() -> PathBuf {
             println!("cargo:rustc-link-lib={library}");
         }
     }
-    Path::new(&ask_pkg_config(&["--variable=prefix", "gofnjerta"])).join("include")
+    PathBuf::from(ask_pkg_config(&["--variable=prefix", "gofnjerta"]))
 }
 
 fn main() {
@@ -54,10 +53,15 @@ fn main() {
         println!("cargo:rerun-if-env-changed={name}");
     }
     println!("cargo:rerun-if-changed=build.rs");
-    let headers = match env::var_os("GOFNJERTA_DIR") {
-        Some(folder) => link_archive(Path::new(&folder)),
+    let folder = match env::var_os("GOFNJERTA_DIR") {
+        Some(folder) => {
+            let folder = PathBuf::from(folder);
+            link_archive(&folder);
+            folder
+        }
         None => link_by_pkg_config(),
     };
-    // Where a test finds the table of sizes and offsets.
-    println!("cargo:rustc-env=GOFNJERTA_LAYOUT={}", headers.join("gofnjerta_layout.h").display());
+    // Where tests find the table of sizes and offsets, and the program that replays records.
+    println!("cargo:rustc-env=GOFNJERTA_LAYOUT={}", folder.join("include").join("gofnjerta_layout.h").display());
+    println!("cargo:rustc-env=GOFNJERTA_REPLAY={}", folder.join("bin").join("gofnjerta_replay").display());
 }

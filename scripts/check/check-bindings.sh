@@ -6,7 +6,7 @@
 # - its tests, of which one compares its structures with the lines of gofnjerta_layout.h; clippy and `cargo doc` without a word;
 # - linked by the archive, and by pkg-config with the shared library; where it finds neither, it names both ways;
 # - each growth of memory refused in turn, under valgrind: calls end in an error value, nothing is lost and nothing leaks;
-# - a game tested under 250 seeds over lines in memory.
+# - a game tested under 1,000 seeds over lines in memory, and with a fault, which is found.
 #
 # C++ (bindings/cpp), by g++, and by clang++ if there is one:
 # - its header and all that is built over it, without a warning; gofnjerta_layout.h asserts the structures;
@@ -20,18 +20,21 @@
 # - a game tested under 1,000 seeds over lines in memory, and with a fault, which is found.
 #
 # Each of them:
+# - a server's endpoint is recorded while it echoes what a client says, and gofnjerta_replay finds the same again;
 # - the echo server with four clients of the reference library that say 10,000 packets (clients/many.c) over a line that loses, repeats and
 #   reorders datagrams (clients/proxy.c), with one straight, and with packets of 0 to 20,000 bytes (clients/echo.c);
 # - the arena with six such clients (clients/fray.c) over that line: who sends garbage is sent away, and who reads nothing is noticed.
 #
 # As root it installs what is missing of gcc, libenet-dev, pkg-config, valgrind, cargo, rust-clippy, g++, python3-build, python3-setuptools,
-# python3-wheel and mypy; what can't be had is SKIPPED, and counted. Prints what failed, and as last line 'N passed, M failed'; the status is
+# python3-wheel and mypy; what can't be had is SKIPPED, and counted. Whether captures of games can be drawn is SKIPPED where no built
+# crates/enet_relay/out/enet_relay draws them. Prints what failed, and as last line 'N passed, M failed'; the status is
 # 1 if one failed. It takes two minutes of a processor, sends only within 127.0.0.1, and ends within 10 minutes.
 cd "$(dirname "$0")/../.." || exit 1
 . scripts/lib/clients.sh
 . scripts/lib/tally.sh
 made=${1:+$(realpath "$1")}
 archive=crates/enet_c/out/libenet_c.a
+relay=$PWD/crates/enet_relay/out/enet_relay
 skipped=0
 
 skip() {
@@ -159,6 +162,24 @@ talk() {
     begin "$1-arena" arena "$first" "$port" "$room/$1-arena.said" "${arena_server[@]}"
 }
 
+# Whether `inspect` draws the capture $1, with the words behind it, if that program is there: a connection, whose datagrams it tells.
+is_drawn() {
+    [ -x "$relay" ] || return 0
+    "$relay" inspect "$1" --timeline "$1.svg" "${@:2}" > "$1.told" && grep -q '10\.0\.0\.1:7777' "$1.told" && grep -q '</svg>' "$1.svg" && return
+    tail -n 3 "$1.told"
+    return 1
+}
+
+# Whether the game with a fault that the words from $2 on play in the new folder $1 names a seed, and leaves its datagrams, which can be drawn.
+fails_with_seed() {
+    local captures folder=$1
+    mkdir "$folder"
+    ! (cd "$folder" && exec timeout 100 "${@:2}") > "$folder/said" || return
+    cat "$folder/said"
+    captures=("$folder"/*.pcap)
+    grep -q '^seed [0-9]*: ' "$folder/said" && [ "${#captures[@]}" = 1 ] && [ -s "${captures[0]}" ] && is_drawn "${captures[0]}"
+}
+
 # cargo in bindings/rust, without the user's own folder, so that its commands are found beside it: $1 is the folder of the compiler, $2 that of
 # what is built.
 cargo_by() {
@@ -199,6 +220,15 @@ rust_memory() {
     return 1
 }
 
+# The game's 1,000 seeds go well. With moves that aren't reliable a seed is found and named, and its datagrams are left.
+rust_game() {
+    local game=bindings/rust/examples/arena_test.rs
+    timeout 100 "$1/release/examples/arena_test" && sed 's/Delivery::Reliable/Delivery::Unreliable/' "$game" > "$room/faulty.rs" &&
+        ! cmp -s "$game" "$room/faulty.rs" &&
+        "$2/rustc" --edition 2021 -O -o "$room/faulty" --extern "gofnjerta=$1/release/libgofnjerta.rlib" "$room/faulty.rs" &&
+        fails_with_seed "$room/rust-fault" "$room/faulty"
+}
+
 rust() {
     local first_cargo folder by target=$room/rust-target
     first_cargo=$(command -v cargo)
@@ -214,6 +244,7 @@ rust() {
     rust_lints "$folder" "$target" rust
     by=$(dirname "${first_cargo:-/usr/bin/cargo}")
     [ "$by" = "$folder" ] || rust_lints "$by" "$room/rust-newest" rust-newest
+    try rust-release cargo_by "$folder" "$target" build --release --lib --example arena_test
     echo_server=("$target/debug/examples/echo" ADDRESS)
     straight_server=("${echo_server[@]}")
     arena_server=("$target/debug/examples/arena" ADDRESS)
@@ -226,7 +257,7 @@ rust() {
         skip rust-pkg-config 'there is no pkg-config'
     fi
     talk rust
-    begin rust-arena-test timeout 100 "$target/debug/examples/arena_test" 250
+    begin rust-game rust_game "$target" "$folder"
     if have valgrind valgrind && cc -shared -fPIC -O1 -Wall -Wextra bindings/rust/tests/refuse.c -o "$room/refuse.so"; then
         begin rust-memory rust_memory "$target"
     else
@@ -238,6 +269,11 @@ rust() {
 # Compiles the source $2 of bindings/cpp to the program $3 by the compiler $1, with the words behind them.
 cpp_compile() {
     "$1" -std=c++17 -O1 -g -Wall -Wextra -Wpedantic -Werror "-I$made/include" "bindings/cpp/$2" -o "$room/$3" "${@:4}"
+}
+
+# The record of an echo by two endpoints is replayed.
+cpp_replayed() {
+    timeout 100 "$room/cpp-host" record "$room/cpp.record" && "$made/bin/gofnjerta_replay" "$room/cpp.record"
 }
 
 # Block $3 in the language $2 of the document $1.
@@ -268,6 +304,7 @@ cpp() {
     arena_server=("$room/cpp-arena" ADDRESS)
     talk cpp
     begin cpp-host timeout 100 "$room/cpp-host"
+    begin cpp-replayed cpp_replayed
     begin cpp-memory timeout 100 "$room/cpp-host" refuse
     count_scenarios
 }
@@ -291,16 +328,14 @@ python_memory() {
 # The game's 1,000 seeds go well. Where its server tells who has a coin unreliably, a seed is found and named, and its datagrams are left.
 python_game() {
     local game=bindings/python/examples/coins.py
-    timeout 100 "${packaged[@]}" "$game" && sed 's/^DELIVERY = .*/DELIVERY = Delivery.UNRELIABLE/' "$game" > "$room/coins.py" || return
-    mkdir -p "$room/coins"
-    (cd "$room/coins" && ! "${packaged[@]}" "$room/coins.py" > said) && cat "$room/coins/said" && grep -q '^seed [0-9]*: ' "$room/coins/said" &&
-        [ -s "$(echo "$room/coins/coins-"*.pcap)" ]
+    timeout 100 "${packaged[@]}" "$game" && sed 's/^DELIVERY = .*/DELIVERY = Delivery.UNRELIABLE/' "$game" > "$room/coins.py" &&
+        ! cmp -s "$game" "$room/coins.py" && fails_with_seed "$room/python-fault" "${packaged[@]}" "$room/coins.py"
 }
 
 # The network of the README, whose server gets a packet.
 python_readme() {
     shown bindings/python/README.md python 2 > "$room/shown.py" && (cd "$room" && "${packaged[@]}" shown.py > shown.said) &&
-        grep -q "b'hello'" "$room/shown.said" && [ -s "$room/seed-17.pcap" ]
+        grep -q "b'hello'" "$room/shown.said" && [ -s "$room/seed-17.pcap" ] && is_drawn "$room/seed-17.pcap" --at RIGHT
 }
 
 python() {
@@ -309,7 +344,8 @@ python() {
         install_packages python3 python3-build python3-setuptools python3-wheel > "$room/install" 2>&1
     "$python" -c 'import build, setuptools, wheel' 2> /dev/null || { skip python "Debian's python3 can't be had, or its build"; return; }
     try python-wheel python_wheel
-    packaged=(env -u GOFNJERTA_DIR "PYTHONPATH=$room/site" PYTHONDONTWRITEBYTECODE=1 "HEADERS=$PWD/c" "$python")
+    packaged=(env -u GOFNJERTA_DIR "PYTHONPATH=$room/site" PYTHONDONTWRITEBYTECODE=1 "HEADERS=$PWD/c" "REPLAY=$made/bin/gofnjerta_replay"
+        "$python")
     if have mypy mypy; then
         try python-types mypy --strict --python-executable "$python" --cache-dir "$room/mypy" bindings/python/gofnjerta bindings/python/examples \
             bindings/python/tests/test_gofnjerta.py
@@ -334,6 +370,7 @@ all() {
         made=$room/made
         bash scripts/by-hand/build-c.sh "$made" "$archive" > "$room/made.out" 2>&1 || { fail build-c "$(first_error "$room/made.out")"; return; }
     fi
+    [ -x "$relay" ] || skip pictures "there is no $relay"
     build_clients "$room" many fray proxy echo || { fail clients "the C programs can't be built"; return; }
     rust
     cpp

@@ -1,7 +1,8 @@
-// host [refuse]: two hosts in memory, and two endpoints over 127.0.0.1, by way of gofnjerta.hpp: each call, each reading, what a moved host
-// is, and what is refused. With `refuse` the same again and again, each time with one more growth of memory granted before one is refused,
-// until none is: a call that is refused for it returns E1, and does what it should when it is made again. Prints how many runs there were;
-// status 1 at the first thing that is amiss. It is linked with --wrap=malloc,--wrap=realloc.
+// host [refuse | record FILE]: two hosts in memory, and two endpoints over 127.0.0.1, by way of gofnjerta.hpp: each call, each reading,
+// what a moved host is, and what is refused. With `refuse` the same again and again, each time with one more growth of memory granted
+// before one is refused, until none is: a call that is refused for it returns E1, and does what it should when it is made again. With
+// `record` only an echo by two endpoints, of which the one that echoes is recorded, in FILE. Prints how many runs there were; status 1 at
+// the first thing that is amiss. It is linked with --wrap=malloc,--wrap=realloc.
 #include <cstdio>
 #include <cstdlib>
 #include <string>
@@ -148,7 +149,40 @@ static void moved(Host &left) {
     HOLDS(left.read_totals());
 }
 
+// Takes a record: `context` is a string.
+static int append(void *context, const void *bytes, std::size_t length) {
+    static_cast<std::string *>(context)->append(static_cast<const char *>(bytes), length);
+    return 0;
+}
+
+// A limit, the line, and why connections end; the left host's record is written.
+static void told() {
+    std::string record;
+    Host left = std::move(*sure([&] { return Host::record(standard(1, 1), append, &record); }));
+    Host right = std::move(*sure([&] { return Host::open(standard(1, 1)); }));
+    HOLDS(refused_at || Host::record(standard(0, 1), append, &record).error() == Error(GOFNJERTA_BAD_CONFIG));
+    HOLDS(left.set_send_limit(5, 100));
+    auto asked = sure([&] { return left.connect(RIGHT, 1, 0, 7); });
+    HOLDS(asked);
+    HOLDS(await(left, left, right).kind == Event::Kind::Connect && await(right, left, right).kind == Event::Kind::Connect);
+    HOLDS(sure([&] { return left.submit(*asked, 0, "hello"); }));
+    HOLDS(left.submit(*asked, 0, "").error() == Error(GOFNJERTA_FULL));
+    auto line = left.read_line(*asked);
+    HOLDS(line && line->commands == 1 && line->bytes == 5 && line->in_transit == 0 && line->allowance >= 65536);
+    HOLDS(left.read_line(Peer{1, 0}).error() == Error(GOFNJERTA_NO_SUCH_PEER));
+    HOLDS(left.ending(*asked).value() == Ending::None);
+    HOLDS(sure([&] { return left.disconnect(*asked, 5); }));
+    HOLDS(await(left, left, right).kind == Event::Kind::Disconnect);
+    HOLDS(left.ending(*asked).value() == Ending::AskedHere);
+    HOLDS(right.ending(Peer{0, 0}).value() == Ending::AskedThere);
+    moved(left);
+    left.close();
+    HOLDS(left.transmit().error() == Error(GOFNJERTA_CLOSED));
+    HOLDS(record.size() > 100 && record.compare(0, 8, "gofnjrec") == 0);
+}
+
 static void hosts() {
+    told();
     Config config = standard(4, 2);
     config.generations = ENDLESS;
     Host left = std::move(*sure([&] { return Host::open(config); }));
@@ -185,9 +219,25 @@ static void hosts() {
     HOLDS(left.transmit().error() == Error(GOFNJERTA_CLOSED));
 }
 
-// Two endpoints, over a simulated line where `loss` or `delay` isn't 0.
-static void endpoints(double loss, std::chrono::milliseconds delay, int packets) {
-    Endpoint server = std::move(*sure([&] { return Endpoint::server(Address{0x7F000001, 0}, 4); }));
+// A server for four, whose record is written.
+static Endpoint recorded(std::string &record) {
+    Config config = standard(1028, 2);
+    config.generations = ENDLESS;
+    const Address at{0x7F000001, 0};
+    HOLDS(refused_at || Endpoint::record(at, standard(0, 1), append, &record).error() == Error(GOFNJERTA_BAD_CONFIG));
+    auto opened = sure([&] {
+        record.clear();
+        return Endpoint::record(at, config, append, &record);
+    });
+    HOLDS(opened);
+    HOLDS(sure([&] { return opened->host().give_way(); }));
+    HOLDS(sure([&] { return opened->host().set_most(4); }));
+    return std::move(*opened);
+}
+
+// Two endpoints, over a simulated line where `loss` or `delay` isn't 0. The server's record is written to `record`, if that isn't null.
+static void endpoints(double loss, std::chrono::milliseconds delay, int packets, std::string *record = nullptr) {
+    Endpoint server = record ? recorded(*record) : std::move(*sure([&] { return Endpoint::server(Address{0x7F000001, 0}, 4); }));
     Endpoint client = std::move(*sure([&] { return Endpoint::client(); }));
     server.simulate(loss, delay);
     Address at = *server.address();
@@ -218,10 +268,27 @@ static void endpoints(double loss, std::chrono::milliseconds delay, int packets)
         }
     }
     HOLDS(ended && came == packets && back == packets);
+    server.close();
+    HOLDS(record == nullptr || record->compare(0, 8, "gofnjrec") == 0);
+}
+
+// Whether a text was written to a file.
+static bool is_written(const std::string &text, const char *path) {
+    std::FILE *file = std::fopen(path, "wb");
+    if (file == nullptr) return false;
+    const bool is_whole = std::fwrite(text.data(), 1, text.size(), file) == text.size();
+    return std::fclose(file) == 0 && is_whole;
 }
 
 int main(int argc, char **argv) {
     const bool refuses = argc > 1 && std::string_view(argv[1]) == "refuse";
+    std::string record;
+    if (argc > 2 && std::string_view(argv[1]) == "record") {
+        endpoints(0, 0ms, 50, &record);
+        HOLDS(is_written(record, argv[2]));
+        std::puts("1 run");
+        return 0;
+    }
     hosts();
     endpoints(0, 0ms, 50);
     if (!refuses) {
@@ -240,6 +307,8 @@ int main(int argc, char **argv) {
     for (refused_at = 1; refused_at <= 60; refused_at++) {
         growths = 0;
         endpoints(0, 0ms, 3);
+        growths = 0;
+        endpoints(0, 0ms, 3, &record);
     }
     std::printf("endpoints: %ld runs\n", refused_at - 1);
     return 0;

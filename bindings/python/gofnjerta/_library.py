@@ -76,6 +76,20 @@ class CReading(ctypes.Structure):
     ]
 
 
+class CLine(ctypes.Structure):
+    _fields_ = [
+        ("round_trip", ctypes.c_uint32),
+        ("variance", ctypes.c_uint32),
+        ("lowest", ctypes.c_uint32),
+        ("lowest_before", ctypes.c_uint32),
+        ("throttle", ctypes.c_uint32),
+        ("allowance", ctypes.c_uint32),
+        ("in_transit", ctypes.c_uint32),
+        ("commands", ctypes.c_uint64),
+        ("bytes", ctypes.c_uint64),
+    ]
+
+
 class CTotals(ctypes.Structure):
     _fields_ = [
         ("datagrams_in", ctypes.c_uint64),
@@ -119,6 +133,7 @@ STRUCTURES: List[Tuple[str, Type[ctypes.Structure]]] = [
     ("gofnjerta_datagram", CDatagram),
     ("gofnjerta_event", CEvent),
     ("gofnjerta_reading", CReading),
+    ("gofnjerta_line", CLine),
     ("gofnjerta_totals", CTotals),
     ("gofnjerta_held", CHeld),
     ("gofnjerta_slots", CSlots),
@@ -137,15 +152,19 @@ def layout() -> List[Tuple[str, ...]]:
     return lines
 
 
-_u8, _u16, _u32 = ctypes.c_uint8, ctypes.c_uint16, ctypes.c_uint32
+_u8, _u16, _u32, _u64 = ctypes.c_uint8, ctypes.c_uint16, ctypes.c_uint32, ctypes.c_uint64
 _size = ctypes.c_size_t
 _bytes = ctypes.c_char_p
 _at = ctypes.c_void_p
+
+# What takes a record: a context, bytes and their length; it returns 0.
+CWriter = ctypes.CFUNCTYPE(ctypes.c_int, ctypes.c_void_p, ctypes.c_void_p, _size)
 
 # The calls on a handle, without `gofnjerta_`: what follows the handle. Each returns a number. Structures that a call writes, and buffers, go
 # as pointers without a type, so that `byref` passes.
 _CALLS: Dict[str, List[Any]] = {
     "open": [_at],
+    "record": [_at, CWriter, _at],
     "close": [],
     "connect": [CAddress, _u8, _u32, _u32, _at],
     "submit": [CPeer, _u8, _u8, _bytes, _size],
@@ -163,10 +182,13 @@ _CALLS: Dict[str, List[Any]] = {
     "set_secret": [_bytes],
     "give_way": [],
     "set_most": [_u16],
+    "set_send_limit": [_u64, _u64],
     "throttle_configure": [CPeer, _u32, _u32, _u32],
     "set_ping_interval": [CPeer, _u32],
     "set_timeout": [CPeer, _u32, _u32, _u32],
     "read_peer": [CPeer, _at],
+    "read_line": [CPeer, _at],
+    "ending": [CPeer, _at],
     "read_allowance": [CPeer, _at],
     "read_totals": [_at],
     "read_held": [_at],

@@ -10,7 +10,7 @@ import random
 import select
 import socket
 import time
-from typing import AsyncIterator, Iterable, List, Optional, Tuple
+from typing import AsyncIterator, BinaryIO, Iterable, List, Optional, Tuple
 
 from .host import ENDLESS, MAX_DATAGRAM, Address, Config, Delivery, Event, Host, Peer
 
@@ -28,13 +28,24 @@ class Endpoint:
     def __init__(self, at: Tuple[str, int], config: Config) -> None:
         """Opens a host and a socket at this address of the machine; port 0: the system chooses. `Error` E8 if a setting is out of its
         range, OSError if the address can't be had."""
-        self.host = Host(config)
+        self._begin(at, Host(config))
+
+    @classmethod
+    def record(cls, at: Tuple[str, int], config: Config, file: BinaryIO) -> Endpoint:
+        """Opens an endpoint whose host is recorded to a file (`Host.record`), until the endpoint is closed or a write fails. For a server
+        set `config` as `server` does, and call `give_way` and `set_most` of `host`."""
+        endpoint = cls.__new__(cls)
+        endpoint._begin(at, Host.record(config, file))
+        return endpoint
+
+    def _begin(self, at: Tuple[str, int], host: Host) -> None:
+        self.host = host
         self.host.set_secret(os.urandom(32))
         self._socket = socket.socket(socket.AF_INET, socket.SOCK_DGRAM)
         try:
             self._socket.bind(at)
         except BaseException:
-            self._socket.close()
+            self.close()
             raise
         self._socket.setblocking(False)
         self._poll = select.poll()

@@ -7,7 +7,7 @@ import dataclasses
 import enum
 import functools
 import socket
-from typing import Dict, Iterable, Iterator, NamedTuple, Optional, Tuple, Type, Union
+from typing import Any, BinaryIO, Dict, Iterable, Iterator, NamedTuple, Optional, Tuple, Type, Union
 
 from ._library import (
     CAddress,
@@ -16,11 +16,13 @@ from ._library import (
     CEvent,
     CHeld,
     CHost,
+    CLine,
     CPeer,
     CReading,
     CReceived,
     CSlots,
     CTotals,
+    CWriter,
     lib,
 )
 
@@ -61,6 +63,7 @@ class Why(enum.IntEnum):
     TOO_LARGE = 5
     NO_SLOT = 7
     BAD_CONFIG = 8
+    FULL = 9
     CLOSED = 32
     OPEN = 33
 
@@ -88,6 +91,24 @@ class State(enum.IntEnum):
     ACKNOWLEDGING = 6
     ENDED = 7
     PARTING = 8
+
+
+class Ending(enum.IntEnum):
+    """Why a connection ended."""
+
+    #: It hasn't, or ended without a Disconnect, or that was too long ago.
+    NONE = 0
+    #: This end's DISCONNECT (`disconnect`, `disconnect_later`) was acknowledged, or wasn't for longer than this end waits.
+    ASKED_HERE = 1
+    #: The other end sent DISCONNECT, with which it also refuses a connection; also if this end had asked.
+    ASKED_THERE = 2
+    #: The other end left a command unacknowledged for too long (`Host.set_timeout`); also while `disconnect_later` waits to send its
+    #: DISCONNECT.
+    TIMED_OUT = 3
+    #: No answer of the server to CONNECT took effect for as long as the client waits.
+    NEVER_ANSWERED = 4
+    #: The server's answer doesn't fit what the client asked for.
+    BAD_ANSWER = 5
 
 
 class Address(NamedTuple):
@@ -150,7 +171,7 @@ class Disconnect:
 
     peer: Peer
     address: Address
-    #: The other end's number; 0 if this end asked, or the peer timed out.
+    #: The number that the other end gave; 0 if it gave none, as when this end asked or the peer timed out.
     info: int
 
 
@@ -208,7 +229,7 @@ class Reading:
     variance: int
     #: Bytes of reliable packets: sent, not acknowledged and not due to be resent.
     in_transit: int
-    #: 0 to 32: how many of 32 unreliable packets are sent.
+    #: 0 to 32: of 32 packets that aren't reliable one more than this is sent, from 31 on all.
     throttle: int
     throttle_interval: int
     acceleration: int
@@ -219,6 +240,25 @@ class Reading:
     channels: int
     incoming_session: int
     outgoing_session: int
+
+
+class LineReading(NamedTuple):
+    """How the line to a peer is."""
+
+    #: Milliseconds: the mean, 500 at first, and its mean deviation.
+    round_trip: int
+    variance: int
+    #: Milliseconds: the lowest mean in the throttle's running interval, and in the one before; 500 at first.
+    lowest: int
+    lowest_before: int
+    #: 0 to 32: of 32 packets that aren't reliable one more than this is sent, from 31 on all.
+    throttle: int
+    #: Bytes that may be in transit, and those of reliable packets that are.
+    allowance: int
+    in_transit: int
+    #: Queued, or sent and not acknowledged, as `Host.set_send_limit` counts them.
+    commands: int
+    bytes: int
 
 
 class Totals(NamedTuple):
@@ -285,6 +325,10 @@ def _within(number: int, bits: int, why: Optional[Why] = None) -> int:
     raise Error(why)
 
 
+def _settings(config: Config) -> CConfig:
+    return CConfig(*[_within(value, bits, Why.BAD_CONFIG) for value, bits in zip(dataclasses.astuple(config), _BITS)])
+
+
 @functools.lru_cache(maxsize=4096)
 def _into_c(address: Tuple[str, int]) -> CAddress:
     ip, port = address
@@ -318,8 +362,27 @@ class Host:
         self._datagram_ref = ctypes.byref(self._datagram)
         self._received_ref = ctypes.byref(self._received)
         self._word_ref = ctypes.byref(self._word)
-        values = [_within(value, bits, Why.BAD_CONFIG) for value, bits in zip(dataclasses.astuple(config), _BITS)]
-        _check(lib.gofnjerta_open(self._ref, ctypes.byref(CConfig(*values))))
+        # What takes the record, if there is one.
+        self._writer: Any = None
+        _check(lib.gofnjerta_open(self._ref, ctypes.byref(_settings(config))))
+
+    @classmethod
+    def record(cls, config: Config, file: BinaryIO) -> Host:
+        """Opens a host, and writes a record of it to a file, until the host is closed or a write fails. The program gofnjerta_replay makes
+        the same calls on a fresh host, and tells where anything else comes out. A record has the host's secret and each packet."""
+
+        def write(_: object, at: int, length: int) -> int:
+            try:
+                file.write(ctypes.string_at(at, length))
+            except Exception:
+                return 1
+            return 0
+
+        host = cls(config)
+        host.close()
+        host._writer = CWriter(write)
+        _check(lib.gofnjerta_record(host._ref, ctypes.byref(_settings(config)), host._writer, None))
+        return host
 
     def close(self) -> None:
         """Closes the host and frees what it holds; no peer is notified. A closed host stays closed."""
@@ -423,15 +486,16 @@ class Host:
     # Packets.
 
     def submit(self, peer: Peer, channel: int, data: bytes, delivery: Delivery = Delivery.RELIABLE) -> None:
-        """Submits a packet, which is copied. E2 if the peer is gone, E3, E4, E5."""
+        """Submits a packet, which is copied. E2 if the peer is gone, E3, E4, E5, E9 (`set_send_limit`)."""
         if not 0 <= channel <= 255:
             raise Error(Why.NO_SUCH_CHANNEL)
         _check(lib.gofnjerta_submit(self._ref, CPeer(*peer), channel, delivery, bytes(data), len(data)))
 
     def broadcast(self, peers: Iterable[Peer], channel: int, data: bytes, delivery: Delivery = Delivery.RELIABLE) -> None:
         """Submits a packet to each of these peers, which share one copy. Peers that are gone or aren't connected are skipped. If one
-        refuses it for another reason, the others still get it, and the first such reason is raised: E4, E5, E1. Nobody gets it if
-        there is no memory for the copy."""
+        refuses it for another reason, the others still get it, and the first such reason is raised: E4, E5, E9, E1. Who is full (E9) must
+        be read before, by `read_line`: afterwards a peer that took it and is full by it looks the same, so don't submit it again to all
+        that look full. Nobody gets it if there is no memory for the copy."""
         if not 0 <= channel <= 255:
             raise Error(Why.NO_SUCH_CHANNEL)
         names = [CPeer(*peer) for peer in peers]
@@ -484,6 +548,12 @@ class Host:
         the info `FULL`. Open the host with more slots than that. E8."""
         _check(lib.gofnjerta_set_most(self._ref, _within(peers, 16, Why.BAD_CONFIG)))
 
+    def set_send_limit(self, bytes: int, commands: int) -> None:
+        """Sets at how many bytes or commands, queued or sent and not acknowledged, a peer takes no further packet: E9. 0 isn't "no limit",
+        but one packet at a time; 2**64 - 1 twice is as good as none. It doesn't bound memory: the pieces of a packet that was cut share
+        its body."""
+        _check(lib.gofnjerta_set_send_limit(self._ref, _within(bytes, 64), _within(commands, 64)))
+
     def set_bandwidth(self, incoming: int, outgoing: int) -> None:
         """Sets the host's bandwidths, in bytes a second; 0: no limit is known. Each connected peer is sent them."""
         _check(lib.gofnjerta_set_bandwidth(self._ref, _within(incoming, 32), _within(outgoing, 32)))
@@ -526,6 +596,19 @@ class Host:
             c.incoming_session,
             c.outgoing_session,
         )
+
+    def read_line(self, peer: Peer) -> LineReading:
+        """Reads how the line to a peer is, and what is queued or unacknowledged for it. E2."""
+        c = CLine()
+        _check(lib.gofnjerta_read_line(self._ref, CPeer(*peer), ctypes.byref(c)))
+        trips = (c.round_trip, c.variance, c.lowest, c.lowest_before)
+        return LineReading(*trips, c.throttle, c.allowance, c.in_transit, c.commands, c.bytes)
+
+    def ending(self, peer: Peer) -> Ending:
+        """Reads why a peer's connection ended, before and after its Disconnect, until the next peer of that slot, connected or not, is
+        gone: ask when you take the Disconnect."""
+        _check(lib.gofnjerta_ending(self._ref, CPeer(*peer), self._word_ref))
+        return Ending(self._word.value)
 
     def read_allowance(self, peer: Peer) -> int:
         """Reads how many bytes may be in transit to a peer: 2,800 to 131,072, at first 65,536. It falls if the line drops packets. E2."""

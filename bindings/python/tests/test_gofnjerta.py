@@ -1,4 +1,5 @@
-"""Tests of the package beside those of scripts/check/check-bindings.sh. HEADERS is the folder with gofnjerta.h and gofnjerta_layout.h."""
+"""Tests of the package beside those of scripts/check/check-bindings.sh. HEADERS is the folder with gofnjerta.h and gofnjerta_layout.h,
+REPLAY the program gofnjerta_replay, by default that of $GOFNJERTA_DIR."""
 
 import asyncio
 import copy
@@ -8,6 +9,7 @@ import re
 import struct
 import subprocess
 import sys
+import tempfile
 import threading
 import time
 import unittest
@@ -15,11 +17,13 @@ import unittest.mock
 from typing import Callable, Dict, List, Optional, Tuple
 
 import gofnjerta
-from gofnjerta import Address, Config, Connect, Delivery, Disconnect, Endpoint, Error, Event, Host, Line, Network, Peer, Receive, State, Why
+from gofnjerta import Address, Config, Connect, Delivery, Disconnect, Ending, Endpoint, Error, Event, Host, Line, Network, Peer, Receive, State
+from gofnjerta import ENDLESS, Why
 from gofnjerta._library import _CALLS, layout
 from gofnjerta.network import _Drawn, _Way
 
 HEADERS = os.environ.get("HEADERS", os.path.join(os.path.dirname(__file__), "..", "..", "..", "c"))
+REPLAY = os.environ.get("REPLAY", os.path.join(os.environ.get("GOFNJERTA_DIR", "/usr"), "bin", "gofnjerta_replay"))
 
 
 def read(name: str) -> str:
@@ -102,6 +106,47 @@ class Hosts(unittest.TestCase):
         error = pickle.loads(pickle.dumps(Error(5)))
         self.assertEqual((error.number, str(error)), (5, "E5 TooLarge"))
         self.assertEqual(client.receive(net.address(server), b"x").stop_name, "S1 Short")
+
+    def test_a_limit_the_line_and_endings(self) -> None:
+        net, server, client, there, here = meet()
+        client.set_send_limit(5, 100)
+        client.submit(here, 0, b"hello")
+        with self.assertRaises(Error) as raised:
+            client.submit(here, 0, b"")
+        self.assertEqual((raised.exception.number, raised.exception.name), (Why.FULL, "E9 Full"))
+        line = client.read_line(here)
+        self.assertEqual((line.commands, line.bytes, line.in_transit, line.throttle), (1, 5, 0, 32))
+        self.assertEqual(line.allowance, client.read_allowance(here))
+        self.assertEqual((line.round_trip, line.variance), (client.read_peer(here).round_trip, client.read_peer(here).variance))
+        self.assertTrue(0 < line.lowest_before <= 500 and line.lowest <= line.round_trip, line)
+        self.assertRaises(Error, lambda: client.read_line(Peer(0, 7)))
+        self.assertRaises(ValueError, lambda: client.set_send_limit(-1, 1))
+        self.assertEqual((client.ending(here), server.ending(there)), (Ending.NONE, Ending.NONE))
+        client.disconnect(here)
+        net.pass_(10_000)
+        self.assertEqual((client.ending(here), server.ending(there)), (Ending.ASKED_HERE, Ending.ASKED_THERE))
+
+    def test_a_record(self) -> None:
+        with tempfile.TemporaryDirectory() as folder:
+            path = os.path.join(folder, "record")
+            with open(path, "wb") as file, Host.record(Config.standard(1, 1), file) as host:
+                self.assertRaises(Error, lambda: host.submit(Peer(0, 0), 0, b""))
+                host.connect(("10.0.0.1", 7777), 1, 2, 3)
+                sent = host.transmit()
+                assert sent is not None
+                host.tick(20_000)
+                host.tick(20_000)
+                self.assertEqual(host.ending(Peer(0, 0)), Ending.NONE)
+            with open(path, "rb") as written:
+                record = written.read()
+            # The head, the settings, the connection, the datagram, two ticks and the end; each entry with its kind and its hash.
+            self.assertEqual(len(record), 16 + (31 + 9) + (21 + 9) + (24 + 9) + 2 * (4 + 9) + 9)
+            self.assertEqual(record[:8], b"gofnjrec")
+            with open(os.path.join(folder, "no"), "wb") as file:
+                file.close()
+                with Host.record(Config.standard(1, 1), file) as host:
+                    host.tick(1)  # the host goes on
+        self.assertRaises(Error, lambda: Host.record(Config.standard(0, 1), file))
 
     def test_a_closed_host_refuses(self) -> None:
         host = Host(Config.standard(1, 1))
@@ -283,9 +328,9 @@ class Networks(unittest.TestCase):
 
 
 class Endpoints(unittest.TestCase):
-    def talk(self, loss: float, delay: int, packets: int) -> float:
+    def talk(self, server: Endpoint, loss: float, delay: int, packets: int) -> float:
         begun = time.monotonic()
-        with Endpoint.server(("127.0.0.1", 0), 4) as server, Endpoint.client() as client:
+        with server, Endpoint.client() as client:
             server.simulate(loss, delay)
             peer = client.connect(server.address, info=3)
             said: List[bytes] = []
@@ -314,10 +359,22 @@ class Endpoints(unittest.TestCase):
         return time.monotonic() - begun
 
     def test_over_a_line_that_loses_nothing(self) -> None:
-        self.talk(0, 0, 300)
+        self.talk(Endpoint.server(("127.0.0.1", 0), 4), 0, 0, 300)
 
     def test_over_a_simulated_line(self) -> None:
-        self.assertGreater(self.talk(0.1, 20, 50), 0.08)
+        self.assertGreater(self.talk(Endpoint.server(("127.0.0.1", 0), 4), 0.1, 20, 50), 0.08)
+
+    def test_a_record_can_be_replayed(self) -> None:
+        with tempfile.TemporaryDirectory() as folder:
+            path = os.path.join(folder, "record")
+            with open(path, "wb") as file:
+                server = Endpoint.record(("127.0.0.1", 0), Config(peers=8, channels=2, generations=ENDLESS), file)
+                server.host.give_way()
+                server.host.set_most(4)
+                self.talk(server, 0, 0, 50)
+                self.assertRaises(Error, lambda: Endpoint.record(("127.0.0.1", 0), Config.standard(0, 1), file))
+            replayed = subprocess.run([REPLAY, path], stdout=subprocess.PIPE, stderr=subprocess.STDOUT)
+            self.assertEqual(replayed.returncode, 0, replayed.stdout)
 
     def test_asyncio(self) -> None:
         async def serve(server: Endpoint) -> None:

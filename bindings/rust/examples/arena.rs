@@ -35,7 +35,7 @@ struct Arena {
 }
 
 impl Arena {
-    fn take(&mut self, server: &mut Endpoint, event: Event) {
+    fn take(&mut self, server: &mut Endpoint, event: Event<'_>) {
         match event {
             Event::Connect { peer, address, .. } => {
                 println!("{} in from {address}", peer.slot);
@@ -113,10 +113,10 @@ fn main() -> Result<(), EndpointError> {
     let mut server = Endpoint::server(address.as_deref().unwrap_or("0.0.0.0:7777"), 32, 2)?;
     println!("listening at {}", server.address()?);
     let mut arena = Arena::default();
-    let mut next = Instant::now();
+    let (mut next, mut room) = (Instant::now(), Vec::new());
     loop {
         next += ROUND;
-        while let Some(event) = server.service(next.saturating_duration_since(Instant::now()))? {
+        while let Some(event) = server.service(next.saturating_duration_since(Instant::now()), &mut room)? {
             arena.take(&mut server, event);
         }
         arena.read(&server);

@@ -15,8 +15,8 @@ struct Arena {
 
 impl Arena {
     /// Takes what came. Who sends anything but a move is sent away.
-    fn take_events(&mut self, host: &mut Host) -> Result<(), Error> {
-        while let Some(event) = host.next_event()? {
+    fn take_events(&mut self, host: &mut Host, room: &mut Vec<u8>) -> Result<(), Error> {
+        while let Some(event) = host.next_event(room)? {
             match event {
                 Event::Connect { peer, .. } => {
                     self.players.insert(peer, [0, 0]);
@@ -62,7 +62,7 @@ fn play(net: &mut Network) -> Result<Option<String>, Error> {
     let mut arena = Arena::default();
     let server = net.add(&Config::standard(3, 2))?;
     net.capture(server);
-    let mut players = Vec::new();
+    let (mut players, mut room) = (Vec::new(), Vec::new());
     for _ in 0..3 {
         let node = net.add(&Config::standard(1, 2))?;
         let peer = net.connect(node, server, 2, 0)?;
@@ -70,14 +70,14 @@ fn play(net: &mut Network) -> Result<Option<String>, Error> {
     }
     for _ in 0..120 {
         net.pass(50)?;
-        arena.take_events(net.host(server))?;
+        arena.take_events(net.host(server), &mut room)?;
         arena.send_snapshot(net.host(server))?;
         for player in &mut players {
             let host = net.host(player.node);
-            while let Some(event) = host.next_event()? {
+            while let Some(event) = host.next_event(&mut room)? {
                 match event {
                     Event::Connect { .. } => player.is_in = true,
-                    Event::Receive { data, .. } => player.snapshot = data,
+                    Event::Receive { data, .. } => player.snapshot = data.to_vec(),
                     event => return Ok(Some(format!("{event:?} at {:?}", player.node))),
                 }
             }

@@ -6,7 +6,7 @@ use crate::ffi::{wait_for, Config, Peer};
 use crate::host::{Delivery, Event, Host, ENDLESS};
 use crate::line::{copied, Flights, Line, Way};
 use std::fmt;
-use std::io::{self, ErrorKind};
+use std::io::{self, ErrorKind, Write};
 use std::net::{Ipv4Addr, SocketAddr, SocketAddrV4, ToSocketAddrs, UdpSocket};
 use std::time::{Duration, Instant};
 
@@ -86,7 +86,17 @@ fn address_of<A: ToSocketAddrs>(address: A) -> io::Result<SocketAddrV4> {
 impl Endpoint {
     /// Opens a host with a socket at an address of IPv4 (port 0: the system chooses), and with a secret that the system draws.
     pub fn open<A: ToSocketAddrs>(address: A, config: &Config) -> Result<Endpoint, EndpointError> {
-        let mut host = Host::open(config)?;
+        Endpoint::over(Host::open(config)?, address)
+    }
+
+    /// As [`open`](Endpoint::open), with a host whose record is written until the endpoint is dropped or a write fails ([`Host::record`]).
+    /// For a server set the [`Config`] as [`server`](Endpoint::server) does, and call `give_way` and `set_most` of
+    /// [`host_mut`](Endpoint::host_mut).
+    pub fn record<A: ToSocketAddrs>(address: A, config: &Config, writer: Box<dyn Write + Send>) -> Result<Endpoint, EndpointError> {
+        Endpoint::over(Host::record(config, writer)?, address)
+    }
+
+    fn over<A: ToSocketAddrs>(mut host: Host, address: A) -> Result<Endpoint, EndpointError> {
         host.set_secret(&random()?)?;
         let mut room = Vec::new();
         room.try_reserve_exact(LONGEST).map_err(|_| Error::Memory)?;
@@ -158,21 +168,24 @@ impl Endpoint {
     }
 
     /// The next event, for which it waits so long at most. An event that is there already is returned at once; else datagrams are received
-    /// and sent, and time goes on, until there is one.
-    pub fn service(&mut self, timeout: Duration) -> Result<Option<Event>, EndpointError> {
-        if let Some(event) = self.host.next_event()? {
-            return Ok(Some(event));
+    /// and sent, and time goes on, until there is one. A packet's bytes are written to `room`, as by [`Host::next_event`].
+    #[inline]
+    pub fn service<'a>(&mut self, timeout: Duration, room: &'a mut Vec<u8>) -> Result<Option<Event<'a>>, EndpointError> {
+        if !self.host.has_event()? {
+            self.serve(timeout)?;
         }
+        Ok(self.host.next_event(room)?)
+    }
+
+    /// Serves until there is an event, so long at most.
+    fn serve(&mut self, timeout: Duration) -> Result<(), EndpointError> {
         let begun = Instant::now();
         loop {
             let is_all = self.take_in()?;
             self.flush()?;
-            if let Some(event) = self.host.next_event()? {
-                return Ok(Some(event));
-            }
             let left = timeout.saturating_sub(begun.elapsed());
-            if left == Duration::ZERO {
-                return Ok(None);
+            if self.host.has_event()? || left == Duration::ZERO {
+                return Ok(());
             }
             if is_all {
                 self.wait(left)?;

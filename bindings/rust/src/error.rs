@@ -21,6 +21,8 @@ pub enum Error {
     NoSlot,
     /// A setting is out of its range, or no channel was asked for (8).
     BadConfig,
+    /// As much is queued or unacknowledged for the peer as [`set_send_limit`](crate::Host::set_send_limit) says (9).
+    Full,
     /// The handle holds no host (32). No call of this crate returns it.
     Closed,
     /// The handle holds a host already (33). No call of this crate returns it.
@@ -38,11 +40,10 @@ pub enum Error {
 }
 
 impl Error {
-    /// The error with this number; `None` for 0, which means success.
-    #[inline]
-    pub(crate) fn numbered(number: u32) -> Option<Error> {
-        Some(match number {
-            0 => return None,
+    /// The error with this number, which isn't 0.
+    #[cold]
+    pub(crate) fn numbered(number: u32) -> Error {
+        match number {
             1 => Error::Memory,
             2 => Error::NoSuchPeer,
             3 => Error::NotConnected,
@@ -50,6 +51,7 @@ impl Error {
             5 => Error::TooLarge,
             7 => Error::NoSlot,
             8 => Error::BadConfig,
+            9 => Error::Full,
             32 => Error::Closed,
             33 => Error::Open,
             34 => Error::Short,
@@ -57,7 +59,7 @@ impl Error {
             36 => Error::Untold,
             37 => Error::Null,
             other => Error::Other(other),
-        })
+        }
     }
 
     /// Its number in `gofnjerta.h`.
@@ -70,6 +72,7 @@ impl Error {
             Error::TooLarge => 5,
             Error::NoSlot => 7,
             Error::BadConfig => 8,
+            Error::Full => 9,
             Error::Closed => 32,
             Error::Open => 33,
             Error::Short => 34,

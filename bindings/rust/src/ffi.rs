@@ -1,15 +1,18 @@
 //! The library for C: its structures and calls as `gofnjerta.h` has them, and a safe layer over these. All unsafe code of the crate is here.
 //!
 //! The layer keeps what the header asks of a caller. A handle is all zero bytes before it is opened, isn't copied, and has one call at a
-//! time: it is no `Sync`, and no call of the library calls back. Pointers are to Rust's own values, with their true lengths.
+//! time: it is no `Sync`, and the library calls back only what takes a record, which doesn't know the handle. Pointers are to Rust's own
+//! values, with their true lengths.
 
 use crate::error::Error;
 use std::cell::UnsafeCell;
 use std::ffi::CStr;
+use std::io::Write;
 use std::net::{Ipv4Addr, SocketAddrV4, UdpSocket};
 use std::os::raw::{c_char, c_int, c_ulong, c_void};
 use std::os::unix::io::AsRawFd;
-use std::ptr;
+use std::panic::{catch_unwind, AssertUnwindSafe};
+use std::{ptr, slice};
 
 /// The settings of a host. [`Config::standard`] fits most.
 #[repr(C)]
@@ -101,6 +104,31 @@ pub struct Slots {
     pub leaving: u16,
 }
 
+/// How the line to a peer is.
+#[repr(C)]
+#[derive(Clone, Copy, Debug, Default, PartialEq, Eq)]
+pub struct LineReading {
+    /// The mean round trip in milliseconds, 500 at first.
+    pub round_trip: u32,
+    /// The mean deviation of round trips, in milliseconds.
+    pub variance: u32,
+    /// The lowest mean in the throttle's running interval, in milliseconds; 500 at first.
+    pub lowest: u32,
+    /// The lowest mean in the interval before, in milliseconds; 500 at first.
+    pub lowest_before: u32,
+    /// 0 to 32: of 32 packets that aren't reliable one more than this is sent, from 31 on all.
+    pub throttle: u32,
+    /// Bytes that may be in transit, as [`read_allowance`](crate::Host::read_allowance) tells.
+    pub allowance: u32,
+    /// Bytes of reliable packets that were sent and are neither acknowledged nor due to be resent.
+    pub in_transit: u32,
+    /// Queued, or sent and not acknowledged, as [`set_send_limit`](crate::Host::set_send_limit) counts them: packets, or the pieces of long
+    /// ones.
+    pub commands: u64,
+    /// Their bytes of payload.
+    pub bytes: u64,
+}
+
 /// The library's bytes of an address.
 #[repr(C)]
 #[derive(Clone, Copy)]
@@ -110,12 +138,14 @@ struct RawAddress {
 }
 
 impl From<SocketAddrV4> for RawAddress {
+    #[inline]
     fn from(address: SocketAddrV4) -> RawAddress {
         RawAddress { ip: u32::from(*address.ip()), port: address.port() }
     }
 }
 
 impl From<RawAddress> for SocketAddrV4 {
+    #[inline]
     fn from(address: RawAddress) -> SocketAddrV4 {
         SocketAddrV4::new(Ipv4Addr::from(address.ip), address.port)
     }
@@ -151,7 +181,7 @@ struct RawDatagram {
     peer: Peer,
 }
 
-/// An event as the library tells it.
+/// An event as the library tells it; its kind is 0 if there is none.
 #[repr(C)]
 #[derive(Clone, Copy)]
 pub(crate) struct RawEvent {
@@ -161,6 +191,10 @@ pub(crate) struct RawEvent {
     pub(crate) channel: u8,
     pub(crate) flags: u8,
     pub(crate) length: u64,
+}
+
+impl RawEvent {
+    pub(crate) const NONE: RawEvent = RawEvent { kind: 0, info: 0, peer: NO_PEER, channel: 0, flags: 0, length: 0 };
 }
 
 /// What can be read of a peer.
@@ -234,15 +268,42 @@ extern "C" {
     fn gofnjerta_read_held(host: *mut RawHost, held: *mut Held) -> u32;
     fn gofnjerta_read_slots(host: *mut RawHost, slots: *mut Slots) -> u32;
     fn gofnjerta_read_sent_again(host: *mut RawHost, commands: *mut u64) -> u32;
+    fn gofnjerta_set_send_limit(host: *mut RawHost, bytes: u64, commands: u64) -> u32;
+    fn gofnjerta_read_line(host: *mut RawHost, peer: Peer, line: *mut LineReading) -> u32;
+    fn gofnjerta_ending(host: *mut RawHost, peer: Peer, why: *mut u32) -> u32;
+    fn gofnjerta_record(host: *mut RawHost, config: *const Config, write: RawWriter, context: *mut c_void) -> u32;
+}
+
+type RawWriter = extern "C" fn(*mut c_void, *const c_void, usize) -> c_int;
+
+/// What takes a record.
+type Writer = Box<dyn Write + Send>;
+
+/// Writes so many bytes of a record to the writer at `context`. 0 if it took them all.
+extern "C" fn write_record(context: *mut c_void, bytes: *const c_void, length: usize) -> c_int {
+    // SAFETY: `Handle::record` passed a pointer to its writer, which nothing else uses as long as the handle is open. The library names as
+    // many bytes as it passes, and passes some.
+    let (writer, bytes) = unsafe { (&mut *context.cast::<Writer>(), slice::from_raw_parts(bytes.cast::<u8>(), length)) };
+    match catch_unwind(AssertUnwindSafe(|| writer.write_all(bytes))) {
+        Ok(Ok(())) => 0,
+        _ => 1,
+    }
 }
 
 /// What a number that a call returned means.
 #[inline]
 fn answer(number: u32) -> Result<(), Error> {
-    match Error::numbered(number) {
-        None => Ok(()),
-        Some(error) => Err(error),
+    match number {
+        0 => Ok(()),
+        _ => Err(Error::numbered(number)),
     }
+}
+
+/// Makes room for so many bytes, or more.
+#[cold]
+fn grow(room: &mut Vec<u8>, length: usize) -> Result<(), Error> {
+    room.clear();
+    room.try_reserve(length).map_err(|_| Error::Memory)
 }
 
 /// The version of the library: major, minor and patch.
@@ -273,8 +334,8 @@ pub(crate) fn standard(peers: u16, channels: u8) -> Config {
     unsafe { gofnjerta_standard(peers, channels) }
 }
 
-/// An open host of the library.
-pub(crate) struct Handle(UnsafeCell<RawHost>);
+/// An open host of the library, and what takes its record: one writer or none, in memory that stays where it is.
+pub(crate) struct Handle(UnsafeCell<RawHost>, Vec<Writer>);
 
 // SAFETY: any thread may call or close a handle, one at a time. `UnsafeCell` makes it no `Sync`, so that no two threads call at once.
 unsafe impl Send for Handle {}
@@ -283,6 +344,7 @@ impl Drop for Handle {
     fn drop(&mut self) {
         // SAFETY: the handle is open, and nothing uses it afterwards.
         unsafe { gofnjerta_close(self.raw()) };
+        self.1.clear(); // only now is the record whole
     }
 }
 
@@ -296,7 +358,17 @@ impl Handle {
         let mut host = RawHost { at: ptr::null_mut(), is_open: false };
         // SAFETY: the handle is all zero bytes; both pointers are to values of their types.
         answer(unsafe { gofnjerta_open(&mut host, config) })?;
-        Ok(Handle(UnsafeCell::new(host)))
+        Ok(Handle(UnsafeCell::new(host), Vec::new()))
+    }
+
+    pub(crate) fn record(config: &Config, writer: Writer) -> Result<Handle, Error> {
+        let mut host = RawHost { at: ptr::null_mut(), is_open: false };
+        let mut writers = Vec::new();
+        writers.try_reserve_exact(1).map_err(|_| Error::Memory)?;
+        writers.push(writer);
+        // SAFETY: the handle is all zero bytes; the pointers are to values of their types. The writer is dropped after the handle is closed.
+        answer(unsafe { gofnjerta_record(&mut host, config, write_record, writers.as_mut_ptr().cast()) })?;
+        Ok(Handle(UnsafeCell::new(host), writers))
     }
 
     pub(crate) fn connect(&mut self, to: SocketAddrV4, channels: u8, info: u32, word: u32) -> Result<Peer, Error> {
@@ -352,27 +424,27 @@ impl Handle {
         Ok(ms)
     }
 
+    /// The next event is written; of kind 0 if there is none, or if the call is refused.
     #[inline]
-    pub(crate) fn next_event(&mut self) -> Result<Option<RawEvent>, Error> {
-        let mut event = RawEvent { kind: 0, info: 0, peer: NO_PEER, channel: 0, flags: 0, length: 0 };
+    pub(crate) fn next_event(&mut self, event: &mut RawEvent) -> Result<(), Error> {
         // SAFETY: the handle is open, and `event` is a value of its type.
-        answer(unsafe { gofnjerta_next_event(self.raw(), &mut event) })?;
-        Ok(Some(event).filter(|event| event.kind != 0))
+        answer(unsafe { gofnjerta_next_event(self.raw(), event) })
     }
 
-    /// The bytes of the packet that the last event told of, which are so many. `Memory` if there is no room for them: then the call may be
-    /// repeated.
+    /// The bytes of the packet that the last event told of, which are so many, in place of what was in the room. `Memory` if it can't grow
+    /// so far: then the call may be repeated.
     #[inline]
-    pub(crate) fn body(&mut self, length: u64) -> Result<Vec<u8>, Error> {
+    pub(crate) fn body<'a>(&mut self, room: &'a mut Vec<u8>, length: u64) -> Result<&'a [u8], Error> {
         let length = usize::try_from(length).map_err(|_| Error::TooLarge)?;
-        let mut body: Vec<u8> = Vec::new();
-        body.try_reserve_exact(length).map_err(|_| Error::Memory)?;
+        if room.capacity() < length {
+            grow(room, length)?;
+        }
         // SAFETY: the handle is open, and the vector has room for so many bytes. If the answer is 0 the library has written them all.
         unsafe {
-            answer(gofnjerta_body(self.raw(), body.as_mut_ptr().cast(), length))?;
-            body.set_len(length);
+            answer(gofnjerta_body(self.raw(), room.as_mut_ptr().cast(), length))?;
+            room.set_len(length);
         }
-        Ok(body)
+        Ok(room)
     }
 
     pub(crate) fn disconnect(&mut self, peer: Peer, info: u32) -> Result<(), Error> {
@@ -484,6 +556,25 @@ impl Handle {
         answer(unsafe { gofnjerta_read_sent_again(self.raw(), &mut commands) })?;
         Ok(commands)
     }
+
+    pub(crate) fn set_send_limit(&mut self, bytes: u64, commands: u64) -> Result<(), Error> {
+        // SAFETY: the handle is open.
+        answer(unsafe { gofnjerta_set_send_limit(self.raw(), bytes, commands) })
+    }
+
+    pub(crate) fn read_line(&self, peer: Peer) -> Result<LineReading, Error> {
+        let mut line = LineReading::default();
+        // SAFETY: the handle is open, and `line` is a value of its type.
+        answer(unsafe { gofnjerta_read_line(self.raw(), peer, &mut line) })?;
+        Ok(line)
+    }
+
+    pub(crate) fn ending(&self, peer: Peer) -> Result<u32, Error> {
+        let mut why = 0;
+        // SAFETY: the handle is open, and `why` is a value of its type.
+        answer(unsafe { gofnjerta_ending(self.raw(), peer, &mut why) })?;
+        Ok(why)
+    }
 }
 
 #[repr(C)]
@@ -580,6 +671,20 @@ mod tests {
             incoming_session,
             outgoing_session
         );
+        lines!(
+            lines,
+            "gofnjerta_line",
+            LineReading,
+            round_trip,
+            variance,
+            lowest,
+            lowest_before,
+            throttle,
+            allowance,
+            in_transit,
+            commands,
+            bytes
+        );
         lines!(lines, "gofnjerta_totals", Totals, datagrams_in, bytes_in, datagrams_out, bytes_out);
         lines!(lines, "gofnjerta_held", Held, channels, senders, packets, undispatched, bytes, acknowledgements, memory, most_memory);
         lines!(lines, "gofnjerta_slots", Slots, free, spent, connecting, answering, connected, leaving);
@@ -598,7 +703,7 @@ mod tests {
     #[test]
     fn statuses_are_numbered_as_in_c() {
         for number in 1..50 {
-            let error = Error::numbered(number).expect("an error");
+            let error = Error::numbered(number);
             assert_eq!(error.number(), number);
             if let Error::Other(_) = error {
                 continue;
@@ -606,7 +711,7 @@ mod tests {
             let name = format!("{error:?}");
             assert!(error.name().ends_with(&name), "{} is no {name}", error.name());
         }
-        assert_eq!(Error::numbered(0), None);
+        assert_eq!(answer(0), Ok(()));
         assert_eq!(RawReceived::default().status, 0);
     }
 }

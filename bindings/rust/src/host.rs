@@ -1,9 +1,13 @@
 //! A host without a socket and a clock.
 
 use crate::error::{Error, Stop};
-use crate::ffi::{self, Config, Handle, Held, Peer, RawEvent, RawReading, Slots, Totals, ROOM};
+use crate::ffi::{self, Config, Handle, Held, LineReading, Peer, RawEvent, RawReading, Slots, Totals, ROOM};
 use std::fmt;
+use std::io::Write;
 use std::net::{Ipv4Addr, SocketAddrV4};
+
+const CONNECT: u32 = 1;
+const RECEIVE: u32 = 3;
 
 const RELIABLE: u8 = 1;
 const UNSEQUENCED: u8 = 2;
@@ -64,9 +68,9 @@ impl Delivery {
 
 /// An event of a host. Each connection has one `Connect`, then its packets in order, then one `Disconnect`, after which the peer's name is
 /// spent. A connection that this end asked for and that fails has a `Disconnect` alone.
-#[derive(Clone, Debug, PartialEq, Eq)]
+#[derive(Clone, Copy, Debug, PartialEq, Eq)]
 #[non_exhaustive]
-pub enum Event {
+pub enum Event<'a> {
     /// A peer is connected.
     #[non_exhaustive]
     Connect {
@@ -84,7 +88,7 @@ pub enum Event {
         peer: Peer,
         /// Its address.
         address: SocketAddrV4,
-        /// The other end's number; 0 if this end asked or the peer timed out.
+        /// The number that the other end gave; 0 if it gave none, as when this end asked or the peer timed out.
         info: u32,
     },
     /// A packet came.
@@ -98,12 +102,12 @@ pub enum Event {
         channel: u8,
         /// How it was carried. A long packet that was submitted without flag 8 of ENet may have been made reliable by its sender.
         delivery: Delivery,
-        /// Its bytes.
-        data: Vec<u8>,
+        /// Its bytes, in the room that the caller gave.
+        data: &'a [u8],
     },
 }
 
-impl Event {
+impl Event<'_> {
     /// Whose event it is.
     pub fn peer(&self) -> Peer {
         match self {
@@ -200,7 +204,7 @@ pub struct Reading {
     pub variance: u32,
     /// Bytes of reliable packets that were sent and are neither acknowledged nor due to be resent.
     pub in_transit: u32,
-    /// How many of 32 unreliable packets are sent.
+    /// 0 to 32: of 32 packets that aren't reliable one more than this is sent, from 31 on all.
     pub throttle: u32,
     /// The throttle's interval in milliseconds.
     pub throttle_interval: u32,
@@ -258,8 +262,8 @@ pub struct Host {
     room: Vec<u8>,
     /// Of each slot the last peer whose address is known.
     addresses: Vec<Option<(u32, SocketAddrV4)>>,
-    /// An event that the library told and for which there was no memory yet.
-    told: Option<RawEvent>,
+    /// The event that the library told and that wasn't returned yet.
+    told: RawEvent,
 }
 
 impl fmt::Debug for Host {
@@ -278,7 +282,7 @@ impl Host {
         let mut addresses = Vec::new();
         addresses.try_reserve_exact(slots).map_err(|_| Error::Memory)?;
         addresses.resize(slots, None);
-        Ok(Host { handle: Handle::open(config)?, room, addresses, told: None })
+        Ok(Host { handle: Handle::open(config)?, room, addresses, told: RawEvent::NONE })
     }
 
     /// Asks the host at an address for a connection with 1 to 255 channels, from the lowest free slot. `info` is a number for its user. A
@@ -292,7 +296,8 @@ impl Host {
         Ok(peer)
     }
 
-    /// Submits a packet, whose bytes are copied. `NoSuchPeer`, `NotConnected`, `NoSuchChannel`, `TooLarge`, `Memory`.
+    /// Submits a packet, whose bytes are copied. `NoSuchPeer`, `NotConnected`, `NoSuchChannel`, `TooLarge`, `Full`
+    /// ([`set_send_limit`](Host::set_send_limit)), `Memory`.
     #[inline]
     pub fn submit(&mut self, peer: Peer, channel: u8, data: &[u8], delivery: Delivery) -> Result<(), Error> {
         self.handle.submit(peer, channel, delivery.flags(), data)
@@ -300,7 +305,8 @@ impl Host {
 
     /// Submits a packet to each of these peers; they share one copy of its bytes. Peers that have gone or aren't connected are skipped. If
     /// one peer refuses it for another reason, the others still get it, and the first such reason is returned: `NoSuchChannel`, `TooLarge`,
-    /// `Memory`. No peer gets it if there is no memory for the copy.
+    /// `Full`, `Memory`. Who is full must be read before, by [`read_line`](Host::read_line): afterwards a peer that took it and is full by
+    /// it looks the same, so don't submit it again to all that look full. No peer gets it if there is no memory for the copy.
     #[inline]
     pub fn broadcast(&mut self, peers: &[Peer], channel: u8, data: &[u8], delivery: Delivery) -> Result<(), Error> {
         self.handle.broadcast(peers, channel, delivery.flags(), data)
@@ -330,7 +336,7 @@ impl Host {
     }
 
     /// The clock goes on by so many milliseconds, 60,000 at most. Commands whose timeout is over are resent, quiet peers pinged, and peers
-    /// that are silent too long dropped. Tick every few milliseconds, or when [`due_in`](Host::due_in) says.
+    /// dropped that left a command unacknowledged too long. Tick every few milliseconds, or when [`due_in`](Host::due_in) says.
     #[inline]
     pub fn tick(&mut self, ms: u32) -> Result<(), Error> {
         self.handle.tick(ms)
@@ -343,39 +349,57 @@ impl Host {
         self.handle.due_in()
     }
 
-    /// The next event; `None` if there is none. After `Memory` the next call returns the same event.
-    #[inline]
-    pub fn next_event(&mut self) -> Result<Option<Event>, Error> {
-        let told = match self.told.take() {
-            Some(told) => told,
-            None => match self.handle.next_event()? {
-                Some(told) => told,
-                None => return Ok(None),
-            },
-        };
-        let event = self.event_of(&told);
-        if event.is_err() {
-            self.told = Some(told);
+    /// The next event; `None` if there is none. A packet's bytes are written to `room`, in place of what was there, and the event borrows
+    /// them. Pass the same `Vec` each time: it grows to the longest packet, and nothing else is taken from memory. After `Memory` the next
+    /// call returns the same event.
+    ///
+    /// ```
+    /// # fn main() -> Result<(), gofnjerta::Error> {
+    /// # use gofnjerta::{Config, Event, Host};
+    /// # let mut host = Host::open(&Config::standard(1, 1))?;
+    /// let mut room = Vec::new();
+    /// while let Some(event) = host.next_event(&mut room)? {
+    ///     if let Event::Receive { peer, channel, data, delivery, .. } = event {
+    ///         let _ = host.submit(peer, channel, data, delivery); // the peer may have gone since
+    ///     }
+    /// }
+    /// # Ok(())
+    /// # }
+    /// ```
+    // A call that isn't inlined hands the event over by memory, which takes some 70 instructions more.
+    #[inline(always)]
+    pub fn next_event<'a>(&mut self, room: &'a mut Vec<u8>) -> Result<Option<Event<'a>>, Error> {
+        if !self.has_event()? {
+            return Ok(None);
         }
-        event.map(Some)
+        if self.told.kind < RECEIVE {
+            return Ok(Some(self.begun_or_ended()));
+        }
+        let data = self.handle.body(room, self.told.length)?;
+        self.told.kind = 0;
+        let RawEvent { peer, channel, flags, .. } = self.told;
+        Ok(Some(Event::Receive { peer, address: self.address_of(peer), channel, delivery: Delivery::of(flags), data }))
     }
 
-    #[inline]
-    fn event_of(&mut self, told: &RawEvent) -> Result<Event, Error> {
-        let peer = told.peer;
+    /// The event that is told, which is no packet.
+    #[cold]
+    fn begun_or_ended(&mut self) -> Event<'static> {
+        let RawEvent { kind, info, peer, .. } = self.told;
         let address = self.address_of(peer);
-        let info = told.info;
-        Ok(match told.kind {
-            1 => Event::Connect { peer, address, info },
-            2 => Event::Disconnect { peer, address, info },
-            _ => Event::Receive {
-                peer,
-                address,
-                channel: told.channel,
-                delivery: Delivery::of(told.flags),
-                data: self.handle.body(told.length)?,
-            },
-        })
+        self.told.kind = 0;
+        match kind {
+            CONNECT => Event::Connect { peer, address, info },
+            _ => Event::Disconnect { peer, address, info },
+        }
+    }
+
+    /// Whether there is an event, which [`next_event`](Host::next_event) returns.
+    #[inline]
+    pub(crate) fn has_event(&mut self) -> Result<bool, Error> {
+        if self.told.kind == 0 {
+            self.handle.next_event(&mut self.told)?;
+        }
+        Ok(self.told.kind != 0)
     }
 
     fn note(&mut self, peer: Peer, address: SocketAddrV4) {
@@ -387,11 +411,14 @@ impl Host {
     /// The address of a peer that has an event: as it was noted, or else as the library has it.
     #[inline]
     fn address_of(&mut self, peer: Peer) -> SocketAddrV4 {
-        if let Some(Some((generation, address))) = self.addresses.get(usize::from(peer.slot)) {
-            if *generation == peer.generation {
-                return *address;
-            }
+        match self.addresses.get(usize::from(peer.slot)) {
+            Some(Some((generation, address))) if *generation == peer.generation => *address,
+            _ => self.read_address(peer),
         }
+    }
+
+    #[cold]
+    fn read_address(&mut self, peer: Peer) -> SocketAddrV4 {
         match self.handle.read_peer(peer) {
             Ok(read) => {
                 self.note(peer, read.address());
@@ -495,5 +522,67 @@ impl Host {
     /// Reads how many commands of all peers aren't acknowledged and were sent more than once.
     pub fn read_sent_again(&self) -> Result<u64, Error> {
         self.handle.read_sent_again()
+    }
+
+    /// Opens a host, and writes a record of it until it is dropped or a write fails: each call that changes it, and what comes out. The
+    /// program `gofnjerta_replay` makes the same calls on a fresh host, and tells where anything else comes out. A record has the host's
+    /// secret and each packet. A `BufWriter` saves calls of the system. `BadConfig`, `Memory`.
+    pub fn record(config: &Config, writer: Box<dyn Write + Send>) -> Result<Host, Error> {
+        let mut host = Host::open(config)?;
+        host.handle = Handle::record(config, writer)?;
+        Ok(host)
+    }
+
+    /// Sets at how many bytes of payload, or commands, that are queued, or sent and not acknowledged, a peer takes no further packet:
+    /// `Full`. A packet is a command, or each piece that it is cut into. It holds for all peers, also those to come. What is there already
+    /// stays. A peer with nothing queued or unacknowledged is never full: so 0 isn't "no limit", but one packet at a time. Without this
+    /// call there is no limit; `u64::MAX` twice is as good as none. It doesn't bound memory: the pieces of a packet that was cut share its
+    /// body until the last one is gone.
+    pub fn set_send_limit(&mut self, bytes: u64, commands: u64) -> Result<(), Error> {
+        self.handle.set_send_limit(bytes, commands)
+    }
+
+    /// Reads how the line to a peer is, and what is queued or unacknowledged for it. `NoSuchPeer`.
+    pub fn read_line(&self, peer: Peer) -> Result<LineReading, Error> {
+        self.handle.read_line(peer)
+    }
+
+    /// Reads why a peer's connection ended, before and after its `Disconnect`, until the next peer of that slot, connected or not, is gone:
+    /// ask when you take the `Disconnect`. `None` if it hasn't ended, or ended without a `Disconnect`, or too long ago.
+    pub fn ending(&self, peer: Peer) -> Result<Option<Ending>, Error> {
+        self.handle.ending(peer).map(Ending::numbered)
+    }
+}
+
+/// Why a connection ended.
+#[derive(Clone, Copy, Debug, PartialEq, Eq, Hash)]
+#[non_exhaustive]
+pub enum Ending {
+    /// This end's DISCONNECT ([`disconnect`](Host::disconnect), `_later`) was acknowledged, or wasn't for longer than this end waits.
+    AskedHere,
+    /// The other end sent DISCONNECT, with which it also refuses a connection; also if this end had asked.
+    AskedThere,
+    /// The other end left a command unacknowledged for too long ([`set_timeout`](Host::set_timeout)); also while
+    /// [`disconnect_later`](Host::disconnect_later) waits to send its DISCONNECT.
+    TimedOut,
+    /// No answer of the server to CONNECT took effect for as long as the client waits.
+    NeverAnswered,
+    /// The server's answer doesn't fit what the client asked for.
+    BadAnswer,
+    /// A number that this crate doesn't know, from a newer library.
+    Other(u32),
+}
+
+impl Ending {
+    fn numbered(number: u32) -> Option<Ending> {
+        Some(match number {
+            0 => return None,
+            1 => Ending::AskedHere,
+            2 => Ending::AskedThere,
+            3 => Ending::TimedOut,
+            4 => Ending::NeverAnswered,
+            5 => Ending::BadAnswer,
+            other => Ending::Other(other),
+        })
     }
 }

@@ -13,11 +13,12 @@
 //!
 //! fn main() -> Result<(), gofnjerta::EndpointError> {
 //!     let mut server = Endpoint::server("0.0.0.0:7777", 32, 2)?; // 32 players, 2 channels
+//!     let mut room = Vec::new(); // for the bytes of the packet that is told
 //!     loop {
-//!         match server.service(Duration::from_secs(1))? {
+//!         match server.service(Duration::from_secs(1), &mut room)? {
 //!             Some(Event::Receive { peer, channel, delivery, data, .. }) => {
 //!                 // A peer may have gone since its packet came.
-//!                 let _ = server.submit(peer, channel, &data, delivery);
+//!                 let _ = server.submit(peer, channel, data, delivery);
 //!             }
 //!             _ => {}
 //!         }
@@ -51,7 +52,7 @@ mod pcap;
 pub use draw::random;
 pub use endpoint::Endpoint;
 pub use error::{EndpointError, Error, Stop};
-pub use ffi::{Config, Held, Peer, Slots, Totals};
-pub use host::{version, Datagram, Delivery, Event, Host, Reading, Received, State, ENDLESS, FULL};
+pub use ffi::{Config, Held, LineReading, Peer, Slots, Totals};
+pub use host::{version, Datagram, Delivery, Ending, Event, Host, Reading, Received, State, ENDLESS, FULL};
 pub use line::Line;
 pub use network::{Network, Node};

@@ -61,8 +61,9 @@ struct Parcel {
 ///     net.pass(5_000)?;
 ///     net.host(client).submit(peer, 0, b"hello", Delivery::Reliable)?;
 ///     net.pass(5_000)?;
-///     assert!(matches!(net.host(server).next_event()?, Some(Event::Connect { .. })));
-///     match net.host(server).next_event()? {
+///     let mut room = Vec::new();
+///     assert!(matches!(net.host(server).next_event(&mut room)?, Some(Event::Connect { .. })));
+///     match net.host(server).next_event(&mut room)? {
 ///         Some(Event::Receive { data, .. }) => assert_eq!(data, b"hello"),
 ///         event => panic!("{event:?}"),
 ///     }

@@ -14,14 +14,15 @@ fn pair(net: &mut Network) -> Result<(Node, Node, Peer, Peer), Error> {
     let server = net.add(&Config::standard(4, 2))?;
     let client = net.add(&Config::standard(1, 2))?;
     let there = net.connect(client, server, 2, 77)?;
+    let mut room = Vec::new();
     for _ in 0..100 {
         net.pass(100)?;
-        if let Some(event) = net.host(server).next_event()? {
+        if let Some(event) = net.host(server).next_event(&mut room)? {
             let here = event.peer();
             assert!(matches!(event, Event::Connect { info: 77, .. }), "{event:?}");
             assert_eq!(event.address(), net.address(client));
             net.pass(2_000)?;
-            let event = net.host(client).next_event()?.expect("an event of the client");
+            let event = net.host(client).next_event(&mut room)?.expect("an event of the client");
             assert!(matches!(event, Event::Connect { info: 0, peer, .. } if peer == there), "{event:?}");
             assert_eq!(event.address(), net.address(server));
             return Ok((server, client, here, there));
@@ -44,9 +45,10 @@ fn talk(seed: u64) -> Result<Vec<u8>, Error> {
         net.host(client).submit(there, 1, &[number as u8; 20], Delivery::Unsequenced)?;
     }
     net.pass(20_000)?;
+    let mut room = Vec::new();
     for (node, other) in [(server, client), (client, server)] {
         let mut next = 0;
-        while let Some(event) = net.host(node).next_event()? {
+        while let Some(event) = net.host(node).next_event(&mut room)? {
             assert_eq!(event.address(), net.address(other));
             match event {
                 Event::Receive { channel: 0, delivery: Delivery::Reliable, data, .. } => {
@@ -113,12 +115,13 @@ fn a_connection_outlasts_a_short_outage_and_not_a_long_one() -> Result<(), Error
     net.outage(client, 3_000);
     net.host(server).submit(here, 0, b"late", Delivery::Reliable)?;
     net.pass(8_000)?;
-    assert!(matches!(net.host(client).next_event()?, Some(Event::Receive { data, .. }) if data == b"late"));
+    let mut room = Vec::new();
+    assert!(matches!(net.host(client).next_event(&mut room)?, Some(Event::Receive { data: b"late", .. })));
     net.outage(client, 60_000);
     net.pass(60_000)?;
     let addresses = (net.address(server), net.address(client));
     for (node, peer, address) in [(server, here, addresses.1), (client, there, addresses.0)] {
-        let event = net.host(node).next_event()?.expect("the end");
+        let event = net.host(node).next_event(&mut room)?.expect("the end");
         assert!(matches!(event, Event::Disconnect { info: 0, .. }), "{event:?}");
         assert_eq!((event.peer(), event.address()), (peer, address));
         assert_eq!(net.host(node).read_peer(peer), Err(Error::NoSuchPeer));
@@ -129,6 +132,7 @@ fn a_connection_outlasts_a_short_outage_and_not_a_long_one() -> Result<(), Error
 #[test]
 fn disconnects_tell_their_number() -> Result<(), Error> {
     let mut net = Network::new(4);
+    let mut room = Vec::new();
     for way in 0..3u32 {
         let mut net = Network::new(u64::from(way));
         let (server, client, here, there) = pair(&mut net)?;
@@ -139,10 +143,10 @@ fn disconnects_tell_their_number() -> Result<(), Error> {
             _ => host.disconnect_later(here, 12)?,
         }
         net.pass(3_000)?;
-        let event = net.host(client).next_event()?.expect("the end");
+        let event = net.host(client).next_event(&mut room)?.expect("the end");
         assert!(matches!(event, Event::Disconnect { info, .. } if info == 10 + way), "{event:?}");
         assert_eq!((event.peer(), event.address()), (there, net.address(server)));
-        let event = net.host(server).next_event()?;
+        let event = net.host(server).next_event(&mut room)?;
         assert_eq!(event.is_some(), way != 1, "{event:?}");
     }
     // Nobody is at the address that is asked.
@@ -150,7 +154,7 @@ fn disconnects_tell_their_number() -> Result<(), Error> {
     let nowhere = SocketAddrV4::new(Ipv4Addr::new(10, 9, 9, 9), 9);
     let peer = net.host(alone).connect(nowhere, 1, 0, 1)?;
     net.pass(60_000)?;
-    let event = net.host(alone).next_event()?.expect("the end");
+    let event = net.host(alone).next_event(&mut room)?.expect("the end");
     assert_eq!((event.peer(), event.address()), (peer, nowhere));
     assert!(matches!(event, Event::Disconnect { info: 0, .. }));
     Ok(())
@@ -165,17 +169,21 @@ fn a_full_server_says_so() -> Result<(), Error> {
     net.host(server).give_way()?;
     net.host(server).set_most(2)?;
     assert_eq!(net.host(server).set_most(5), Err(Error::BadConfig));
-    let mut told = Vec::new();
+    let (mut room, mut told) = (Vec::new(), Vec::new());
     for _ in 0..3 {
         let client = net.add(&Config::standard(1, 1))?;
         net.connect(client, server, 1, 0)?;
         net.pass(500)?;
-        while let Some(event) = net.host(client).next_event()? {
-            told.push(event);
+        while let Some(event) = net.host(client).next_event(&mut room)? {
+            match event {
+                Event::Connect { .. } => told.push(None),
+                Event::Disconnect { info, .. } => told.push(Some(info)),
+                event => panic!("{event:?}"),
+            }
         }
     }
-    assert!(matches!(told[0], Event::Connect { .. }) && matches!(told[1], Event::Connect { .. }));
-    assert!(told[2..].iter().any(|event| matches!(event, Event::Disconnect { info: FULL, .. })), "{told:?}");
+    assert_eq!(told[..2], [None, None]);
+    assert!(told[2..].contains(&Some(FULL)), "{told:?}");
     Ok(())
 }
 
@@ -254,18 +262,6 @@ fn a_host_goes_to_another_thread() -> Result<(), Error> {
     Ok(())
 }
 
-/// Serves both ends until something came, ten seconds at most.
-fn both(server: &mut Endpoint, client: &mut Endpoint) -> Result<(Option<Event>, Option<Event>), EndpointError> {
-    let begun = Instant::now();
-    while begun.elapsed() < Duration::from_secs(10) {
-        let told = (server.service(Duration::from_millis(2))?, client.service(Duration::from_millis(2))?);
-        if told.0.is_some() || told.1.is_some() {
-            return Ok(told);
-        }
-    }
-    panic!("nothing came");
-}
-
 #[test]
 fn endpoints_talk_over_a_simulated_line() -> Result<(), EndpointError> {
     let mut server = Endpoint::server((Ipv4Addr::LOCALHOST, 0), 4, 2)?;
@@ -273,17 +269,18 @@ fn endpoints_talk_over_a_simulated_line() -> Result<(), EndpointError> {
     client.simulate(0.2, Duration::from_millis(5))?;
     let begun = Instant::now();
     let there = client.connect(server.address()?, 2, 5)?;
-    let (mut said, mut came) = (0, 0u32);
+    let (mut said, mut came, mut room) = (0, 0u32, Vec::new());
+    let wait = Duration::from_millis(2);
     while came < 20 {
-        let told = both(&mut server, &mut client)?;
-        match told.0 {
-            Some(Event::Receive { peer, channel, data, delivery, .. }) => server.submit(peer, channel, &data, delivery)?,
+        assert!(begun.elapsed() < Duration::from_secs(10), "{came} came");
+        match server.service(wait, &mut room)? {
+            Some(Event::Receive { peer, channel, data, delivery, .. }) => server.submit(peer, channel, data, delivery)?,
             Some(Event::Connect { address, info, .. }) => {
                 assert_eq!((*address.ip(), address.port(), info), (Ipv4Addr::LOCALHOST, client.address()?.port(), 5));
             }
             _ => {}
         }
-        match told.1 {
+        match client.service(wait, &mut room)? {
             Some(Event::Receive { data, .. }) => {
                 assert_eq!(data, came.to_le_bytes());
                 came += 1;
@@ -300,8 +297,9 @@ fn endpoints_talk_over_a_simulated_line() -> Result<(), EndpointError> {
     assert!(begun.elapsed() >= Duration::from_millis(20));
     client.disconnect_later(there, 3)?;
     loop {
-        let told = both(&mut server, &mut client)?;
-        if let Some(event) = told.1 {
+        assert!(begun.elapsed() < Duration::from_secs(20));
+        server.service(wait, &mut room)?;
+        if let Some(event) = client.service(wait, &mut room)? {
             assert!(matches!(event, Event::Disconnect { info: 0, .. }), "{event:?}");
             assert_eq!(event.address(), server.address()?);
             break;
@@ -314,8 +312,8 @@ fn endpoints_talk_over_a_simulated_line() -> Result<(), EndpointError> {
 #[test]
 fn an_endpoint_waits_as_long_as_it_is_told() -> Result<(), EndpointError> {
     let mut server = Endpoint::server((Ipv4Addr::LOCALHOST, 0), 4, 2)?;
-    let begun = Instant::now();
-    assert_eq!(server.service(Duration::from_millis(60))?, None);
+    let (begun, mut room) = (Instant::now(), Vec::new());
+    assert_eq!(server.service(Duration::from_millis(60), &mut room)?, None);
     let took = begun.elapsed();
     assert!(took >= Duration::from_millis(60) && took < Duration::from_secs(5), "{took:?}");
     // What strangers send isn't told.
@@ -323,7 +321,7 @@ fn an_endpoint_waits_as_long_as_it_is_told() -> Result<(), EndpointError> {
     for length in [0, 1, 10, 5000] {
         stranger.send_to(&vec![9; length], server.address()?)?;
     }
-    assert_eq!(server.service(Duration::from_millis(20))?, None);
+    assert_eq!(server.service(Duration::from_millis(20), &mut room)?, None);
     assert_eq!(server.host().read_totals()?.datagrams_in, 4);
     assert!(matches!(Endpoint::open(server.address()?, &Config::standard(1, 1)), Err(EndpointError::System(_))));
     for (players, is_right) in [(0, false), (1, true), (4095, true), (4096, false)] {

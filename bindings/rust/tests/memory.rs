@@ -97,19 +97,21 @@ fn two_hosts(count: &mut Count, body: &[u8]) {
     count.again(|| b.disconnect_later(peer, 5));
     settle(count, &mut a, &mut b);
     let (mut bytes, mut others, mut ends) = (0, 0, 0);
-    while let Some(event) = count.again(|| a.next_event()) {
+    let mut room = Vec::new();
+    let mut take = |event: Event<'_>| {
         assert!(event.address() == address(2));
         match event {
             Event::Receive { data, .. } => {
-                assert!(body.starts_with(&data));
+                assert!(body.starts_with(data));
                 bytes += data.len();
             }
             Event::Disconnect { info: 5, .. } => ends += 1,
             _ => others += 1,
         }
-    }
+    };
+    while count.again(|| a.next_event(&mut room).map(|event| event.map(&mut take))).is_some() {}
     assert!((bytes, others, ends) == (body.len() + 150, 1, 1));
-    while count.again(|| b.next_event()).is_some() {}
+    while count.again(|| b.next_event(&mut room).map(|event| event.is_some())) {}
 }
 
 /// A network in memory, with a capture, where what finds no memory is lost on the way.
@@ -123,13 +125,14 @@ fn network(count: &mut Count, body: &[u8]) {
     count.again(|| net.pass(3000));
     count.again(|| net.host(client).submit(peer, 0, body, Delivery::Reliable));
     count.again(|| net.pass(5000));
-    let mut bytes = 0;
-    while let Some(event) = count.again(|| net.host(server).next_event()) {
+    let (mut room, mut bytes) = (Vec::new(), 0);
+    let mut take = |event: Event<'_>| {
         if let Event::Receive { data, .. } = event {
             assert!(data == body);
             bytes += data.len();
         }
-    }
+    };
+    while count.again(|| net.host(server).next_event(&mut room).map(|event| event.map(&mut take))).is_some() {}
     assert!(bytes == body.len());
 }
 
@@ -139,11 +142,12 @@ fn endpoints(count: &mut Count) {
     let mut client = count.again(|| Endpoint::client(1));
     count.again(|| client.simulate(0.0, Duration::from_millis(1)));
     let address = server.address().expect("an address");
+    let mut room = Vec::new();
+    let is_hello = |event: Option<Event<'_>>| matches!(event, Some(Event::Receive { data: b"hello", .. }));
     let mut peer: Option<Peer> = Some(count.again(|| client.connect(address, 1, 0)));
     loop {
-        count.again(|| client.service(Duration::from_millis(1)));
-        if let Some(Event::Receive { data, .. }) = count.again(|| server.service(Duration::from_millis(1))) {
-            assert!(data == b"hello");
+        count.again(|| client.service(Duration::from_millis(1), &mut room).map(|event| event.is_some()));
+        if count.again(|| server.service(Duration::from_millis(1), &mut room).map(is_hello)) {
             return;
         }
         if let Some(there) = peer {
