@@ -3,12 +3,14 @@
 # crates/enet_c/out/libenet_c.a. Fetches Debian's cube2-server, redeclipse-server, yuzu, godot3-server and python3-enet, with the libraries
 # that they need (50 MB), without installing them, and runs each, in a network namespace of its own, with libenet at both ends (the control),
 # with our libenet.so.7 at either end, and at both; the clients of the first three are those of c/games:
-# - cube2: its server registers with a master server by TCP, takes two players of an address and no third (maxdupclients);
+# - cube2: its server registers with a master server by TCP, takes two players of an address and no third (maxdupclients, duplicatePeers); it
+#   uses NO_ALLOCATE with callbacks, and packet_resize;
 # - redeclipse: its server, without the game's data (860 MB), which it doesn't ask for, welcomes two players with 130,000 bytes each, and
-#   throws out a third;
-# - yuzu: a room, in which two members talk and send a game's datagrams, and which refuses a third;
-# - godot3: a server and a client over its multiplayer, in the compression modes 0 to 4 (1 is the range coder);
-# - python3-enet: plain, with a checksum, with an interceptor, with the range coder, and with all three;
+#   throws out a third; it uses sockets of its own (socketset_select), and packet_resize;
+# - yuzu: a room, in which two members talk and send a game's datagrams, and which refuses a third; it uses host_broadcast and host_flush;
+# - godot3: a server and a client over its multiplayer, in the compression modes 0 (none), 1 (the range coder) and 2 to 4 (its own); it uses
+#   peer_reset;
+# - python3-enet: plain, with a checksum (enet_crc32), with an interceptor, with the range coder, and with all three; it reads fields of a peer;
 # - love: LÖVE, whose program has an ENet of its own, at one end, and python3-enet over libenet or over ours at the other. It and what it needs
 #   here (6 MB) are SKIPPED where they can't be fetched.
 # Not here is 0ad: its server is the game itself, which starts with its data alone, 1.4 GB to fetch and 3.2 GB on the disk.

@@ -169,7 +169,7 @@ unpack_bare() {
     [ -s "$kept" ] || { mmdebstrap --quiet --variant=minbase "$1" "out/roots/new-$1.tar" "${MIRROR:-http://deb.debian.org/debian}" &&
         mv "out/roots/new-$1.tar" "$kept"; } || return 1
     rm -rf --one-file-system "$root" && mkdir "$root" && tar -xf "$kept" -C "$root" && mkdir -p "$root/root/release" "$root/opt/check" || return 1
-    cp "$folder"/*.deb "$folder"/*.tar.gz "$root/root/release/"
+    cp "$folder"/*.deb "$folder"/*.tar.gz "$folder"/*.whl "$root/root/release/"
     cp "$room/tutorial" /usr/lib/x86_64-linux-gnu/libenet.so.7 "$root/opt/check/"
     cp /etc/resolv.conf "$root/etc/resolv.conf"
     # Nobody is there to answer apt.

@@ -25,7 +25,7 @@ install -m 644 deploy/systemd/enet-relay.default "$root/etc/default/enet-relay"
 install -m 644 deploy/bash/enet_relay "$root/usr/share/bash-completion/completions/"
 write_manuals "$root/usr/bin/enet_relay" "$root/usr/share/man/man1"
 gzip -9n "$root"/usr/share/man/man1/*.1
-install -m 644 SECURITY.md docs/{OPERATING,ERRORS,FAQ,MEMORY,FIGURES,C,CAPTURES,LAB,PROTOCOL}.md "$doc/"
+install -m 644 SECURITY.md docs/{OPERATING,DEPLOYING,ERRORS,FAQ,TROUBLES,MEMORY,FIGURES,C,CAPTURES,LAB,PROTOCOL}.md "$doc/"
 cp -r deploy/grafana deploy/prometheus deploy/agones/agones_run.sh deploy/agones/fleet.yaml deploy/agones/allocation.yaml "$doc/examples/"
 echo /etc/default/enet-relay > "$root/DEBIAN/conffiles"
 cat > "$root/DEBIAN/postinst" << 'END'

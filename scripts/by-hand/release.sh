@@ -1,6 +1,7 @@
 #!/usr/bin/env bash
 # A release: `release.sh [--after-tests] FOLDER` makes of the commit that is checked out, in FOLDER,
 #   gofnjerta-VERSION-linux-x86_64.tar.gz   the program, the libraries for C, manual, completion, examples, bindings/, deploy/, docs/ and tools/, to unpack anywhere
+#   gofnjerta-VERSION-py3-none-manylinux_2_34_x86_64.whl    bindings/python with the archive's libgofnjerta.so.0 in it, for pip
 #   *.deb                                   the five packages of package-relay.sh and package-c.sh
 #   gofnjerta-VERSION-proved-libraries.tar.zst   what the gate left of the libraries, for take-libraries.py; only where it has at most 300 MB
 #   PROVED.txt                              commit, kit, how many functions were proved of each crate, what was tested, what is trusted
@@ -13,7 +14,7 @@
 # archive write the same bytes.
 # `release.sh --pack FOLDER [PROGRAM [ARCHIVE]]` runs no gate and packs what stands there, by default crates/enet_relay/out/enet_relay and
 # crates/enet_c/out/libenet_c.a: to try the packing. PROVED.txt then says that it is no release.
-# It takes what package-relay.sh and package-c.sh take. The status is 1 where something failed; FOLDER has no SHA256SUMS then.
+# It takes what package-relay.sh and package-c.sh take, and Debian's python3 with python3-build, python3-setuptools and python3-wheel. The status is 1 where something failed; FOLDER has no SHA256SUMS then.
 set -eu
 usage() {
     echo "usage: release.sh [--after-tests] FOLDER | release.sh --pack FOLDER [PROGRAM [ARCHIVE]]" >&2
@@ -43,6 +44,8 @@ stop() {
 for tool in dpkg-deb help2man objdump strip zstd; do
     command -v "$tool" > "$room/found" || stop "$tool isn't here: it takes Debian's dpkg, help2man, binutils and zstd"
 done
+/usr/bin/python3 -c 'import build, setuptools, wheel' 2> "$room/found" ||
+    stop "the wheel can't be built: it takes Debian's python3, python3-build, python3-setuptools and python3-wheel"
 
 # Whether out/tests.txt is of this commit and kit, and tells of no failure.
 tests_passed() {
@@ -126,14 +129,14 @@ hold_version() {
     [[ $told == "$wanted"* ]] || stop "$program tells '$told' where '$wanted' is wanted: crates/enet_console/src/versions.rt"
 }
 
-# The archive, whose one folder is named as it is.
+# The archive, whose one folder is named as it is; `there` is that folder.
 pack_archive() {
-    local name=gofnjerta-$version-linux-x86_64 there
+    local name=gofnjerta-$version-linux-x86_64
     there=$room/$name
     mkdir -p "$there/bin" "$there/share/bash-completion/completions"
     bash scripts/by-hand/build-c.sh "$there" "$archive" > "$room/said"
     install -m 755 "$program" "$there/bin/enet_relay"
-    for file in "$there"/lib/*.a "$there/lib/libgofnjerta.so.0" "$there/lib/gofnjerta/libenet.so.7" "$there/bin/enet_relay"; do strip_file "$file"; done
+    for file in "$there"/lib/*.a "$there/lib/libgofnjerta.so.0" "$there/lib/gofnjerta/libenet.so.7" "$there"/bin/*; do strip_file "$file"; done
     write_manuals "$there/bin/enet_relay" "$there/share/man/man1"
     install -m 644 deploy/bash/enet_relay "$there/share/bash-completion/completions/"
     write_examples "$there/examples"
@@ -143,6 +146,17 @@ pack_archive() {
     chmod -R u=rwX,go=rX "$there"
     write_tar "$room" "$name" | gzip -9n > "$folder/$name.tar.gz"
     echo "made: $folder/$name.tar.gz"
+}
+
+# The wheel, of what the archive has.
+pack_wheel() {
+    local name=gofnjerta-$version-py3-none-manylinux_2_34_x86_64.whl
+    cp -r "$there/bindings/python" "$room/python"
+    cp "$there/COPYRIGHT.txt" "$there/THIRD-PARTY.txt" "$room/python/"
+    GOFNJERTA_DIR=$there /usr/bin/python3 -m build --wheel --no-isolation --outdir "$room/wheel" "$room/python" > "$room/said" 2>&1 ||
+        { tail -n 5 "$room/said" >&2; stop "the wheel can't be built"; }
+    install -m 644 "$room/wheel/$name" "$folder/"
+    echo "made: $folder/$name"
 }
 
 # The tar of $2.. in the folder $1, the same bytes for the same files.
@@ -164,19 +178,20 @@ pack_libraries() {
     echo "made: $file"
 }
 
-# Whether no file of the archive or the packages names a folder of this machine: the checkout's, the kit's or a temporary one.
+# Whether no file of the archive, the wheel or the packages names a folder of this machine: the checkout's, the kit's or a temporary one.
 names_no_folder() {
     local file kit
     kit=$(dirname "$(rt doc)")
     mkdir "$room/all"
     tar -xzf "$folder"/gofnjerta-*.tar.gz -C "$room/all"
+    /usr/bin/python3 -m zipfile -e "$folder"/gofnjerta-*.whl "$room/all/wheel"
     for file in "$folder"/*.deb; do dpkg-deb -R "$file" "$room/all/$(basename "$file")"; done
     find "$room/all" -name '*.gz' -exec gunzip {} +
     ! grep -rlaF -e "$PWD" -e "$kit/" -e "${room%/*}/tmp." "$room/all"
 }
 
 # What an earlier run left goes first, so that a run that fails leaves nothing that could be taken for a release.
-rm -f "$folder"/gofnjerta-*.tar.* "$folder"/*.deb "$folder/PROVED.txt" "$folder/THIRD-PARTY.txt" "$folder/SHA256SUMS"
+rm -f "$folder"/gofnjerta-*.tar.* "$folder"/gofnjerta-*.whl "$folder"/*.deb "$folder/PROVED.txt" "$folder/THIRD-PARTY.txt" "$folder/SHA256SUMS"
 if [ "$mode" = pack ]; then
     : > "$room/checked"
 else
@@ -188,10 +203,11 @@ hold_version
 write_proved > "$room/PROVED.txt"
 python3 scripts/lib/third-party.py enet_relay enet_c > "$room/THIRD-PARTY.txt"
 pack_archive
+pack_wheel
 bash scripts/by-hand/package-relay.sh "$folder" "$program"
 bash scripts/by-hand/package-c.sh "$folder" "$archive"
 cp "$room/PROVED.txt" "$room/THIRD-PARTY.txt" "$folder/"
 names_no_folder || stop 'these files name a folder of this machine'
 [ "$mode" = pack ] || pack_libraries
-(cd "$folder" && sha256sum -- *.tar.* *.deb PROVED.txt THIRD-PARTY.txt > SHA256SUMS)
+(cd "$folder" && sha256sum -- *.tar.* *.whl *.deb PROVED.txt THIRD-PARTY.txt > SHA256SUMS)
 echo "made: $folder/SHA256SUMS"

@@ -30,7 +30,7 @@ DOCUMENTS = ["README.md", "CONTRIBUTING.md", "SECURITY.md", *sorted(glob.glob("d
 # Names that stand nowhere in the repository by their nature: the kit's, the system's and the reference library's own.
 ELSEWHERE = re.compile(
     r"rt( .*)?|rattle.*|logic [0-9a-f]+|SHORTER_PROOFS\.md|FIRST_PROOFS\.md|docs/NOT_COVERED\.md|itoa|"
-    r"sudo apt .*|tar xf .*|editcap .*|tcpdump .*|ss( .*)?|perf.*|valgrind.*|nft.*|ulimit.*|net\..*|[A-Z]\w+=.*|-l\w+|"
+    r"sudo apt .*|tar xf .*|python3 -m venv .*|game/bin/pip .*|editcap .*|tcpdump .*|ss( .*)?|perf.*|valgrind.*|nft.*|ulimit.*|net\..*|[A-Z]\w+=.*|-l\w+|"
     r"ENetChannel|enet_channel|initialize_with_callbacks|peer_throttle|reset_queues|setup_outgoing_command|protocol_command_size|recvmmsg"
 )
 # Parts of a name that stand for any: `crate/specs/File`, `on_*`, `Sound-EVENT`, `example_..`.

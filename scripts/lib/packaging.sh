@@ -92,9 +92,9 @@ manual_name() {
     esac
 }
 
-# The examples that docs/C.md shows, as files in the folder $1.
+# The program that docs/C.md shows, and the same in Python, as files in the folder $1.
 write_examples() {
     mkdir -p "$1"
     awk '/^```c$/ { on = !seen; seen = 1; next } /^```$/ { on = 0 } on' docs/C.md > "$1/echo.c"
-    awk '/^```python$/ { on = !seen; seen = 1; next } /^```$/ { on = 0 } on' docs/C.md > "$1/echo.py"
+    cp bindings/echo.py "$1/echo.py"
 }
