@@ -7,17 +7,18 @@
 //!
 //! Proved: each call is safe and returns, whatever C passes by value, and answers and leaves what the host's call of that name does, by the
 //! host's own definitions (`Crosses`); with a closed handle, each but `open` writes nothing to the caller's memory. Calls that name a peer:
-//! `Settles` and `SettlesWithMemory` (`on_named`). `set_secret` is `SetsSecret` (`with_secret`), `set_send_limit` `SetsSendLimit` (`with_send_limit`). `connect` is `Asks` (the host's `Connects`), `receive` is `TakesIn` (`Receives`),
-//! `service` is `PutsOut` (`Serves`) and leaves the rest of the buffer alone, `next_event` is `Tells` (`Takes`) and keeps the body of the
-//! packet that it told, which `body` copies (`Copies`); `submit` is `SubmitsTo` (`unless_full`, by the host's limit), and answers 1 only where
-//! nothing else is refused, and `throttle_configure`
-//! only where the host may want memory to tell the peer (`wants_room_in`); `broadcast` is the host's `submit_each` with one packet
-//! (`Broadcasts`); `peer`, `line`, `allowance` and `totals_of` show what the host holds, `ending` why a connection ended (`ending_named`), `slots` and `sent_again` what it counts, `held` how much
-//! that is of what others sent (within what its settings allow), and `due_in` when time brings it something (`IsDueIn`); `open` is `Begins` (`Opens`), and `close` leaves the handle closed. A name that `error_name`
-//! or `stop_name` gives is that of the refusal or stop with this number.
+//! `Settles` and `SettlesWithMemory` (`on_named`). `set_secret` is `SetsSecret` (`with_secret`), `set_send_limit` `SetsSendLimit`
+//! (`with_send_limit`). `connect` is `Asks` (the host's `Connects`), `receive` is `TakesIn` (`Receives`), `service` is `PutsOut` (`Serves`)
+//! and leaves the rest of the buffer alone, `next_event` is `Tells` (`Takes`) and keeps the body of the packet that it told, which `body`
+//! copies (`Copies`); `submit` is `SubmitsTo` (`unless_full`, by the host's limit), and answers 1 only where nothing else is refused, and
+//! `throttle_configure` only where the host may want memory to tell the peer (`wants_room_in`); `broadcast` is the host's `submit_each`
+//! with one packet (`Broadcasts`); `peer`, `line`, `allowance` and `totals_of` show what the host holds, `ending` why a connection ended
+//! (`ending_named`), `slots` and `sent_again` what it counts, `held` how much that is of what others sent (within what its settings allow),
+//! and `due_in` when time brings it something (`IsDueIn`); `open` is `Begins` (`Opens`), and `close` leaves the handle closed. A name that
+//! `error_name` or `stop_name` gives is that of the refusal or stop with this number.
 //! `compress` and `decompress` are the range coder's (`code_of`, `body_of`), and know no handle.
-//! Only tested, by `c/tests`: that C's structures lie as these do, and that calls succeed with ample memory. Neither: what C
-//! does with its memory between calls.
+//! Only tested, by `c/tests`: that C's structures lie as these do, and that calls succeed with ample memory. Neither: what C does with its
+//! memory between calls.
 #![tactic(auto)]
 
 mod held;

@@ -90,8 +90,8 @@ pub extern "C" fn gofnjerta_core_line(
     }
 }
 
-/// Why a peer's connection ended: 1 this end asked, 2 the other end did, 3 it timed out, 4 it was never answered, 5 the answer didn't fit; 0
-/// where nothing is known of it, as of one that is there, of one that ended without a Disconnect event, or too long ago.
+/// Why a peer's connection ended: 1 this end asked, 2 the other end did, 3 it timed out, 4 it was never answered, 5 the answer didn't fit;
+/// 0 where nothing is known of it, as of one that is there, of one that ended without a Disconnect event, or too long ago.
 #[unsafe(no_mangle)]
 pub extern "C" fn gofnjerta_core_ending(
     alloc: Global,

@@ -93,8 +93,8 @@ pub extern "C" fn gofnjerta_core_submit_staged(
     number
 }
 
-/// Submits a packet to each of these peers, which share one copy of its body. Peers that have gone or aren't connected are passed by;
-/// else the answer is the first refusal, E4, E5, E9 or E1, and the other peers get it. E1 without any submission where the copy finds no memory.
+/// Submits a packet to each of these peers, which share one copy of its body. Peers that have gone or aren't connected are passed by; else
+/// the answer is the first refusal, E4, E5, E9 or E1, and the other peers get it. E1 without any submission where the copy finds no memory.
 #[unsafe(no_mangle)]
 pub extern "C" fn gofnjerta_core_broadcast(
     alloc: Global,

@@ -49,8 +49,8 @@ pub struct Config {
     /// The clock at the opening, in milliseconds.
     pub clock: u32,
     /// By this each peer gets sent times and numbers of its own, and a slot its first session, so that who doesn't see the line can't
-    /// confirm a connection in another's name. With none all begin at 0, as in ENet: whoever knows the clock knows the sent times, and can tell which
-    /// CONNECTs are looked for in the same place.
+    /// confirm a connection in another's name. With none all begin at 0, as in ENet: whoever knows the clock knows the sent times, and can
+    /// tell which CONNECTs are looked for in the same place.
     pub secret: Option<Secret>,
     /// Whether a CONNECT that finds no free slot takes that of the peer which has been waiting longest for its client to confirm an answer:
     /// that peer is let go, with no event (our profile). Each such CONNECT uses up a generation of a slot, so this wants 4,294,967,295

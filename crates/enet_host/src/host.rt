@@ -289,11 +289,11 @@ impl HostCore {
     }
 
     /// Sets at how much that is queued, or sent and not acknowledged, a peer takes no further packet: at so many bytes of payload, or at so
-    /// many commands, `submit` answers E9. It holds for all peers, those that are there and those to come. If nothing is queued or unacknowledged
-    /// for a peer, the limit refuses no packet, however long. So no packet that is taken makes it more than the limit and that packet. Nothing
-    /// that is there already is dropped, even if it is more. A 0 doesn't mean 'no limit': one packet goes at a time; 2^64 - 1 is never reached.
-    /// What is counted is payload that is still to be acknowledged, not memory: the pieces of a packet that was cut share its body until the last
-    /// one is gone.
+    /// many commands, `submit` answers E9. It holds for all peers, those that are there and those to come. If nothing is queued or
+    /// unacknowledged for a peer, the limit refuses no packet, however long. So no packet that is taken makes it more than the limit and
+    /// that packet. Nothing that is there already is dropped, even if it is more. A 0 doesn't mean 'no limit': one packet goes at a time;
+    /// 2^64 - 1 is never reached. What is counted is payload that is still to be acknowledged, not memory: the pieces of a packet that was
+    /// cut share its body until the last one is gone.
     pub fn set_send_limit(&mut self, bytes: u64, commands: u64)
         ensures { self.new ≡ with_send_limit self.old (record { bytes = bytes; commands = commands }) }
     {

@@ -27,10 +27,9 @@ impl HostCore {
     /// Submits a packet to a peer on a channel; `flags` are its flags (RELIABLE 1, UNSEQUENCED 2, UNRELIABLE_FRAGMENT 8, others
     /// are ignored).
     ///
-    /// A refusal is the first that applies: E2; E3 where the peer is not connected; E4 where there is no such channel; E5 where
-    /// the body is longer than the settings allow, or would be cut into more than 16,384 pieces; E9 where what is queued or unacknowledged
-    /// for the peer is at the limit of `set_send_limit` already; E1 where memory is refused. After it nothing has changed, and the body comes
-    /// back.
+    /// A refusal is the first that applies: E2; E3 where the peer is not connected; E4 where there is no such channel; E5 where the body is
+    /// longer than the settings allow, or would be cut into more than 16,384 pieces; E9 where what is queued or unacknowledged for the peer
+    /// is at the limit of `set_send_limit` already; E1 where memory is refused. After it nothing has changed, and the body comes back.
     pub fn submit(
         &mut self,
         peer: PeerRef,
@@ -203,16 +202,16 @@ impl HostCore {
         Some(calls::peer_of(&self.slots, peer)?.allowance())
     }
 
-    /// How many commands are queued for the peer, or sent and not acknowledged, and the bytes of their payloads: what `set_send_limit` limits.
-    /// Each number stops at 2^64 - 1. None if there is no such peer.
+    /// How many commands are queued for the peer, or sent and not acknowledged, and the bytes of their payloads: what `set_send_limit`
+    /// limits. Each number stops at 2^64 - 1. None if there is no such peer.
     pub fn outstanding(&self, peer: PeerRef) -> Option<Outstanding>
         ensures { result ≡ option_map (λ p. capped (outstanding_of p.outbox)) (named self.now.slots peer) }
     {
         Some(calls::peer_of(&self.slots, peer)?.outstanding())
     }
 
-    /// The lowest estimates of the peer's round trip in the throttle's running interval and in the one before, in milliseconds. None if there
-    /// is no such peer.
+    /// The lowest estimates of the peer's round trip in the throttle's running interval and in the one before, in milliseconds. None if
+    /// there is no such peer.
     pub fn lows(&self, peer: PeerRef) -> Option<Lows>
         ensures { result ≡ option_map (λ p. record { running = p.outbox.throttle.lowest_round_trip; last = p.outbox.throttle.last_round_trip }) (named self.now.slots peer) }
     {
@@ -220,8 +219,8 @@ impl HostCore {
     }
 
     /// Why the peer's connection ended. It is told from then on, also once the Disconnect event is taken, until the next peer of its slot,
-    /// whether it ever was connected or not, is gone: ask when the event is taken. None if the connection hasn't ended, if it ended without a
-    /// Disconnect event, or if that was too long ago.
+    /// whether it ever was connected or not, is gone: ask when the event is taken. None if the connection hasn't ended, if it ended without
+    /// a Disconnect event, or if that was too long ago.
     pub fn ending(&self, peer: PeerRef) -> Option<Ending>
         ensures { result ≡ ending_named self.now.slots peer }
     {

@@ -1,5 +1,5 @@
--- How much a peer has queued, or sent and not acknowledged, and when that is as much as may be. Commands of channel 0xFF and acknowledgements
--- don't count.
+-- How much a peer has queued, or sent and not acknowledged, and when that is as much as may be. Commands of channel 0xFF and
+-- acknowledgements don't count.
 use Rattle.std.specs.Prelude.{ℕ, ◌+◌, min, ◌&&◌, ◌||◌, Bool, false, nat_lt, nat_le, Option, Some, None, List, length, sum_by}
 use Rattle.enet_sender.specs.Counting.{greatest_count}
 use Rattle.enet_sender.specs.declared.outstanding.Outstanding.{Outstanding}

@@ -42,8 +42,9 @@ pub fn room_is_kept_for_something()
     ensures narrowed { (o : Outbox) (channels : ℕ) → RoomIsAwaited o → RoomIsAwaited (narrowed o channels) }
 {}
 
-/// Where nothing is queued or unacknowledged, a packet goes whatever the limit is. Each packet adds its bytes to what is, and a command for each of
-/// its pieces. So once a packet was submitted to a peer that wasn't full, what is queued or unacknowledged is within the limit and that packet.
+/// Where nothing is queued or unacknowledged, a packet goes whatever the limit is. Each packet adds its bytes to what is, and a command for
+/// each of its pieces. So once a packet was submitted to a peer that wasn't full, what is queued or unacknowledged is within the limit and
+/// that packet.
 pub fn one_always_goes()
     ensures empty { (limit : Option SendLimit) (o : Outbox) → (outstanding_of o).commands ≡ 0 → is_full limit o ≡ false }
     ensures bytes { (o : Outbox) (mtu channel : ℕ) (q : Packet) → 28 < mtu → channel < length o.senders

@@ -57,8 +57,8 @@ impl UnsequencedQueue {
         }
     }
 
-    /// Queues a packet: its body is taken, and an empty one left. False where memory is refused, or 64 bits don't count all bytes: then nothing
-    /// has changed, and the body is still there.
+    /// Queues a packet: its body is taken, and an empty one left. False where memory is refused, or 64 bits don't count all bytes: then
+    /// nothing has changed, and the body is still there.
     pub(crate) fn push(&mut self, channel: u8, group: u16, body: &mut Bytes) -> bool
         ensures queued { IsTrue result → self.new ≡ self.old ++ (record { channel = channel; group = group; body = body.old }) ∷ [] }
         ensures taken { IsTrue result → body.new ≡ [] }

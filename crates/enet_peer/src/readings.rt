@@ -63,8 +63,8 @@ impl Peer {
         self.outbox.outstanding()
     }
 
-    /// Whether that is as much as this limit says, in bytes or in commands. Where nothing is queued or unacknowledged it isn't, whatever the
-    /// limit.
+    /// Whether that is as much as this limit says, in bytes or in commands. Where nothing is queued or unacknowledged it isn't, whatever
+    /// the limit.
     pub fn is_full(&self, limit: Option<SendLimit>) -> bool
         ensures { result ≡ is_full limit self.now.peer.outbox }
     {

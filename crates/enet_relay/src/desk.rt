@@ -65,8 +65,8 @@ impl Desk {
         self.stops || self.lacks_memory || !self.orders.is_empty() || !self.bans.is_empty()
     }
 
-    /// Hands to the server what it is asked for. True where that was nothing, and it is to end. E1 for want of memory, also where that kept a
-    /// client from its end.
+    /// Hands to the server what it is asked for. True where that was nothing, and it is to end. E1 for want of memory, also where that kept
+    /// a client from its end.
     pub fn hand_over(&mut self, server: &mut ChatServer) -> Result<bool, Refusal> {
         if self.lacks_memory {
             return Err(Refusal::Memory);

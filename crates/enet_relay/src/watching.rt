@@ -22,9 +22,9 @@ const BETWEEN_REFUSALS: u64 = 1;
 /// At one look so many lines of the operator are obeyed at most.
 const MOST_LINES: u32 = 16;
 
-/// Tells the server's operator on standard error: its totals each minute and, if that is asked, each connection, each client that is too slow,
-/// each end of one and, once a second, how many orders were refused; and does what the operator says. A line that can't be written, or not at
-/// once, ends nothing and holds up nothing.
+/// Tells the server's operator on standard error: its totals each minute and, if that is asked, each connection, each client that is too
+/// slow, each end of one and, once a second, how many orders were refused; and does what the operator says. A line that can't be written,
+/// or not at once, ends nothing and holds up nothing.
 #[derive(Drop)]
 pub struct Operator<'a, R> {
     rt: &'a R,

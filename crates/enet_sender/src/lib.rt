@@ -15,8 +15,8 @@
 //! - Of all channels at once, by specs/Foretold and specs/Late: `Pending::any_late`, `any_ends`, `first_late` and `mark_all`, which also
 //!   sums up what became late and what of it was lost. They look only at commands whose timeout has passed, since when each is late is
 //!   noted by its key from its sending until it is acknowledged or found late (`KeepsTime`, which no contract shows).
-//! - Of all channels at once, by specs/Outstanding: `Pending::outstanding`, how many commands are queued or unacknowledged, and their bytes,
-//!   which are counted as commands come and go (`KeepsBytes`).
+//! - Of all channels at once, by specs/Outstanding: `Pending::outstanding`, how many commands are queued or unacknowledged, and their
+//!   bytes, which are counted as commands come and go (`KeepsBytes`).
 //! - An acknowledgement after which a channel has nothing unacknowledged gives room back, and so does a call of `next_due` that finds nothing
 //!   queued or unacknowledged: of the channel's rings, and of the commands, if there is none. Room for 64 stays at most (`most_unused`).
 //!

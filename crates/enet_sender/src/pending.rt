@@ -177,7 +177,8 @@ impl Pending {
         self.slab.begin(key, now, timeout);
     }
 
-    /// How many commands there are, queued or sent and not acknowledged, on all channels, and the bytes of their payloads. It looks at none.
+    /// How many commands there are, queued or sent and not acknowledged, on all channels, and the bytes of their payloads. It looks at
+    /// none.
     #[inline(always)]
     pub fn outstanding(&self) -> Outstanding
         ensures value { result ≡ outstanding_at self.now.slab }

@@ -216,7 +216,8 @@ impl Senders {
         self.made.count_sent_again(so_far)
     }
 
-    /// How many commands are queued, or sent and not acknowledged, on all channels, and the bytes of their payloads. It looks at none of them.
+    /// How many commands are queued, or sent and not acknowledged, on all channels, and the bytes of their payloads. It looks at none of
+    /// them.
     #[inline(always)]
     pub fn outstanding(&self) -> Outstanding
         ensures { result ≡ outstanding_over self.now }

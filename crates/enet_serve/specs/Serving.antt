@@ -94,7 +94,8 @@ config_of settings = record (standard_config (slots_of settings) settings.channe
 abbrev pub is_in_range : Settings → Bool
 is_in_range settings = configs.is_in_range (config_of settings)
 
--- a fresh host of these settings and with their limit on what is sent, a guard with their rules to which nothing came, a socket that hasn't failed, and nothing that waits
+-- a fresh host of these settings and with their limit on what is sent, a guard with their rules to which nothing came, a socket that hasn't
+-- failed, and nothing that waits
 pub record IsOpened (settings : Settings) (server : ChatServer) : Type 0 where
   pub host : host_of server ≡ record (opened (config_of settings)) { send_limit = settings.send_limit }
   pub guard : guard_of server ≡ new_guard settings.rules (slots_of settings)

@@ -34,8 +34,9 @@ impl<N: Wire + Drop> BoundService<N> {
         })
     }
 
-    /// Sets at how much queued or unacknowledged its host's peers take no further packet, if there is a limit ([`HostCore::set_send_limit`]):
-    /// an order to submit one is refused then, by E9. Where None is given all stays as it is. It is made to be called before the first turn.
+    /// Sets at how much queued or unacknowledged its host's peers take no further packet, if there is a limit
+    /// ([`HostCore::set_send_limit`]): an order to submit one is refused then, by E9. Where None is given all stays as it is. It is made to
+    /// be called before the first turn.
     ///
     /// [`HostCore::set_send_limit`]: enet_host::HostCore::set_send_limit
     pub fn set_send_limit(&mut self, limit: Option<SendLimit>)

@@ -151,8 +151,8 @@ impl WatchedHost {
     }
 
     /// How many notes since then weren't kept of who was asked, came and went: 4,096 are, if there is memory. So many of refused orders are
-    /// kept beside them; [`WatchedHost::refused`] counts all. If there is no place for the note that a peer lacks a packet, the next refused
-    /// one that it lacks makes it.
+    /// kept beside them; [`WatchedHost::refused`] counts all. If there is no place for the note that a peer lacks a packet, the next
+    /// refused one that it lacks makes it.
     pub fn missed(&self) -> u64 {
         self.missed
     }

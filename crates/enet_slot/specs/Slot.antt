@@ -22,8 +22,8 @@ pub record SlotState : Type 0 where
 abbrev pub greatest : ℕ
 greatest = 4294967295
 
--- a slot that is free again keeps the sessions of the connection that it had, and why that ended. Its next peer has the next generation, which
--- never stops at the greatest number, since a slot is only given out with a generation below the number of generations
+-- a slot that is free again keeps the sessions of the connection that it had, and why that ended. Its next peer has the next generation,
+-- which never stops at the greatest number, since a slot is only given out with a generation below the number of generations
 abbrev pub vacated : SlotState → Peering → SlotState
 vacated s p = record s {
   generation = min (s.generation + 1) greatest;

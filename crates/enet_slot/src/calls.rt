@@ -58,8 +58,8 @@ pub fn submission_refusal(
 
 impl Slot {
     /// Submits a packet to its peer on a channel. A refusal is the first that applies: E2, E3, E4, E5; E9 where what is queued or
-    /// unacknowledged for the peer is at the limit already; E1. After it nothing has changed, and the body is still there; else it is taken,
-    /// and an empty one left.
+    /// unacknowledged for the peer is at the limit already; E1. After it nothing has changed, and the body is still there; else it is
+    /// taken, and an empty one left.
     pub fn submit(
         &mut self,
         limit: Option<SendLimit>,

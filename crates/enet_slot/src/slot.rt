@@ -84,8 +84,8 @@ impl Slot {
         self.address
     }
 
-    /// Why the connection of the peer that had this generation ended: of its peer, if that has the generation, else of the last one that left
-    /// it, if that had it. None if neither has, if the connection hasn't ended, or ended without a Disconnect event.
+    /// Why the connection of the peer that had this generation ended: of its peer, if that has the generation, else of the last one that
+    /// left it, if that had it. None if neither has, if the connection hasn't ended, or ended without a Disconnect event.
     pub fn ending_of(&self, generation: u32) -> Option<Ending>
         ensures { result ≡ ending_of self.now.slot generation }
     {
@@ -138,8 +138,8 @@ impl Slot {
         self.vacate(terms.incoming_session, terms.outgoing_session, ending);
     }
 
-    /// From now on it is free, after a connection that had these sessions and ended so. It stays a function of its own: where it is part of those
-    /// that are called for each packet, each call of them clears room for a peer.
+    /// From now on it is free, after a connection that had these sessions and ended so. It stays a function of its own: where it is part of
+    /// those that are called for each packet, each call of them clears room for a peer.
     #[inline(never)]
     fn vacate(&mut self, incoming_session: u8, outgoing_session: u8, ending: Option<Ending>)
         ensures { self.new.slot ≡ record self.old.slot {

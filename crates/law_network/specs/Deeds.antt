@@ -69,9 +69,9 @@ Sets (setting.PingInterval ms) answer old new = Does answer (pinging ms old) old
 Sets (setting.Timeout limit minimum maximum) answer old new = Does answer (waiting limit minimum maximum old) old new
 
 -- one peer alone does this, by the relations that the contracts of its calls name. A submission that they carry out is refused where the
--- peer is at the limit. An emission is what these relations make of the peer and of the front of its buffer. A setting leaves what they name
--- too, or is refused as a host refuses it: what a peer's own call requires, that it is connected and has room for a command, is here why it
--- is refused
+-- peer is at the limit. An emission is what these relations make of the peer and of the front of its buffer. A setting leaves what they
+-- name too, or is refused as a host refuses it: what a peer's own call requires, that it is connected and has room for a command, is here
+-- why it is refused
 abbrev pub Alone : Deed → Peering → Peering → Type 0
 Alone (Submit q limit answer) old new = Submits limit answer old new q.channel (record { flags = q.flags; body = q.body })
 Alone (Emit now given) old new = (given ≡ put_out old now) × (new ≡ emitted old now)

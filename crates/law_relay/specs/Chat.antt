@@ -55,8 +55,8 @@ pub record IsOrdered (old : ChatServer) (os : List Order) (new : ChatServer) : T
   pub peers : peers_of new ≡ peers_of old
   pub backlog : backlog_of new ≡ backlog_of old
 
--- a run is as `ChatServer::serve` or `ChatServer::serve_alone` promises, with turns of this kind; the orders end connections, and do nothing
--- else, as that of `end_of_slow`
+-- a run is as `ChatServer::serve` or `ChatServer::serve_alone` promises, with turns of this kind; the orders end connections, and do
+-- nothing else, as that of `end_of_slow`
 abbrev pub Takes : Kind → ChatServer → Step → ChatServer → Type 0
 Takes kind s (Runs run_length report) t = (one : Kind) × AreAmong one kind × (many : ℕ) × Serves one many s run_length t report
 Takes kind s (Orders os) t = AreEnds os × IsOrdered s os t
@@ -81,8 +81,8 @@ ordered_in [] = []
 ordered_in (Runs run_length report ∷ steps) = ordered_in steps
 ordered_in (Orders os ∷ steps) = os ++ ordered_in steps
 
--- Such steps as one run, which has these turns, and in which these events were expanded. Among the orders that the relay asked for come those
--- that the server was given
+-- Such steps as one run, which has these turns, and in which these events were expanded. Among the orders that the relay asked for come
+-- those that the server was given
 pub record Served (kind : Kind) (old : ChatServer) (rounds : List Round) (expanded : List Event) (ordered : List Order) (new : ChatServer) : Type 0 where
   pub asked_for : List Order
   pub all_asked_for : List Order

@@ -28,8 +28,9 @@ abbrev pub AreMerged : List Order → List Order → List Order → Type 0
 AreMerged xs ys [] = (xs ≡ []) × (ys ≡ [])
 AreMerged xs ys (z ∷ zs) = ((rest : List Order) × (xs ≡ z ∷ rest) × AreMerged rest ys zs) ⊎ ((rest : List Order) × (ys ≡ z ∷ rest) × AreMerged xs rest zs)
 
--- A server's service whose game thread is the relay: the events that this expanded, and the orders that it asked for (as `Serves` says of a first run).
--- Beside it the server was given orders that end connections. What the service was given, and what waits, are these and the relay's
+-- A server's service whose game thread is the relay: the events that this expanded, and the orders that it asked for (as `Serves` says of a
+-- first run). Beside it the server was given orders that end connections. What the service was given, and what waits, are these and the
+-- relay's
 pub record Relaying (r : Running) : Type 0 where
   pub expanded : List Event
   pub backlog : List Event

@@ -43,12 +43,12 @@ pub fn refused_left_out()
     ensures on_one { BetweenPairsOnOne }
 {}
 
-/// Any runs of a server, one after another, are as one, which has their turns and expanded their events (`runs`). Between two of them, before
-/// and after them the server may be given orders that end connections: these come among the relay's. From a fresh server on the runs make a
-/// service's turns, of which its wire told, and a relay's work, also where it takes leave after them (`served`), and where the wire cut off the
-/// last of them, with E14 (`cut_off`). So does a run of two threads that goes on, after any of its turns (`serves_on`). So what its clients
-/// take is in order: of each other, each once, and without a gap (`chats`); and so what their game threads take (`threads`). In `chats` the
-/// names of its peers are those of the last moment of all, to which each connection has kept its own.
+/// Any runs of a server, one after another, are as one, which has their turns and expanded their events (`runs`). Between two of them,
+/// before and after them the server may be given orders that end connections: these come among the relay's. From a fresh server on the runs
+/// make a service's turns, of which its wire told, and a relay's work, also where it takes leave after them (`served`), and where the wire
+/// cut off the last of them, with E14 (`cut_off`). So does a run of two threads that goes on, after any of its turns (`serves_on`). So what
+/// its clients take is in order: of each other, each once, and without a gap (`chats`); and so what their game threads take (`threads`). In
+/// `chats` the names of its peers are those of the last moment of all, to which each connection has kept its own.
 pub fn chat_server_in_order()
     ensures runs { EachServed }
     ensures served { EachHasServed }

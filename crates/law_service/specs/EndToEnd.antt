@@ -32,8 +32,8 @@ use Rattle.enet_turn.specs.Spans.{Span, Spans, rounds_in}
 use Rattle.law_service.specs.Told.{held_in, told, is_refused, packets_of, submitted_in, taken, taken_in}
 use Rattle.law_service.specs.Law.{noted, begun, AreNumbered}
 
--- a host's service and what it did: its settings, the limit on what it sends, if it was given one before the first turn, its turns and partings,
--- what they left, and the calls of its host: that which set the limit, and those that turns and partings made
+-- a host's service and what it did: its settings, the limit on what it sends, if it was given one before the first turn, its turns and
+-- partings, what they left, and the calls of its host: that which set the limit, and those that turns and partings made
 pub record Running : Type 0 where
   pub config : Config
   pub limit : Option SendLimit

@@ -19,7 +19,8 @@ ghost use Rattle.law_service.specs.EndToEnd.{AtEachMoment, EndToEnd, BetweenThre
 
 /// Turns of a service, of either kind, are calls of its host, each by its contract (`calls`), also where its owner parts from peers between
 /// turns (`lives`). If a limit on what its host sends is set first, that is a call, too (`limits`). What the orders that they were given
-/// submitted, but for those that were refused, is what these calls submitted, and the events that they told are what these calls took (`tells`).
+/// submitted, but for those that were refused, is what these calls submitted, and the events that they told are what these calls took
+/// (`tells`).
 pub fn each_turn_is_calls()
     ensures calls { EachRunIsCalls }
     ensures lives { EachLifeIsCalls }
