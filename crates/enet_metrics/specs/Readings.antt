@@ -59,9 +59,14 @@ bytes_text s =
     ++ line_text (codes "enet_bytes_total{way=\"in\"}") s.bytes_in
     ++ line_text (codes "enet_bytes_total{way=\"out\"}") s.bytes_out
 
+unfoldable pub sends_text : Standing → List ℕ
+sends_text s =
+    figure_text (codes "enet_sends_total") (codes "counter") (codes "Commands with data that went and ask for an acknowledgement, resent ones included.") s.sends
+    ++ figure_text (codes "enet_resends_total") (codes "counter") (codes "Those of them that had gone before.") s.resends
+
 unfoldable pub traffic_text : Standing → List ℕ
 traffic_text s =
-    datagrams_text s ++ bytes_text s
+    datagrams_text s ++ bytes_text s ++ sends_text s
     ++ figure_text (codes "enet_datagrams_lost_total") (codes "counter") (codes "Datagrams that the socket did not take.") s.lost
 
 unfoldable pub stops_text : Reading → List ℕ

@@ -33,7 +33,7 @@ impl Figures {
     /// Nothing was done. An error for want of memory.
     pub fn new<R: Clock>(rt: &R, alloc: Global) -> Result<Figures, AllocError> {
         Ok(Figures {
-            standing: zeros(alloc, 21)?,
+            standing: zeros(alloc, 23)?,
             stops: zeros(alloc, 13)?,
             refusals: zeros(alloc, 9)?,
             trips: zeros(alloc, BUCKETS)?,
@@ -74,7 +74,7 @@ impl Figures {
 
     /// What is told now: what was noted at the last look, and how long ago that was. The start counts as a look.
     pub fn read<R: Clock>(&self, rt: &R) -> Reading {
-        let mut numbers = [0; 21];
+        let mut numbers = [0; 23];
         let mut stops = [0; 13];
         let mut refusals = [0; 9];
         let mut counts = [0; BUCKETS];
@@ -106,7 +106,7 @@ fn age_of(now: Option<u64>, looked_at: u64) -> Option<u64>
 }
 
 // The numbers of a standing in a row.
-fn numbers_of(standing: &Standing) -> [u64; 21]
+fn numbers_of(standing: &Standing) -> [u64; 23]
     ensures { standing_in result ≡ standing.now }
 {
     [
@@ -122,6 +122,8 @@ fn numbers_of(standing: &Standing) -> [u64; 21]
         standing.bytes_in,
         standing.datagrams_out,
         standing.bytes_out,
+        standing.sends,
+        standing.resends,
         standing.lost,
         standing.passed_over,
         standing.orders,
@@ -135,7 +137,7 @@ fn numbers_of(standing: &Standing) -> [u64; 21]
 }
 
 /// The standing of these numbers.
-pub(crate) fn standing_of(numbers: &[u64; 21]) -> Standing
+pub(crate) fn standing_of(numbers: &[u64; 23]) -> Standing
     ensures { result ≡ standing_in numbers.now }
 {
     Standing {
@@ -151,15 +153,17 @@ pub(crate) fn standing_of(numbers: &[u64; 21]) -> Standing
         bytes_in: numbers[9],
         datagrams_out: numbers[10],
         bytes_out: numbers[11],
-        lost: numbers[12],
-        passed_over: numbers[13],
-        orders: numbers[14],
-        events: numbers[15],
-        in_transit: numbers[16],
-        sent_again: numbers[17],
-        queued: numbers[18],
-        queued_most: numbers[19],
-        dropped: numbers[20],
+        sends: numbers[12],
+        resends: numbers[13],
+        lost: numbers[14],
+        passed_over: numbers[15],
+        orders: numbers[16],
+        events: numbers[17],
+        in_transit: numbers[18],
+        sent_again: numbers[19],
+        queued: numbers[20],
+        queued_most: numbers[21],
+        dropped: numbers[22],
     }
 }
 

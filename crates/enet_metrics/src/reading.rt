@@ -2,7 +2,7 @@
 
 ghost use Rattle.std.specs.Prelude.{◌≡◌, ◌++◌, IfOk, OnOk};
 ghost use Rattle.std.specs.String.{string_bytes};
-ghost use Rattle.enet_metrics.specs.Readings.{peers_text, queued_text, slots_text, states_text, waiting_text, datagrams_text, bytes_text, traffic_text, stops_text, refusals_text, age_text, known_age_text, reading_text, is_alive};
+ghost use Rattle.enet_metrics.specs.Readings.{peers_text, queued_text, slots_text, states_text, waiting_text, datagrams_text, bytes_text, sends_text, traffic_text, stops_text, refusals_text, age_text, known_age_text, reading_text, is_alive};
 
 use crate::text::{push_figure, push_head, push_line, push_reasons, push_seconds};
 use crate::trips::{Trips, push_trips};
@@ -30,6 +30,9 @@ pub struct Standing {
     pub bytes_in: u64,
     pub datagrams_out: u64,
     pub bytes_out: u64,
+    /// Data commands that ask for an acknowledgement, each time that one went; and those times that it had gone before.
+    pub sends: u64,
+    pub resends: u64,
     /// Datagrams that the socket didn't take.
     pub lost: u64,
     /// CONNECTs that the guard passed over.
@@ -234,6 +237,7 @@ fn push_traffic(text: &mut String, standing: &Standing) -> Result<(), AllocError
 {
     push_datagrams(text, standing)?;
     push_bytes(text, standing)?;
+    push_sends(text, standing)?;
     push_figure(
         text,
         "enet_datagrams_lost_total",
@@ -272,6 +276,26 @@ fn push_bytes(text: &mut String, standing: &Standing) -> Result<(), AllocError>
     push_head(text, "enet_bytes_total", "counter", "Their bytes.")?;
     push_line(text, "enet_bytes_total{way=\"in\"}", standing.bytes_in)?;
     push_line(text, "enet_bytes_total{way=\"out\"}", standing.bytes_out)?;
+    Ok(())
+}
+
+fn push_sends(text: &mut String, standing: &Standing) -> Result<(), AllocError>
+    ensures { OnOk result (string_bytes text.new ≡ string_bytes text.old ++ sends_text standing.now) }
+{
+    push_figure(
+        text,
+        "enet_sends_total",
+        "counter",
+        "Commands with data that went and ask for an acknowledgement, resent ones included.",
+        standing.sends,
+    )?;
+    push_figure(
+        text,
+        "enet_resends_total",
+        "counter",
+        "Those of them that had gone before.",
+        standing.resends,
+    )?;
     Ok(())
 }
 

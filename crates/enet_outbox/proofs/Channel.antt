@@ -20,9 +20,10 @@ use Rattle.enet_sender.proofs.Transit.{transit-next, prices-next}
 use Rattle.enet_outbox.specs.declared.parts.Pace.{Pace}
 use Rattle.enet_outbox.specs.declared.packing.Progress.{Progress}
 use Rattle.enet_outbox.specs.declared.packing.Flow.{Flow}
+use Rattle.enet_outbox.specs.declared.traffic.Traffic.{Traffic}
 use Rattle.enet_outbox.specs.Outbox.{Outbox, released}
 use Rattle.enet_outbox.specs.Emission.{Filling, asks, fits, has_gone, is_barred, keeping, turn_ended, wants_room_on, with_command, shut, repeated, asked, with_sender, data_put, data_step, due_step, channel_step, with_one_data, with_channel, channel_turns, turns_of, transit_limit, price_limit, occasion}
-use Rattle.enet_outbox.specs.Private.Packing.{Holds, taken_in, place_in, Leads, asked_for, is_reliable, refuses, with_flow, Counts, Shares, told}
+use Rattle.enet_outbox.specs.Private.Packing.{Holds, taken_in, place_in, Leads, asked_for, counted_by, is_reliable, refuses, with_flow, Counts, Shares, told}
 use Rattle.enet_senders.proofs.Each.{set-there}
 use Rattle.enet_senders.proofs.Sets.{get-set}
 use Rattle.enet_outbox.proofs.Fillings.{fits-written, holds-written, holds-back, holds-other, unfit, holds-shut, leads-by, place-open, place-full}
@@ -58,11 +59,11 @@ prices-set : (senders : List SendingEnd) (i : ℕ) (s t : SendingEnd) → slice_
 prices-set senders i s t e = sum-set (λ (s : SendingEnd). prices_in_transit s.sender) senders i s t e
 
 -- what a call did
-pub did-sent : (n : Option Next) (wants : Bool) (past added price : ℕ) (k : Kind) (old new : SendingEnd) (from : List ℕ) (at : ℕ) (to : List ℕ) → Did n wants (due.Sent past added price k) old new (record { old = from; at = at; new = to }) →
+pub did-sent : (n : Option Next) (wants : Bool) (past added price : ℕ) (k : Kind) (again : Bool) (old new : SendingEnd) (from : List ℕ) (at : ℕ) (to : List ℕ) → Did n wants (due.Sent past added price k again) old new (record { old = from; at = at; new = to }) →
     (m : Next) × (n ≡ Some m) × Puts from at (canonical (message_of old.channel m.command)) to past × (added ≡ m.added) × (price ≡ m.price) × (k ≡ due_kind m.command) × (new ≡ record old { sender = m.sender })
-    × IsMessage (message_of old.channel m.command)
-did-sent None wants past added price k old new from at to d = absurd d
-did-sent (Some m) wants past added price k old new from at to d = (m, refl, d.0, d.1, d.2, d.3, d.4, d.5)
+    × IsMessage (message_of old.channel m.command) × (again ≡ m.is_resend)
+did-sent None wants past added price k again old new from at to d = absurd d
+did-sent (Some m) wants past added price k again old new from at to d = (m, refl, d.0, d.1, d.2, d.3, d.4, d.5, d.6)
 
 did-full : (n : Option Next) (wants : Bool) (old new : SendingEnd) (from : List ℕ) (at : ℕ) (to : List ℕ) → Did n wants due.NoRoom old new (record { old = from; at = at; new = to }) →
     (m : Next) × (n ≡ Some m) × (length from < at + length (canonical (message_of old.channel m.command))) × (new ≡ old) × (to ≡ from)
@@ -80,10 +81,10 @@ did-wanting None wants old new from at to d = (refl, d.0, d.1, d.2)
 did-wanting (Some m) wants old new from at to d = absurd d
 
 -- there was room for the command that was written
-pub channel-room : (p : Progress) (past added price : ℕ) (k : Kind) (old new : SendingEnd) (from to : List ℕ) (n : Option Next) (wants : Bool) → Did n wants (due.Sent past added price k) old new (record { old = from; at = place_in p from; new = to }) →
+pub channel-room : (p : Progress) (past added price : ℕ) (k : Kind) (again : Bool) (old new : SendingEnd) (from to : List ℕ) (n : Option Next) (wants : Bool) → Did n wants (due.Sent past added price k again) old new (record { old = from; at = place_in p from; new = to }) →
     (0 < p.commands) × (p.at < length to)
-channel-room p past added price k old new from to n wants d =
-    let s = did-sent n wants past added price k old new from (place_in p from) to d in
+channel-room p past added price k again old new from to n wants d =
+    let s = did-sent n wants past added price k again old new from (place_in p from) to d in
     let w = place-open p from (canonical (message_of old.channel s.0.command)) to past (omega arith) s.2 in
     (w.0, w.2)
 
@@ -103,7 +104,7 @@ kept_by went kept channel = cond went kept (Some channel)
 
 -- what is due on a channel is put in, or dropped, as the throttle says
 step-put : (f : Filling) (channel : ℕ) (s : SendingEnd) (n : Next) (k : Kind) → refuses k f.outbox.throttle ≡ false →
-    data_step f channel s n k ≡ data_put f channel s n (record f.outbox { throttle = asked_for k f.outbox.throttle; kept = released_by k f.outbox.kept channel })
+    data_step f channel s n k ≡ data_put f channel s n (record f.outbox { throttle = asked_for k f.outbox.throttle; kept = released_by k f.outbox.kept channel; traffic = counted_by k f.outbox.traffic n.is_resend })
 step-put f channel s n kind.Reliable e = refl
 step-put f channel s n kind.More e = refl
 step-put f channel s n kind.Begins e =
@@ -175,7 +176,8 @@ channel-begin {pace} {channel} {f} {s} {w} {p} {buf} h opened there e = record {
   outbox = ap (λ (ss : List SendingEnd). record f.outbox { senders = ss }) (sym (set-there f.outbox.senders channel s there))
       ∙ ap (λ (t : Throttling). record f.outbox { senders = slice_set f.outbox.senders channel s; throttle = t }) e.0
       ∙ ap (λ (c : Option ℕ). record f.outbox { senders = slice_set f.outbox.senders channel s; throttle = w.throttle; kept = c }) e.2.kept
-      ∙ ap (λ (l : Option ℕ). record f.outbox { senders = slice_set f.outbox.senders channel s; throttle = w.throttle; kept = w.kept; last = l }) e.1;
+      ∙ ap (λ (l : Option ℕ). record f.outbox { senders = slice_set f.outbox.senders channel s; throttle = w.throttle; kept = w.kept; last = l }) e.1
+      ∙ ap (λ (x : Traffic). record f.outbox { senders = slice_set f.outbox.senders channel s; throttle = w.throttle; kept = w.kept; last = w.last; traffic = x }) e.2.traffic;
   enough = let P : Option SendingEnd → Type 0 = λ o. left_of s.sender ≤ turns_of o in subst P (sym there) (left-most s.sender);
   stage = refl;
   grown = sym (append-nil f.messages);
@@ -192,14 +194,15 @@ abbrev pub wants_by : Pace → ℕ → SendingEnd → Flow → Bool
 wants_by pace channel s w = wants_room (told pace channel w) s.sender
 
 -- what the channels share once a command of one went, and once the throttle dropped one
-abbrev pub flow_put : Flow → ℕ → ℕ → ℕ → Kind → Flow
-flow_put w channel added price k = record {
+abbrev pub flow_put : Flow → ℕ → ℕ → ℕ → Kind → Bool → Flow
+flow_put w channel added price k again = record {
   throttle = asked_for k w.throttle;
   transit = w.transit + added;
   prices = w.prices + price;
   dearest = w.dearest;
   kept = released_by k w.kept channel;
   last = Some channel;
+  traffic = counted_by k w.traffic again;
 }
 
 abbrev pub flow_asked : Flow → Kind → Flow
@@ -254,17 +257,17 @@ gone-more since m went k gone is = by (is_reliable k) ∙ ap (λ (b : Bool). lis
 gone-is : (f g : Filling) (since : List Message) → g.messages ≡ f.messages ++ since → has_gone f g ≡ list_any asks since
 gone-is f g since grown = ap (λ (ms : List Message). list_any asks (drop (length f.messages) ms)) grown ∙ ap (list_any asks) (drop_at f.messages since (length f.messages) refl)
 
-pub channel-put : {pace : Pace} {channel : ℕ} {f : Filling} {s new : SendingEnd} {w : Flow} {went : Bool} {p : Progress} {from to : List ℕ} {past : ℕ} (added price : ℕ) (k : Kind) → ChannelAt pace channel f s w went p from →
-    Did (due_by pace channel s w) (wants_by pace channel s w) (due.Sent past added price k) s new (record { old = from; at = place_in p from; new = to }) → refuses k w.throttle ≡ false →
-    ChannelAt pace channel f new (flow_put w channel added price k) (is_reliable k || went) (taken_in p past to) to
-channel-put {pace} {channel} {f} {s} {new} {w} {went} {p} {from} {to} {past} added price k a d admitted =
-    let r = did-sent (due_by pace channel s w) (wants_by pace channel s w) past added price k s new from (place_in p from) to d in
+pub channel-put : {pace : Pace} {channel : ℕ} {f : Filling} {s new : SendingEnd} {w : Flow} {went : Bool} {p : Progress} {from to : List ℕ} {past : ℕ} (added price : ℕ) (k : Kind) (again : Bool) → ChannelAt pace channel f s w went p from →
+    Did (due_by pace channel s w) (wants_by pace channel s w) (due.Sent past added price k again) s new (record { old = from; at = place_in p from; new = to }) → refuses k w.throttle ≡ false →
+    ChannelAt pace channel f new (flow_put w channel added price k again) (is_reliable k || went) (taken_in p past to) to
+channel-put {pace} {channel} {f} {s} {new} {w} {went} {p} {from} {to} {past} added price k again a d admitted =
+    let r = did-sent (due_by pace channel s w) (wants_by pace channel s w) past added price k again s new from (place_in p from) to d in
     let n : Next = r.0 in
     let m : Message = message_of s.channel n.command in
-    let v : Flow = flow_put w channel added price k in
+    let v : Flow = flow_put w channel added price k again in
     let t : SendingEnd = record s { sender = n.sender } in
     let room = place-open p from (canonical m) to past (omega arith) r.2 in
-    let G : Outbox → Outbox = λ o. record o { senders = slice_set o.senders channel t; throttle = asked_for k o.throttle; kept = released_by k o.kept channel; last = Some channel } in
+    let G : Outbox → Outbox = λ o. record o { senders = slice_set o.senders channel t; throttle = asked_for k o.throttle; kept = released_by k o.kept channel; last = Some channel; traffic = counted_by k o.traffic n.is_resend } in
     let less = left-falls wire (told pace channel w) s.sender n r.1 in
     let adds = transit-next wire (told pace channel w) s.sender n r.1 in
     let sums = transit-set a.g.outbox.senders channel s t a.there in
@@ -283,21 +286,28 @@ channel-put {pace} {channel} {f} {s} {new} {w} {went} {p} {from} {to} {past} add
       holds = holds-written m a.holds room.0 room.1 r.7 (G a.g.outbox);
       opened = refl;
       there = get-set a.g.outbox.senders channel s t a.there;
-      outbox = ap G a.outbox ∙ ap (λ (ss : List SendingEnd). with_flow f.outbox ss v) (set-twice f.outbox.senders channel s t);
+      outbox = ap G a.outbox ∙ ap (λ (b : Bool). record (with_flow f.outbox (slice_set (slice_set f.outbox.senders channel s) channel t) v) { traffic = counted_by k w.traffic b }) (sym r.8)
+          ∙ ap (λ (ss : List SendingEnd). with_flow f.outbox ss v) (set-twice f.outbox.senders channel s t);
       enough = omega arith;
       stage = a.stage ∙ ap (turn_ended pace channel f) (channel-go pace channel a.turns a.g (with_command a.g m (G a.g.outbox)) s n k (omega arith) a.opened a.there (here a ∙ r.1) (fits-written m a.holds room.0 room.1) r.5
           (step-put a.g channel s n k (ap (λ (o : Outbox). refuses k o.throttle) a.outbox ∙ admitted)));
       grown = ap (λ (ms : List Message). ms ++ m ∷ []) a.grown ∙ append_assoc f.messages a.since (m ∷ []);
       gone = gone-more a.since m went k a.gone (kind-asks n.command k r.5);
-      counts = record { transit = omega arith; prices = omega arith; dearest = a.counts.dearest; kept = ap (λ (c : Option ℕ). released_by k c channel) a.counts.kept };
+      counts = record {
+        transit = omega arith;
+        prices = omega arith;
+        dearest = a.counts.dearest;
+        kept = ap (λ (c : Option ℕ). released_by k c channel) a.counts.kept;
+        traffic = ap (λ (x : Traffic). counted_by k x n.is_resend) a.counts.traffic ∙ ap (counted_by k w.traffic) (sym r.8);
+      };
     } in
     subst P (sym r.6) made
 
-pub channel-drop : {pace : Pace} {channel : ℕ} {f : Filling} {s : SendingEnd} {w : Flow} {went : Bool} {p : Progress} {from to : List ℕ} (new : SendingEnd) (past added price : ℕ) (k : Kind) → ChannelAt pace channel f s w went p from →
-    Did (due_by pace channel s w) (wants_by pace channel s w) (due.Sent past added price k) s new (record { old = from; at = place_in p from; new = to }) → refuses k w.throttle ≡ true →
+pub channel-drop : {pace : Pace} {channel : ℕ} {f : Filling} {s : SendingEnd} {w : Flow} {went : Bool} {p : Progress} {from to : List ℕ} (new : SendingEnd) (past added price : ℕ) (k : Kind) (again : Bool) → ChannelAt pace channel f s w went p from →
+    Did (due_by pace channel s w) (wants_by pace channel s w) (due.Sent past added price k again) s new (record { old = from; at = place_in p from; new = to }) → refuses k w.throttle ≡ true →
     ChannelAt pace channel f (record new { sender = with_skipped new.sender }) (flow_asked w k) went p to
-channel-drop {pace} {channel} {f} {s} {w} {went} {p} {from} {to} new past added price k a d refused =
-    let r = did-sent (due_by pace channel s w) (wants_by pace channel s w) past added price k s new from (place_in p from) to d in
+channel-drop {pace} {channel} {f} {s} {w} {went} {p} {from} {to} new past added price k again a d refused =
+    let r = did-sent (due_by pace channel s w) (wants_by pace channel s w) past added price k again s new from (place_in p from) to d in
     let n : Next = r.0 in
     let m : Message = message_of s.channel n.command in
     let v : Flow = flow_asked w k in
@@ -328,7 +338,7 @@ channel-drop {pace} {channel} {f} {s} {w} {went} {p} {from} {to} new past added 
           (step-drop a.g channel s n k (ap (λ (o : Outbox). refuses k o.throttle) a.outbox ∙ refused)));
       grown = a.grown;
       gone = a.gone;
-      counts = record { transit = omega (arith, none.0); prices = omega (arith, none.1); dearest = a.counts.dearest; kept = a.counts.kept };
+      counts = record { transit = omega (arith, none.0); prices = omega (arith, none.1); dearest = a.counts.dearest; kept = a.counts.kept; traffic = a.counts.traffic };
     } in
     subst P (sym r.6) made
 
@@ -382,5 +392,5 @@ channel-wanting {pace} {channel} {f} {s} {w} {went} {p} {from} {to} new a d =
     by true whole = (leads-by whole a.holds a.outbox, subst (λ (o : Outbox). Counts o w) a.outbox a.counts)
     by false whole = (
       leads-by whole (holds-other (record a.g.outbox { kept = Some channel }) a.holds) kept,
-      subst (λ (o : Outbox). Counts o v) kept (record { transit = a.counts.transit; prices = a.counts.prices; dearest = a.counts.dearest; kept = refl }),
+      subst (λ (o : Outbox). Counts o v) kept (record { transit = a.counts.transit; prices = a.counts.prices; dearest = a.counts.dearest; kept = refl; traffic = a.counts.traffic }),
     )

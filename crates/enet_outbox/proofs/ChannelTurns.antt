@@ -16,7 +16,7 @@ use Rattle.enet_outbox.specs.declared.packing.Progress.{Progress}
 use Rattle.enet_outbox.specs.declared.packing.Flow.{Flow}
 use Rattle.enet_outbox.specs.Outbox.{released}
 use Rattle.enet_outbox.specs.Emission.{Filling, is_barred}
-use Rattle.enet_outbox.specs.Private.Packing.{Holds, Shares, PacksChannel, asked_for, is_reliable, kept_after, place_in, refuses, taken_in, told}
+use Rattle.enet_outbox.specs.Private.Packing.{Holds, Shares, PacksChannel, asked_for, counted_by, is_reliable, kept_after, place_in, refuses, taken_in, told}
 use Rattle.enet_senders.proofs.Each.{set-there}
 use Rattle.enet_senders.proofs.Sets.{get-set}
 use Rattle.enet_outbox.proofs.Channel.{ChannelAt, due_by, flow_asked, flow_put, kept_by, released_by, wants_by, channel-wanting, set-twice, did-sent, channel-begin, channel-put, channel-drop, channel-full, channel-none, channel-room}
@@ -55,16 +55,16 @@ turn-begin {pace} {channel} {old} {w} {p} {from} s there = record {
   stage = λ f h opened at e. channel-begin h opened at e;
 }
 
-pub turn-put : {pace : Pace} {channel : ℕ} {old : List SendingEnd} {first : SendingEnd} {w0 : Flow} {p0 : Progress} {from0 : List ℕ} {now later : List SendingEnd} {w : Flow} {went : Bool} {p : Progress} {from to : List ℕ} {past : ℕ} (added price : ℕ) (k : Kind)
-    → TurnAt pace channel old first w0 p0 from0 now w went p from → Called pace channel w p now later from to (due.Sent past added price k) → refuses k w.throttle ≡ false
-    → TurnAt pace channel old first w0 p0 from0 later (flow_put w channel added price k) (is_reliable k || went) (taken_in p past to) to
-turn-put {pace} {channel} {old} {first} {w0} {p0} {from0} {now} {later} {w} {went} {p} {from} {to} {past} added price k a h admitted =
+pub turn-put : {pace : Pace} {channel : ℕ} {old : List SendingEnd} {first : SendingEnd} {w0 : Flow} {p0 : Progress} {from0 : List ℕ} {now later : List SendingEnd} {w : Flow} {went : Bool} {p : Progress} {from to : List ℕ} {past : ℕ} (added price : ℕ) (k : Kind) (again : Bool)
+    → TurnAt pace channel old first w0 p0 from0 now w went p from → Called pace channel w p now later from to (due.Sent past added price k again) → refuses k w.throttle ≡ false
+    → TurnAt pace channel old first w0 p0 from0 later (flow_put w channel added price k again) (is_reliable k || went) (taken_in p past to) to
+turn-put {pace} {channel} {old} {first} {w0} {p0} {from0} {now} {later} {w} {went} {p} {from} {to} {past} added price k again a h admitted =
     let r = h a.s a.there in
     record {
       s = r.0;
       senders = r.1.0 ∙ ap (λ (xs : List SendingEnd). slice_set xs channel r.0) a.senders ∙ set-twice old channel a.s r.0;
       there = ap (λ (xs : List SendingEnd). slice_get xs channel) r.1.0 ∙ get-set now channel a.s r.0 a.there;
-      stage = λ f holds opened there e. channel-put added price k (a.stage f holds opened there e) r.1.1 admitted;
+      stage = λ f holds opened there e. channel-put added price k again (a.stage f holds opened there e) r.1.1 admitted;
     }
 
 -- the sender once the rest of its packet is dropped
@@ -74,10 +74,10 @@ without_more s = record s { sender = with_skipped s.sender }
 abbrev pub Skipped : ℕ → List SendingEnd → List SendingEnd → Type 0
 Skipped channel later after = (s : SendingEnd) → slice_get later channel ≡ Some s → after ≡ slice_set later channel (without_more s)
 
-pub turn-drop : {pace : Pace} {channel : ℕ} {old : List SendingEnd} {first : SendingEnd} {w0 : Flow} {p0 : Progress} {from0 : List ℕ} {now later after : List SendingEnd} {w : Flow} {went : Bool} {p : Progress} {from to : List ℕ} (past added price : ℕ) (k : Kind)
-    → TurnAt pace channel old first w0 p0 from0 now w went p from → Called pace channel w p now later from to (due.Sent past added price k) → refuses k w.throttle ≡ true → Skipped channel later after
+pub turn-drop : {pace : Pace} {channel : ℕ} {old : List SendingEnd} {first : SendingEnd} {w0 : Flow} {p0 : Progress} {from0 : List ℕ} {now later after : List SendingEnd} {w : Flow} {went : Bool} {p : Progress} {from to : List ℕ} (past added price : ℕ) (k : Kind) (again : Bool)
+    → TurnAt pace channel old first w0 p0 from0 now w went p from → Called pace channel w p now later from to (due.Sent past added price k again) → refuses k w.throttle ≡ true → Skipped channel later after
     → TurnAt pace channel old first w0 p0 from0 after (flow_asked w k) went p to
-turn-drop {pace} {channel} {old} {first} {w0} {p0} {from0} {now} {later} {after} {w} {went} {p} {from} {to} past added price k a h refused skip =
+turn-drop {pace} {channel} {old} {first} {w0} {p0} {from0} {now} {later} {after} {w} {went} {p} {from} {to} past added price k again a h refused skip =
     let r = h a.s a.there in
     let is : later ≡ slice_set old channel r.0 = r.1.0 ∙ ap (λ (xs : List SendingEnd). slice_set xs channel r.0) a.senders ∙ set-twice old channel a.s r.0 in
     let there : slice_get later channel ≡ Some r.0 = ap (λ (xs : List SendingEnd). slice_get xs channel) r.1.0 ∙ get-set now channel a.s r.0 a.there in
@@ -86,7 +86,7 @@ turn-drop {pace} {channel} {old} {first} {w0} {p0} {from0} {now} {later} {after}
       s = without_more r.0;
       senders = dropped ∙ ap (λ (xs : List SendingEnd). slice_set xs channel (without_more r.0)) is ∙ set-twice old channel r.0 (without_more r.0);
       there = ap (λ (xs : List SendingEnd). slice_get xs channel) dropped ∙ get-set later channel r.0 (without_more r.0) there;
-      stage = λ f holds opened at e. channel-drop r.0 past added price k (a.stage f holds opened at e) r.1.1 refused;
+      stage = λ f holds opened at e. channel-drop r.0 past added price k again (a.stage f holds opened at e) r.1.1 refused;
     }
 
 -- the channel's part of the datagram, once no more of it goes
@@ -119,11 +119,11 @@ abbrev pub left_at : Option SendingEnd → ℕ
 left_at None = 0
 left_at (Some s) = left_of s.sender
 
-pub turn-falls : (pace : Pace) (channel : ℕ) (w : Flow) (p : Progress) (now later : List SendingEnd) (from to : List ℕ) (past added price : ℕ) (k : Kind) (s : SendingEnd) → slice_get now channel ≡ Some s
-    → Called pace channel w p now later from to (due.Sent past added price k) → left_at (slice_get later channel) < left_at (slice_get now channel)
-turn-falls pace channel w p now later from to past added price k s there h =
+pub turn-falls : (pace : Pace) (channel : ℕ) (w : Flow) (p : Progress) (now later : List SendingEnd) (from to : List ℕ) (past added price : ℕ) (k : Kind) (again : Bool) (s : SendingEnd) → slice_get now channel ≡ Some s
+    → Called pace channel w p now later from to (due.Sent past added price k again) → left_at (slice_get later channel) < left_at (slice_get now channel)
+turn-falls pace channel w p now later from to past added price k again s there h =
     let r = h s there in
-    let d = did-sent (due_by pace channel s w) (wants_by pace channel s w) past added price k s r.0 from (place_in p from) to r.1.1 in
+    let d = did-sent (due_by pace channel s w) (wants_by pace channel s w) past added price k again s r.0 from (place_in p from) to r.1.1 in
     let was : left_at (slice_get now channel) ≡ left_of s.sender = ap left_at there in
     let is : left_at (slice_get later channel) ≡ left_of d.0.sender =
     ap left_at (ap (λ (xs : List SendingEnd). slice_get xs channel) r.1.0 ∙ get-set now channel s r.0 there) ∙ ap (λ (t : SendingEnd). left_of t.sender) d.6 in
@@ -139,29 +139,29 @@ skip-falls channel later after s there skip =
     omega arith
 
 -- there was room for the command that was written
-pub called-room : (pace : Pace) (channel : ℕ) (w : Flow) (p : Progress) (now later : List SendingEnd) (from to : List ℕ) (past added price : ℕ) (k : Kind) (s : SendingEnd) → slice_get now channel ≡ Some s
-    → Called pace channel w p now later from to (due.Sent past added price k) → (0 < p.commands) × (p.at < length to)
-called-room pace channel w p now later from to past added price k s there h =
+pub called-room : (pace : Pace) (channel : ℕ) (w : Flow) (p : Progress) (now later : List SendingEnd) (from to : List ℕ) (past added price : ℕ) (k : Kind) (again : Bool) (s : SendingEnd) → slice_get now channel ≡ Some s
+    → Called pace channel w p now later from to (due.Sent past added price k again) → (0 < p.commands) × (p.at < length to)
+called-room pace channel w p now later from to past added price k again s there h =
     let r = h s there in
-    channel-room p past added price k s r.0 from to (due_by pace channel s w) (wants_by pace channel s w) r.1.1
+    channel-room p past added price k again s r.0 from to (due_by pace channel s w) (wants_by pace channel s w) r.1.1
 
 -- with what is new in transit there is no more than either bound allows
 bounded : (total most more added limit : ℕ) → more ≡ added → (added ≡ 0) ⊎ (total + added ≤ most) → total < limit → most < limit → total + more < limit
 bounded total most more added limit is (inl none) low few = omega arith
 bounded total most more added limit is (inr fits) low few = omega arith
 
-pub called-bytes : (channel : ℕ) (o : Occasion) (at : ℕ) (now later : List SendingEnd) (from to : List ℕ) (past added price : ℕ) (k : Kind) (s : SendingEnd) → slice_get now channel ≡ Some s
-    → CalledWith channel o at now later from to (due.Sent past added price k) → (limit : ℕ) → o.transit < limit → o.most < limit → o.transit + added < limit
-called-bytes channel o at now later from to past added price k s there h limit low few =
+pub called-bytes : (channel : ℕ) (o : Occasion) (at : ℕ) (now later : List SendingEnd) (from to : List ℕ) (past added price : ℕ) (k : Kind) (again : Bool) (s : SendingEnd) → slice_get now channel ≡ Some s
+    → CalledWith channel o at now later from to (due.Sent past added price k again) → (limit : ℕ) → o.transit < limit → o.most < limit → o.transit + added < limit
+called-bytes channel o at now later from to past added price k again s there h limit low few =
     let r = h s there in
-    let d = did-sent (next wire o s.sender) (wants_room o s.sender) past added price k s r.0 from at to r.1.1 in
+    let d = did-sent (next wire o s.sender) (wants_room o s.sender) past added price k again s r.0 from at to r.1.1 in
     bounded o.transit o.most added d.0.added limit d.3 (added-fits wire o s.sender d.0 d.1).bytes low few
 
-pub called-prices : (channel : ℕ) (o : Occasion) (at : ℕ) (now later : List SendingEnd) (from to : List ℕ) (past added price : ℕ) (k : Kind) (s : SendingEnd) → slice_get now channel ≡ Some s
-    → CalledWith channel o at now later from to (due.Sent past added price k) → (limit : ℕ) → o.prices < limit → o.dearest < limit → o.prices + price < limit
-called-prices channel o at now later from to past added price k s there h limit low few =
+pub called-prices : (channel : ℕ) (o : Occasion) (at : ℕ) (now later : List SendingEnd) (from to : List ℕ) (past added price : ℕ) (k : Kind) (again : Bool) (s : SendingEnd) → slice_get now channel ≡ Some s
+    → CalledWith channel o at now later from to (due.Sent past added price k again) → (limit : ℕ) → o.prices < limit → o.dearest < limit → o.prices + price < limit
+called-prices channel o at now later from to past added price k again s there h limit low few =
     let r = h s there in
-    let d = did-sent (next wire o s.sender) (wants_room o s.sender) past added price k s r.0 from at to r.1.1 in
+    let d = did-sent (next wire o s.sender) (wants_room o s.sender) past added price k again s r.0 from at to r.1.1 in
     bounded o.prices o.dearest price d.0.price limit d.4 (added-fits wire o s.sender d.0 d.1).prices low few
 
 -- there are as many senders as before
@@ -174,14 +174,15 @@ abbrev pub settled : Flow → Bool → ℕ → Flow
 settled w went channel = record w { kept = kept_after went false w.kept channel }
 
 -- once a command went
-abbrev pub flow_sent : Flow → ℕ → ℕ → ℕ → Kind → Flow
-flow_sent w channel added price k = record {
+abbrev pub flow_sent : Flow → ℕ → ℕ → ℕ → Kind → Bool → Flow
+flow_sent w channel added price k again = record {
   throttle = asked_for k w.throttle;
   transit = w.transit + added;
   prices = w.prices + price;
   dearest = w.dearest;
   kept = w.kept;
   last = Some channel;
+  traffic = counted_by k w.traffic again;
 }
 
 released-barred : (kept : Option ℕ) (channel : ℕ) → is_barred kept channel ≡ is_barred (released kept channel) channel
@@ -214,12 +215,12 @@ settled-more kind.Reliable false kept channel = refl
 settled-more kind.Begins went kept channel = refl
 settled-more kind.More went kept channel = refl
 
-pub turn-goes : {pace : Pace} {channel : ℕ} {old : List SendingEnd} {first : SendingEnd} {w0 : Flow} {p0 : Progress} {from0 : List ℕ} {now later : List SendingEnd} {went : Bool} {p : Progress} {from to : List ℕ} {past : ℕ} (w : Flow) (added price : ℕ) (k : Kind)
-    → TurnAt pace channel old first w0 p0 from0 now (settled w went channel) went p from → Called pace channel (settled w went channel) p now later from to (due.Sent past added price k) → refuses k w.throttle ≡ false
-    → TurnAt pace channel old first w0 p0 from0 later (settled (flow_sent w channel added price k) (is_reliable k || went) channel) (is_reliable k || went) (taken_in p past to) to
-turn-goes {pace} {channel} {old} {first} {w0} {p0} {from0} {now} {later} {went} {p} {from} {to} {past} w added price k a h admitted =
-    subst (λ (kept : Option ℕ). TurnAt pace channel old first w0 p0 from0 later (record (flow_sent w channel added price k) { kept = kept }) (is_reliable k || went) (taken_in p past to) to)
-    (settled-more k went w.kept channel) (turn-put added price k a h admitted)
+pub turn-goes : {pace : Pace} {channel : ℕ} {old : List SendingEnd} {first : SendingEnd} {w0 : Flow} {p0 : Progress} {from0 : List ℕ} {now later : List SendingEnd} {went : Bool} {p : Progress} {from to : List ℕ} {past : ℕ} (w : Flow) (added price : ℕ) (k : Kind) (again : Bool)
+    → TurnAt pace channel old first w0 p0 from0 now (settled w went channel) went p from → Called pace channel (settled w went channel) p now later from to (due.Sent past added price k again) → refuses k w.throttle ≡ false
+    → TurnAt pace channel old first w0 p0 from0 later (settled (flow_sent w channel added price k again) (is_reliable k || went) channel) (is_reliable k || went) (taken_in p past to) to
+turn-goes {pace} {channel} {old} {first} {w0} {p0} {from0} {now} {later} {went} {p} {from} {to} {past} w added price k again a h admitted =
+    subst (λ (kept : Option ℕ). TurnAt pace channel old first w0 p0 from0 later (record (flow_sent w channel added price k again) { kept = kept }) (is_reliable k || went) (taken_in p past to) to)
+    (settled-more k went w.kept channel) (turn-put added price k again a h admitted)
 
 wanting-kept : (went : Bool) (kept : Option ℕ) (channel : ℕ) → kept_by went (kept_after went false kept channel) channel ≡ kept_after went true kept channel
 wanting-kept true kept channel = refl

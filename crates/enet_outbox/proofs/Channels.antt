@@ -6,6 +6,7 @@ use Rattle.enet_sender.specs.Due.{SendingEnd}
 use Rattle.enet_outbox.specs.declared.parts.Pace.{Pace}
 use Rattle.enet_outbox.specs.declared.packing.Progress.{Progress}
 use Rattle.enet_outbox.specs.declared.packing.Flow.{Flow}
+use Rattle.enet_outbox.specs.declared.traffic.Traffic.{Traffic}
 use Rattle.enet_outbox.specs.Outbox.{Outbox}
 use Rattle.enet_outbox.specs.Emission.{Filling, with_channel, with_channels}
 use Rattle.enet_outbox.specs.Private.Packing.{Holds, Leads, with_flow, Counts, Shares, PacksChannel, turns}
@@ -37,7 +38,8 @@ channels-begin {pace} {first} {n} {f} {senders} {w} {p} {buf} h is e = record {
   outbox = ap (λ (ss : List SendingEnd). record f.outbox { senders = ss }) is
       ∙ ap (λ (t : Throttling). record f.outbox { senders = senders; throttle = t }) e.0
       ∙ ap (λ (c : Option ℕ). record f.outbox { senders = senders; throttle = w.throttle; kept = c }) e.2.kept
-      ∙ ap (λ (l : Option ℕ). record f.outbox { senders = senders; throttle = w.throttle; kept = w.kept; last = l }) e.1;
+      ∙ ap (λ (l : Option ℕ). record f.outbox { senders = senders; throttle = w.throttle; kept = w.kept; last = l }) e.1
+      ∙ ap (λ (x : Traffic). record f.outbox { senders = senders; throttle = w.throttle; kept = w.kept; last = w.last; traffic = x }) e.2.traffic;
   stage = refl;
   counts = e.2;
 }

@@ -52,6 +52,7 @@ left_by o acknowledgements control unsequenced senders w = record o {
   throttle = w.throttle;
   kept = w.kept;
   last = w.last;
+  traffic = w.traffic;
 }
 
 -- one stage after another
@@ -60,7 +61,7 @@ pub filled-leads : (pace : Pace) (o : Outbox) (first transit prices dearest : �
     4 ≤ pace.mtu → length b0 ≡ pace.mtu → first ≡ unwrap_or (option_map (λ channel. channel + 1) o.last) 0 → transit_of o ≡ transit → prices_of o ≡ prices → limit o.allowance ≡ dearest →
     PacksAcknowledgements o.acknowledgements acknowledgements (record { progress = start; buf = b0 }) d1 → PacksControls pace o.control control d1 d2 →
     PacksUnsequenced (record { packets = o.unsequenced; throttle = o.throttle; last = o.last }) (record { packets = unsequenced; throttle = throttle; last = last }) d2 d3 →
-    PacksChannels pace (record { first = first; senders = o.senders; flow = record { throttle = throttle; transit = transit; prices = prices; dearest = dearest; kept = o.kept; last = last } }) (record { first = first; senders = senders; flow = w }) d3 d4 →
+    PacksChannels pace (record { first = first; senders = o.senders; flow = record { throttle = throttle; transit = transit; prices = prices; dearest = dearest; kept = o.kept; last = last; traffic = o.traffic } }) (record { first = first; senders = senders; flow = w }) d3 d4 →
     Leads (filled pace o) (left_by o acknowledgements control unsequenced senders w) d4.progress d4.buf × Counts (left_by o acknowledgements control unsequenced senders w) w
 filled-leads pace o first transit prices dearest b0 d1 d2 d3 d4 acknowledgements control unsequenced throttle last senders w long whole is counted priced dear pa pc pu ps =
     let f0 : Filling = empty_datagram pace o in
@@ -73,8 +74,8 @@ filled-leads pace o first transit prices dearest b0 d1 d2 d3 d4 acknowledgements
     let f3 : Filling = with_unsequenced f2 in
     let o3 : f3.outbox ≡ record o { acknowledgements = acknowledgements; control = control; unsequenced = unsequenced; throttle = throttle; last = last } =
     l3.outbox ∙ ap (λ (o : Outbox). record o { unsequenced = unsequenced; throttle = throttle; last = last }) o2 in
-    let v : Flow = record { throttle = throttle; transit = transit; prices = prices; dearest = dearest; kept = o.kept; last = last } in
-    let shares : Shares f3.outbox v = (ap (λ (o : Outbox). o.throttle) o3, ap (λ (o : Outbox). o.last) o3, record { transit = ap transit_of o3 ∙ counted; prices = ap prices_of o3 ∙ priced; dearest = ap (λ (o : Outbox). limit o.allowance) o3 ∙ dear; kept = ap (λ (o : Outbox). o.kept) o3 }) in
+    let v : Flow = record { throttle = throttle; transit = transit; prices = prices; dearest = dearest; kept = o.kept; last = last; traffic = o.traffic } in
+    let shares : Shares f3.outbox v = (ap (λ (o : Outbox). o.throttle) o3, ap (λ (o : Outbox). o.last) o3, record { transit = ap transit_of o3 ∙ counted; prices = ap prices_of o3 ∙ priced; dearest = ap (λ (o : Outbox). limit o.allowance) o3 ∙ dear; kept = ap (λ (o : Outbox). o.kept) o3; traffic = ap (λ (o : Outbox). o.traffic) o3 }) in
     let l4 = ps f3 l3.holds (ap (λ (o : Outbox). o.senders) o3) shares in
     let all : with_channels pace (turns first (length o.senders) 0) f3 ≡ filled pace o = ap (λ (order : List ℕ). with_channels pace order f3) (turns-all o first is) in
     let o4 : with_flow f3.outbox senders w ≡ left_by o acknowledgements control unsequenced senders w = ap (λ (o : Outbox). with_flow o senders w) o3 in (

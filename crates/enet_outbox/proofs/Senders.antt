@@ -17,6 +17,7 @@ use Rattle.enet_senders.proofs.Sets.{get-set}
 use Rattle.enet_senders.specs.Senders.{IsLateOver, sum_over}
 use Rattle.enet_outbox.specs.declared.parts.Matched.TheVariants as matched
 use Rattle.enet_outbox.specs.Allowance as allowance
+use Rattle.enet_outbox.specs.Traffic.{with_acknowledged}
 use Rattle.enet_outbox.specs.Outbox.{Outbox, acknowledged_on, as_control, as_data, cleared_sender, marked_sender, prices_lost, still_kept, told_on, told_by, with_growth}
 use Rattle.enet_outbox.specs.Outbox as outbox
 use Rattle.enet_outbox.specs.Invariant.{KeepsOutbox, transit_over, prices_over, with_accepted}
@@ -239,7 +240,7 @@ accepted-none senders channel number time none = by (slice_get senders channel) 
 -- and where it matches a command, the outbox is so
 pub accepted-some : (o : Outbox) (channel number time : ℕ) (told : Acknowledged) (kept : Option ℕ) → (channel == 0xFF) ≡ false → told_on (slice_get o.senders channel) number time ≡ Some told
     → ((s : SendingEnd) → slice_get (with_accepted o.senders channel number time (slice_get o.senders channel)) channel ≡ Some s → kept ≡ still_kept o.kept channel s.sender)
-    → record o { senders = with_accepted o.senders channel number time (slice_get o.senders channel); allowance = allowance.after_acknowledgement o.allowance told; kept = kept }
+    → record o { senders = with_accepted o.senders channel number time (slice_get o.senders channel); allowance = allowance.after_acknowledgement o.allowance told; kept = kept; traffic = with_acknowledged o.traffic }
     ≡ outbox.after_match matched.Data o channel number time
 accepted-some o channel number time told kept apart found stays = by (slice_get o.senders channel) refl found ∙ sym (ap (λ (x : Option Acknowledged). with_growth (outbox.after_acknowledgement o channel number) x) tells)
   where
@@ -250,7 +251,7 @@ accepted-some o channel number time told kept apart found stays = by (slice_get 
     tells = let none : Option Acknowledged = None in ap (λ b. cond b none (told_on (slice_get o.senders channel) number time)) apart ∙ found
 
     by : (x : Option SendingEnd) → slice_get o.senders channel ≡ x → told_on x number time ≡ Some told
-        → record o { senders = with_accepted o.senders channel number time x; allowance = allowance.after_acknowledgement o.allowance told; kept = kept } ≡ with_growth (outbox.after_acknowledgement o channel number) (Some told)
+        → record o { senders = with_accepted o.senders channel number time x; allowance = allowance.after_acknowledgement o.allowance told; kept = kept; traffic = with_acknowledged o.traffic } ≡ with_growth (outbox.after_acknowledgement o channel number) (Some told)
     by None there e = cc
     by (Some s) there e =
         let t : SendingEnd = record s { sender = after_match s.sender number (acknowledged s.sender number time) } in
@@ -258,6 +259,6 @@ accepted-some o channel number time told kept apart found stays = by (slice_get 
         ap (λ (x : Option SendingEnd). slice_get (with_accepted o.senders channel number time x) channel) there ∙ get-set o.senders channel s t there in
         let is : kept ≡ still_kept o.kept channel (after_acknowledgement s.sender number) =
         stays t here ∙ ap (λ (m : Option Acknowledged). still_kept o.kept channel (after_match s.sender number m)) e in
-        (λ i. record o { senders = set o.senders channel (record s { sender = after_match s.sender number (e i) }); allowance = allowance.after_acknowledgement o.allowance told; kept = is i })
+        (λ i. record o { senders = set o.senders channel (record s { sender = after_match s.sender number (e i) }); allowance = allowance.after_acknowledgement o.allowance told; kept = is i; traffic = with_acknowledged o.traffic })
         ∙ ap (λ (x : Option SendingEnd). with_growth (acknowledged_on o channel number x) (Some told)) (sym there)
         ∙ ap (λ (x : Outbox). with_growth x (Some told)) (sym gone)

@@ -21,6 +21,7 @@ use Rattle.enet_outbox.specs.declared.parts.Unsequenced.{Unsequenced}
 use Rattle.enet_outbox.specs.declared.parts.Pace.{Pace}
 use Rattle.enet_outbox.specs.declared.parts.Destination.{Destination}
 use Rattle.enet_outbox.specs.Allowance.{limit}
+use Rattle.enet_outbox.specs.Traffic.{with_one_sent}
 use Rattle.enet_outbox.specs.Outbox.{Outbox, released, transit_of, prices_of}
 
 -- a datagram that is being filled: its commands, how many more bytes and commands it takes, and the outbox by now. Once a
@@ -140,9 +141,10 @@ data_put f channel s n o =
     with_command f (message_of s.channel n.command) (record (with_sender o channel (record s { sender = n.sender })) { last = Some channel })
 
 -- the throttle is asked of the first command of an unreliable packet, and may drop the packet; once a reliable command goes, the room is kept
--- for its channel no longer
+-- for its channel no longer, and it counts as sent
 abbrev pub data_step : Filling → ℕ → SendingEnd → Next → Kind → Filling
-data_step f channel s n Reliable = data_put f channel s n (record f.outbox { kept = released f.outbox.kept channel })
+data_step f channel s n Reliable =
+    data_put f channel s n (record f.outbox { kept = released f.outbox.kept channel; traffic = with_one_sent f.outbox.traffic n.is_resend })
 data_step f channel s n More = data_put f channel s n f.outbox
 data_step f channel s n Begins =
     if is_admitted f.outbox.throttle

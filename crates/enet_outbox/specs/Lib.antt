@@ -1,4 +1,5 @@
 pub mod Allowance
+pub mod Traffic
 pub mod Outbox
 pub mod Counting
 pub mod Outstanding

@@ -21,6 +21,9 @@ use Rattle.enet_sender.specs.Due.{SendingEnd, new_end}
 use Rattle.enet_senders.specs.Senders.{sum_over}
 use Rattle.enet_outbox.specs.Allowance.{Allowed, new_allowance}
 use Rattle.enet_outbox.specs.Allowance as allowance
+use Rattle.enet_outbox.specs.declared.traffic.Traffic.{Traffic}
+use Rattle.enet_outbox.specs.Traffic.{no_traffic}
+use Rattle.enet_outbox.specs.Traffic as traffic
 use Rattle.enet_outbox.specs.declared.parts.Acknowledgement.{Acknowledgement}
 use Rattle.enet_outbox.specs.declared.parts.Unsequenced.{Unsequenced}
 use Rattle.enet_outbox.specs.declared.parts.Matched.{Matched}
@@ -36,6 +39,7 @@ pub record Outbox : Type 0 where
   pub last : Option ℕ  -- the channel of the last data command that a datagram had
   pub allowance : Allowed
   pub kept : Option ℕ  -- the channel that the room in transit is kept for
+  pub traffic : Traffic  -- what went and was acknowledged so far
 
 -- so many channels with nothing to send, so many commands of channel 0xFF having been numbered before
 abbrev pub empty_outbox : ℕ → ℕ → Throttling → Outbox
@@ -49,6 +53,7 @@ empty_outbox channels number t = record {
   last = None;
   allowance = new_allowance;
   kept = None;
+  traffic = no_traffic;
 }
 
 -- the payload bytes of what is in transit: sent, not acknowledged and not due to go again
@@ -196,9 +201,9 @@ after_acknowledgement o channel number =
 abbrev pub told_by : Outbox → ℕ → ℕ → ℕ → Option Acknowledged
 told_by o channel number time = if channel == 0xFF then None else told_on (slice_get o.senders channel) number time
 
--- by that the allowance grows
+-- by that the allowance grows, and it counts as acknowledged
 abbrev pub with_growth : Outbox → Option Acknowledged → Outbox
-with_growth o told = record o { allowance = allowance.after_match o.allowance told }
+with_growth o told = record o { allowance = allowance.after_match o.allowance told; traffic = traffic.after_match o.traffic told }
 
 -- one that matches nothing changes nothing
 abbrev pub after_match : Matched → Outbox → ℕ → ℕ → ℕ → Outbox

@@ -10,11 +10,11 @@
 //! how that grows with what is acknowledged and shrinks with what was lost while the peer answered (`Allowance`). By specs/Room: the room
 //! in transit is kept for a channel only while something of it may wait for room (`room_is_kept_for_something`). By specs/Outstanding:
 //! `outstanding`, how many commands are queued or unacknowledged and their bytes, which are counted as they come and go; and `is_full`,
-//! whether that is as much as a limit says. Where nothing is, no limit is reached (`one_always_goes`). What later calls need has its room
-//! before, told as a number: `acknowledge` and `queue_control` ask for room, and `narrow` that nothing is in transit. Laws: the bytes of a
-//! datagram spell its header and its commands, in their order, and nothing else (`what_goes_is_spelled`); the acknowledgement that waits
-//! longest goes first (`oldest_goes_first`). Only tested, by `check_peer`: that calls succeed with ample memory, and worked datagrams byte
-//! for byte.
+//! whether that is as much as a limit says. Where nothing is, no limit is reached (`one_always_goes`). By specs/Traffic: `traffic`, how
+//! often reliable data commands went, first or again, and how many were acknowledged. What later calls need has its room before, told as a
+//! number: `acknowledge` and `queue_control` ask for room, and `narrow` that nothing is in transit. Laws: the bytes of a datagram spell its
+//! header and its commands, in their order, and nothing else (`what_goes_is_spelled`); the acknowledgement that waits longest goes first
+//! (`oldest_goes_first`). Only tested, by `check_peer`: that calls succeed with ample memory, and worked datagrams byte for byte.
 #![tactic(auto)]
 
 mod allowance;
@@ -24,6 +24,7 @@ mod outbox;
 mod packing;
 mod parts;
 mod readings;
+mod traffic;
 mod unsequenced;
 
 pub use laws::{
@@ -31,3 +32,4 @@ pub use laws::{
 };
 pub use outbox::Outbox;
 pub use parts::{Acknowledgement, Destination, Matched, Pace, SendLimit, Unsequenced};
+pub use traffic::Traffic;

@@ -12,6 +12,7 @@ ghost use Rattle.enet_senders.specs.Controlling.{is_idle};
 ghost use Rattle.enet_outbox.specs.Outbox.{acknowledgement_limit, acknowledging, after_holding, after_lateness, after_match, as_control, cleared, empty_outbox, is_answer, is_control, is_crowded, is_done, has_nothing_reliable, has_waited, lateness, marked, matched_by, narrowed, prices_of, sampled, submitted, transit_of, with_control, with_unsequenced, without_controls};
 
 use crate::allowance::Allowance;
+use crate::traffic::Traffic;
 use crate::unsequenced::UnsequencedQueue;
 use crate::{Acknowledgement, Matched, lists};
 use bytes::Bytes;
@@ -58,6 +59,8 @@ pub struct Outbox {
     pub(crate) allowance: Allowance,
     /// The channel that the room in transit is kept for.
     pub(crate) kept: Option<u8>,
+    /// What went and was acknowledged so far.
+    pub(crate) traffic: Traffic,
     /// Whether the channels were seen to have nothing queued or unacknowledged, and nothing was submitted on one since.
     pub(crate) idle: bool,
 }
@@ -84,6 +87,7 @@ impl Model for Outbox {
         last = o.last;
         allowance = o.allowance;
         kept = o.kept;
+        traffic = o.traffic;
       };
       acknowledgement_room = deque_capacity o.acknowledgements - deque_len o.acknowledgements;
       control_room = o.control.room;
@@ -119,6 +123,7 @@ impl Outbox {
             prices: 0,
             allowance: Allowance::new(),
             kept: None,
+            traffic: Traffic::new(),
             idle: false,
         })
     }
@@ -284,8 +289,8 @@ impl Outbox {
         self.control.clear();
     }
 
-    /// The same of a data command. The allowance grows by what is acknowledged, and the room is kept for its channel no longer where nothing
-    /// of it may wait for room.
+    /// The same of a data command. The allowance grows by what is acknowledged, which is counted, and the room is kept for its channel no
+    /// longer where nothing of it may wait for room.
     fn acknowledge_data(&mut self, channel: u8, number: u16, time: u16) -> Matched
         requires { channel < 255 }
         ensures found { result ≡ matched_by self.old.outbox channel number time }
@@ -300,6 +305,7 @@ impl Outbox {
             Some(told) => {
                 self.allowance.acknowledge(told);
                 self.kept = lists::still_kept(&self.senders, self.kept, channel);
+                self.traffic = self.traffic.with_acknowledged();
                 Matched::Data
             }
         }

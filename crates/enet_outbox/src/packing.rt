@@ -15,10 +15,10 @@ ghost use Rattle.enet_outbox.specs.Emission.{acknowledgement_of, is_barred, unse
 ghost use Rattle.enet_outbox.specs.Invariant.{HasNothing};
 ghost use Rattle.enet_outbox.specs.Resting.{IsAtRest};
 ghost use Rattle.enet_senders.specs.Senders.{IsStill};
-ghost use Rattle.enet_outbox.specs.Private.Packing.{header_asking, is_reliable, kept_after, Leads, taken_in, place_in, asked_for, refuses, told, GoesIn, PacksAcknowledgements, PacksControls, PacksUnsequenced, PacksChannel, PacksChannels};
+ghost use Rattle.enet_outbox.specs.Private.Packing.{counted_by, header_asking, is_reliable, kept_after, Leads, taken_in, place_in, asked_for, refuses, told, GoesIn, PacksAcknowledgements, PacksControls, PacksUnsequenced, PacksChannel, PacksChannels};
 
 use crate::unsequenced::UnsequencedQueue;
-use crate::{Acknowledgement, Destination, Outbox, Pace, Unsequenced, lists};
+use crate::{Acknowledgement, Destination, Outbox, Pace, Traffic, Unsequenced, lists};
 use enet_codec::{Command, Head, Header, NO_PEER, write_acknowledge, write_command, write_header};
 use enet_rtt::told_time;
 use enet_sender::{Due, Kind, Occasion};
@@ -62,6 +62,8 @@ pub struct Flow {
     pub kept: Option<u8>,
     /// The channel of the last data command that a datagram had.
     pub last: Option<u8>,
+    /// What went so far.
+    pub traffic: Traffic,
 }
 
 impl Progress {
@@ -288,6 +290,16 @@ fn went_with(kind: Kind, went: bool) -> bool
     }
 }
 
+/// The counts once a command went, which count those that are reliable.
+fn traffic_with(traffic: Traffic, kind: Kind, again: bool) -> Traffic
+    ensures { result ≡ counted_by kind traffic again }
+{
+    match kind {
+        Kind::Reliable => traffic.with_one_sent(again),
+        Kind::Begins | Kind::More => traffic,
+    }
+}
+
 /// What the sender of a channel is told when it is asked what is due.
 fn occasion_of(flow: &Flow, channel: u8, pace: Pace) -> Occasion
     ensures { result ≡ told pace channel flow.now }
@@ -330,6 +342,7 @@ fn pack_channel(
                 added,
                 price,
                 kind,
+                again,
             } => {
                 if refuses(&mut flow.throttle, kind) {
                     senders.skip(channel);
@@ -337,6 +350,7 @@ fn pack_channel(
                     flow.transit += added;
                     flow.prices += price;
                     flow.last = Some(channel);
+                    flow.traffic = traffic_with(flow.traffic, kind, again);
                     went = went_with(kind, went);
                     progress = progress.with(buf, past);
                 }
@@ -357,15 +371,14 @@ fn pack_channel(
     }
 }
 
-/// Whether what is in transit is so much that a command of the mtu may find no room, or the room is kept for another channel.
+/// Whether what is in transit is so much that a command of the mtu may find no room.
 fn is_nearly_full(occasion: Occasion, mtu: u32) -> bool {
     u64::from(occasion.transit) + u64::from(mtu) > u64::from(occasion.most)
         || u64::from(occasion.prices) + u64::from(mtu) > u64::from(occasion.dearest)
-        || occasion.barred
 }
 
-/// Puts what is due on a channel into the datagram as `pack_channel` does. Where what is in transit is nearly as much as it may be, or the
-/// room is kept for another channel, one that surely has to wait is passed over.
+/// Puts what is due on a channel into the datagram as `pack_channel` does. Where what is in transit is nearly as much as it may be, a channel
+/// that surely has to wait is passed over.
 fn pack_turn(
     senders: &mut Senders,
     flow: &mut Flow,
@@ -532,6 +545,7 @@ impl Outbox {
             dearest: self.allowance.limit(),
             kept: self.kept,
             last: self.last,
+            traffic: self.traffic,
         };
         let sent = pack_channels(&mut self.senders, &mut flow, first, pace, buf, unsequenced);
         self.idle = false;
@@ -540,6 +554,7 @@ impl Outbox {
         self.prices = flow.prices;
         self.kept = flow.kept;
         self.last = flow.last;
+        self.traffic = flow.traffic;
         sent
     }
 

@@ -11,7 +11,7 @@ ghost use Rattle.enet_outbox.specs.Counting.{count_in};
 ghost use Rattle.enet_outbox.specs.Outbox.{has_late, transit_of};
 ghost use Rattle.enet_outbox.specs.Outstanding.{capped, is_full, outstanding_of, reaches};
 
-use crate::{Outbox, SendLimit};
+use crate::{Outbox, SendLimit, Traffic};
 use enet_sender::Outstanding;
 use enet_throttle::Lows;
 
@@ -56,6 +56,14 @@ impl Outbox {
         ensures { result ≡ record { running = self.now.outbox.throttle.lowest_round_trip; last = self.now.outbox.throttle.last_round_trip } }
     {
         self.throttle.lows()
+    }
+
+    /// How often data commands that ask for an acknowledgement went so far, first or again, and how many were acknowledged, each modulo 2^64.
+    /// `clear` and `narrow` leave the counts.
+    pub fn traffic(&self) -> Traffic
+        ensures { result ≡ self.now.outbox.traffic }
+    {
+        self.traffic
     }
 
     /// How many commands are queued, or sent and not acknowledged, and the bytes of their payloads, those of unsequenced packets that wait

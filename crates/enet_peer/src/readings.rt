@@ -9,7 +9,7 @@ ghost use Rattle.enet_peer.specs.Counting.{count_by_peer};
 ghost use Rattle.enet_peer.specs.Waiting.{is_steady, Waits};
 
 use crate::{Peer, PeerState};
-use enet_outbox::SendLimit;
+use enet_outbox::{SendLimit, Traffic};
 use enet_sender::Outstanding;
 use enet_throttle::Lows;
 
@@ -53,6 +53,14 @@ impl Peer {
         ensures { result ≡ self.now.peer.outbox.allowance.bytes }
     {
         self.outbox.allowance()
+    }
+
+    /// How often data commands that ask for an acknowledgement went so far, first or again, and how many were acknowledged, each modulo 2^64.
+    /// The end of the connection leaves the counts.
+    pub fn traffic(&self) -> Traffic
+        ensures { result ≡ self.now.peer.outbox.traffic }
+    {
+        self.outbox.traffic()
     }
 
     /// How many commands are queued, or sent and not acknowledged, and the bytes of their payloads, those of unsequenced packets that wait

@@ -37,10 +37,10 @@ pub record Buffer : Type 0 where
 -- what a call did, by what was due, whether the room is to be kept for the channel, and what it answers: what is written has its numbers in
 -- their ranges, so its bytes spell it
 abbrev pub Did : Option Next → Bool → Due → SendingEnd → SendingEnd → Buffer → Type 0
-Did (Some n) wants (due.Sent past added price kind) old new buf =
+Did (Some n) wants (due.Sent past added price kind again) old new buf =
     Puts buf.old buf.at (canonical (message_of old.channel n.command)) buf.new past
     × (added ≡ n.added) × (price ≡ n.price) × (kind ≡ due_kind n.command) × (new ≡ record old { sender = n.sender })
-    × IsMessage (message_of old.channel n.command)
+    × IsMessage (message_of old.channel n.command) × (again ≡ n.is_resend)
 Did (Some n) wants due.NoRoom old new buf =
     (length buf.old < buf.at + length (canonical (message_of old.channel n.command))) × (new ≡ old) × (buf.new ≡ buf.old)
 Did None wants due.Full old new buf = (wants ≡ true) × (new ≡ old) × (buf.new ≡ buf.old)

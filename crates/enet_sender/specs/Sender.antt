@@ -105,6 +105,7 @@ pub record Next : Type 0 where
   pub command : DataCommand
   pub added : ℕ  -- bytes new in transit
   pub price : ℕ  -- prices new in transit
+  pub is_resend : Bool  -- whether it went before
   pub sender : Sender
 
 -- a command that goes again is in transit again
@@ -113,6 +114,7 @@ resent now s i p = record {
   command = p.command;
   added = bytes_of p.command;
   price = price_of p.command;
+  is_resend = true;
   sender = record s { sent = slice_set s.sent i (again now p) };
 }
 
@@ -121,6 +123,7 @@ first_sent now timeout s c rest = record {
   command = c;
   added = bytes_of c;
   price = price_of c;
+  is_resend = false;
   sender = record s { queued = rest; sent = if c.reliable then s.sent ++ begun now timeout c ∷ [] else s.sent };
 }
 

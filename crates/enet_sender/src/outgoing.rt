@@ -77,12 +77,13 @@ pub struct Occasion {
 #[derive(Clone, Copy)]
 pub enum Due {
     /// A command was written, which ends before `past` and is carried as `kind` says; `added` payload bytes are new in
-    /// transit, and so is its `price`, 0 of an unreliable one.
+    /// transit, and so is its `price`, 0 of an unreliable one. `again` says whether it went before.
     Sent {
         past: usize,
         added: u32,
         price: u32,
         kind: Kind,
+        again: bool,
     },
     /// A command may go, and does not fit.
     NoRoom,
@@ -377,6 +378,7 @@ impl Outgoing {
             added,
             price,
             kind,
+            again: true,
         }
     }
 
@@ -438,6 +440,7 @@ impl Outgoing {
             added,
             price,
             kind,
+            again: false,
         }
     }
 

@@ -288,14 +288,14 @@ inside-changed es s channels c t inside is =
 
 -- what a call of next_due leaves of the channel on which it was made
 did-still : (n : Option Next) (wants : Bool) (result : Due) (s t : SendingEnd) (from : List ℕ) (at : ℕ) (to : List ℕ) → n ≡ None → Did n wants result s t (record { old = from; at = at; new = to }) → t ≡ s
-did-still None wants (due.Sent past added price kind) s t from at to none d = absurd d
+did-still None wants (due.Sent past added price kind again) s t from at to none d = absurd d
 did-still None wants due.NoRoom s t from at to none d = absurd d
 did-still None wants due.Full s t from at to none d = d.1
 did-still None wants due.Nothing s t from at to none d = d.1
 did-still (Some n) wants result s t from at to none d = absurd (cc)
 
-did-unsent : (n : Option Next) (wants : Bool) (result : Due) (s t : SendingEnd) (from : List ℕ) (at : ℕ) (to : List ℕ) → ((past : ℕ) (added : ℕ) (price : ℕ) (kind : Kind) → result ≢ due.Sent past added price kind) → Did n wants result s t (record { old = from; at = at; new = to }) → t ≡ s
-did-unsent n wants (due.Sent past added price kind) s t from at to unsent d = absurd (unsent past added price kind refl)
+did-unsent : (n : Option Next) (wants : Bool) (result : Due) (s t : SendingEnd) (from : List ℕ) (at : ℕ) (to : List ℕ) → ((past : ℕ) (added : ℕ) (price : ℕ) (kind : Kind) (again : Bool) → result ≢ due.Sent past added price kind again) → Did n wants result s t (record { old = from; at = at; new = to }) → t ≡ s
+did-unsent n wants (due.Sent past added price kind again) s t from at to unsent d = absurd (unsent past added price kind again refl)
 did-unsent (Some n) wants due.NoRoom s t from at to unsent d = d.1
 did-unsent None wants due.NoRoom s t from at to unsent d = absurd d
 did-unsent (Some n) wants due.Full s t from at to unsent d = absurd d
@@ -332,7 +332,7 @@ keeps-sent ready flying flying2 occasion es new c result from at to inside did o
     (λ lacks. this t lacks (ap (λ (xs : List SendingEnd). slice_get xs c) r.1.0 ∙ get-set es c s t one.1)) h
 
 -- where nothing was sent all stays as it was
-pub same-unsent : (occasion : Occasion) (es new : List SendingEnd) (c : ℕ) (result : Due) (from : List ℕ) (at : ℕ) (to : List ℕ) → c < length es → ((past : ℕ) (added : ℕ) (price : ℕ) (kind : Kind) → result ≢ due.Sent past added price kind)
+pub same-unsent : (occasion : Occasion) (es new : List SendingEnd) (c : ℕ) (result : Due) (from : List ℕ) (at : ℕ) (to : List ℕ) → c < length es → ((past : ℕ) (added : ℕ) (price : ℕ) (kind : Kind) (again : Bool) → result ≢ due.Sent past added price kind again)
     → DidOn occasion c result es new from at to → new ≡ es
 same-unsent occasion es new c result from at to inside unsent did =
     let one = slice_get-some es c inside in

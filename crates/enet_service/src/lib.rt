@@ -28,7 +28,8 @@
 //! - By `check_service`: that a game thread submits and takes while the service is inside its wire; a connection's opening through a socket of
 //!   127.0.0.1.
 //! - By scripts/check/check-rows.sh and scripts/check/check-clients.sh: that the queues settle (no E16), what is noted and shown to a
-//!   [`Watch`], and that turns for a time end once the other thread has left.
+//!   [`Watch`], and that turns for a time end once the other thread has left. By scripts/check/check-metrics.sh: how many sends it counts
+//!   ([`WatchedHost::sends`]).
 //! - Neither: that a wait or a call of a queue returns, that two threads ran; that a run for a time lasts that time; when [`settle`] answers
 //!   E16.
 #![tactic(auto)]
@@ -37,6 +38,7 @@ mod between;
 mod bound_service;
 mod queues;
 mod run_length;
+mod sends;
 mod settling;
 mod turning;
 mod watch;

@@ -31,6 +31,7 @@ use Rattle.enet_sender.specs.Due.{SendingEnd}
 use Rattle.enet_outbox.specs.declared.parts.Matched.{Matched}
 use Rattle.enet_outbox.specs.declared.parts.Matched.TheVariants as matched
 use Rattle.enet_outbox.specs.declared.parts.Pace.{Pace}
+use Rattle.enet_outbox.specs.Traffic.{with_one_sent}
 use Rattle.enet_outbox.specs.Outbox.{with_control, after_acknowledgement, is_answer, is_done, matched_by, has_ended, has_late, has_waited, lateness, released, told_by, with_growth}
 use Rattle.enet_outbox.specs.Outbox as outbox
 use Rattle.enet_outbox.specs.Emission.{Filling, occasion, filled}
@@ -248,7 +249,7 @@ kept-filled P k p pace h =
           k.quiet (record p { outbox = record f.outbox { senders = ss } }) (record p { outbox = record f.outbox { throttle = t; senders = ss } }) refl
           (k.drops_data (record p { outbox = f.outbox }) i (occasion pace i f.outbox) s n there due a));
       keeps_room = λ f i x there wants a. k.quiet (record p { outbox = f.outbox }) (record p { outbox = record f.outbox { kept = Some i } }) refl a;
-      gives_room = λ f i x n there due a. k.quiet (record p { outbox = f.outbox }) (record p { outbox = record f.outbox { kept = released f.outbox.kept i } }) refl a;
+      gives_room = λ f i x n there due a. k.quiet (record p { outbox = f.outbox }) (record p { outbox = record f.outbox { kept = released f.outbox.kept i; traffic = with_one_sent f.outbox.traffic n.is_resend } }) refl a;
     }) h
 
 pub kept-gone_on : (P : Peering → Type 0) → Changes P → (p : Peering) (s : PeerState) → p.state ≡ s → P p → P (gone_on_in s p)

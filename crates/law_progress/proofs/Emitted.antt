@@ -56,7 +56,7 @@ stepped o s n all (First c rest q may is) = subst (λ (x : Next). Stepped o.now 
     longer (x ∷ xs) = let k = longer xs in omega arith
 
     first : Bool → Next
-    first b = record { command = c; added = cond b (length c.body) 0; price = cond b (length c.body + 28) 0; sender = record s { queued = rest; sent = cond b (s.sent ++ p ∷ []) s.sent } }
+    first b = record { command = c; added = cond b (length c.body) 0; price = cond b (length c.body + 28) 0; is_resend = false; sender = record s { queued = rest; sent = cond b (s.sent ++ p ∷ []) s.sent } }
 
     by : (b : Bool) → c.reliable ≡ b → Stepped o.now s (first c.reliable)
     by true e = subst (λ b. Stepped o.now s (first b)) (sym e) (record {

@@ -19,6 +19,7 @@ use Rattle.enet_sender.specs.Due.{SendingEnd, due_kind}
 use Rattle.enet_outbox.specs.declared.parts.Unsequenced.{Unsequenced}
 use Rattle.enet_outbox.specs.declared.parts.Pace.{Pace}
 use Rattle.enet_outbox.specs.Outbox.{Outbox, released}
+use Rattle.enet_outbox.specs.Traffic.{with_one_sent}
 use Rattle.enet_outbox.specs.Emission.{Filling, size_of, fits, with_command, shut, asked, repeated, unsequenced_of, unsequenced_asked, unsequenced_step, with_one_unsequenced, with_sender, data_put, data_step, due_step, channel_step, with_one_data, with_channel, channel_turns, with_channels, occasion}
 use Rattle.enet_outbox.proofs.Filled.{by-turn_end}
 use Rattle.enet_outbox.proofs.Repeats.{by-repeated}
@@ -99,7 +100,7 @@ data-filled pace i f h = at (slice_get f.outbox.senders i)
     put s n o = (h.0, stays-filled f (message_of s.channel n.command) h.0 (record (with_sender o i (record s { sender = n.sender })) { last = Some i }) h.1)
 
     kind : (s : SendingEnd) (n : Next) (d : Kind) → Filled (data_step f i s n d)
-    kind s n Reliable = put s n (record f.outbox { kept = released f.outbox.kept i })
+    kind s n Reliable = put s n (record f.outbox { kept = released f.outbox.kept i; traffic = with_one_sent f.outbox.traffic n.is_resend })
     kind s n More = put s n f.outbox
     kind s n Begins = if-filled (is_admitted f.outbox.throttle) (data_put f i s n (asked f.outbox)) (record f { outbox = with_sender (asked f.outbox) i (record s { sender = with_skipped n.sender }) }) (put s n (asked f.outbox)) h
 

@@ -22,6 +22,7 @@ use Rattle.enet_outbox.specs.declared.parts.Acknowledgement.{Acknowledgement}
 use Rattle.enet_outbox.specs.declared.parts.Unsequenced.{Unsequenced}
 use Rattle.enet_outbox.specs.declared.parts.Pace.{Pace}
 use Rattle.enet_outbox.specs.Outbox.{Outbox, released, transit_of, prices_of}
+use Rattle.enet_outbox.specs.Traffic.{with_one_sent}
 use Rattle.enet_outbox.specs.Emission.{Filling, empty_datagram, size_of, fits, with_command, shut, asked, repeated, with_one_acknowledgement, with_acknowledgements, control_step, with_one_control, with_controls, control_turns, unsequenced_of, unsequenced_asked, unsequenced_step, with_one_unsequenced, with_unsequenced, with_sender, data_put, data_step, due_step, channel_step, with_one_data, with_channel, turns_of, channel_turns, with_channels, turn_ended, turn_order, transit_limit, price_limit, is_barred, occasion, filled}
 use Rattle.enet_outbox.proofs.Repeats.{by-repeated, repeated-idle}
 use Rattle.enet_outbox.proofs.Filled.{by-filling, by-turn_end}
@@ -362,7 +363,7 @@ data-after pace told i f e = at (slice_get f.outbox.senders i) refl
             g = goes-of o s.sender n is
 
             kind : (d : Kind) → due_kind n.command ≡ d → After pace told i f (data_step f i s n d)
-            kind Reliable x = inl (filled-with f (message_of s.channel n.command) (record (with_sender (record f.outbox { kept = released f.outbox.kept i }) i (record s { sender = n.sender })) { last = Some i }))
+            kind Reliable x = inl (filled-with f (message_of s.channel n.command) (record (with_sender (record f.outbox { kept = released f.outbox.kept i; traffic = with_one_sent f.outbox.traffic n.is_resend }) i (record s { sender = n.sender })) { last = Some i }))
             kind More x = inl (filled-with f (message_of s.channel n.command) (record (with_sender f.outbox i (record s { sender = n.sender })) { last = Some i }))
             kind Begins x = elim (is_admitted f.outbox.throttle) as (λ b. After pace told i f (cond b (data_put f i s n (asked f.outbox)) dropped)) [
               | true ↦ inl (filled-with f (message_of s.channel n.command) (record (with_sender (asked f.outbox) i (record s { sender = n.sender })) { last = Some i }))

@@ -17,6 +17,8 @@ use Rattle.enet_sender.specs.declared.outgoing.Kind.{Kind}
 use Rattle.enet_sender.specs.declared.outgoing.Kind.TheVariants.{Begins, Reliable}
 use Rattle.enet_sender.specs.declared.outgoing.Occasion.{Occasion}
 use Rattle.enet_outbox.specs.Allowance.{limit}
+use Rattle.enet_outbox.specs.declared.traffic.Traffic.{Traffic}
+use Rattle.enet_outbox.specs.Traffic.{with_one_sent}
 use Rattle.enet_outbox.specs.Outbox.{Outbox, released, transit_of, prices_of}
 use Rattle.enet_outbox.specs.Emission.{Filling, asks, fits, is_barred, with_command, with_acknowledgements, with_controls, with_unsequenced, with_channel, with_channels}
 
@@ -96,21 +98,27 @@ abbrev pub is_reliable : Kind → Bool
 is_reliable Reliable = true
 is_reliable _ = false
 
+-- what went is counted, if it is reliable
+abbrev pub counted_by : Kind → Traffic → Bool → Traffic
+counted_by Reliable t again = with_one_sent t again
+counted_by _ t again = t
+
 -- for which channel the room is kept after a turn of one: if a reliable command of it went, for that one no longer; else for that one, if it
 -- wants the room
 abbrev pub kept_after : Bool → Bool → Option ℕ → ℕ → Option ℕ
 kept_after went wants kept channel = if went then released kept channel else (if wants then Some channel else kept)
 
--- what the channels share: the throttle, what is in transit, what the prices may be together, the channel that the room is kept for, and the
--- channel of the last data command
+-- what the channels share: the throttle, what is in transit, what the prices may be together, the channel that the room is kept for, the
+-- channel of the last data command, and what went so far
 abbrev pub with_flow : Outbox → List SendingEnd → Flow → Outbox
-with_flow o senders w = record o { senders = senders; throttle = w.throttle; kept = w.kept; last = w.last }
+with_flow o senders w = record o { senders = senders; throttle = w.throttle; kept = w.kept; last = w.last; traffic = w.traffic }
 
 pub record Counts (o : Outbox) (w : Flow) : Type 0 where
   pub transit : transit_of o ≡ w.transit
   pub prices : prices_of o ≡ w.prices
   pub dearest : limit o.allowance ≡ w.dearest
   pub kept : o.kept ≡ w.kept
+  pub traffic : o.traffic ≡ w.traffic
 
 abbrev pub Shares : Outbox → Flow → Type 0
 Shares o w = (o.throttle ≡ w.throttle) × (o.last ≡ w.last) × Counts o w

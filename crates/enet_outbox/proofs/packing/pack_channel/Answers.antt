@@ -19,22 +19,22 @@ next_due-requires c =
 
 pub commands-preserved : goal.commands-preserved
 commands-preserved c = λ s there.
-    let did = called c.args.pace c.args.channel (settled c.commands.flow c.commands.went c.args.channel) c.commands.progress c.commands.senders c.next_due.new.self c.commands.buf c.next_due.new.buf (due.Sent c.in-Sent.past c.in-Sent.added c.in-Sent.price c.in-Sent.kind)
+    let did = called c.args.pace c.args.channel (settled c.commands.flow c.commands.went c.args.channel) c.commands.progress c.commands.senders c.next_due.new.self c.commands.buf c.next_due.new.buf (due.Sent c.in-Sent.past c.in-Sent.added c.in-Sent.price c.in-Sent.kind c.in-Sent.again)
     c.occasion_of-occasion.result c.place-place.result (c.occasion_of-occasion.ensures ∙ told-settled c.args.pace c.args.channel c.commands.flow c.commands.went) c.place-place.ensures c.in-Sent.ensures in
-    rw (c.refuses.ensures.asked, c.with-progress.ensures, c.went_with-went.ensures) (turn-goes c.commands.flow c.in-Sent.added c.in-Sent.price c.in-Sent.kind (c.commands.invariant s there) did (sym c.refuses.ensures.answer ∙ c.if-refuses.false))
+    rw (c.refuses.ensures.asked, c.with-progress.ensures, c.went_with-went.ensures, c.traffic_with-flow.ensures) (turn-goes c.commands.flow c.in-Sent.added c.in-Sent.price c.in-Sent.kind c.in-Sent.again (c.commands.invariant s there) did (sym c.refuses.ensures.answer ∙ c.if-refuses.false))
 
 pub commands-preserved-then-refuses : goal.commands-preserved-then-refuses
 commands-preserved-then-refuses c = λ s there.
-    let did = called c.args.pace c.args.channel (settled c.commands.flow c.commands.went c.args.channel) c.commands.progress c.commands.senders c.next_due.new.self c.commands.buf c.next_due.new.buf (due.Sent c.in-Sent.past c.in-Sent.added c.in-Sent.price c.in-Sent.kind)
+    let did = called c.args.pace c.args.channel (settled c.commands.flow c.commands.went c.args.channel) c.commands.progress c.commands.senders c.next_due.new.self c.commands.buf c.next_due.new.buf (due.Sent c.in-Sent.past c.in-Sent.added c.in-Sent.price c.in-Sent.kind c.in-Sent.again)
     c.occasion_of-occasion.result c.place-place.result (c.occasion_of-occasion.ensures ∙ told-settled c.args.pace c.args.channel c.commands.flow c.commands.went) c.place-place.ensures c.in-Sent.ensures in
-    rw c.refuses.ensures.asked (turn-drop c.in-Sent.past c.in-Sent.added c.in-Sent.price c.in-Sent.kind (c.commands.invariant s there) did (sym c.refuses.ensures.answer ∙ c.if-refuses.true) c.skip.ensures)
+    rw c.refuses.ensures.asked (turn-drop c.in-Sent.past c.in-Sent.added c.in-Sent.price c.in-Sent.kind c.in-Sent.again (c.commands.invariant s there) did (sym c.refuses.ensures.answer ∙ c.if-refuses.true) c.skip.ensures)
 
 pub commands-smaller : goal.commands-smaller
 commands-smaller c =
     let first = some-sender c.args.senders.now c.args.channel c.requires in
     let a = c.commands.invariant first.0 first.1 in
-    turn-falls c.args.pace c.args.channel (settled c.commands.flow c.commands.went c.args.channel) c.commands.progress c.commands.senders c.next_due.new.self c.commands.buf c.next_due.new.buf c.in-Sent.past c.in-Sent.added c.in-Sent.price c.in-Sent.kind a.s a.there
-    (called c.args.pace c.args.channel (settled c.commands.flow c.commands.went c.args.channel) c.commands.progress c.commands.senders c.next_due.new.self c.commands.buf c.next_due.new.buf (due.Sent c.in-Sent.past c.in-Sent.added c.in-Sent.price c.in-Sent.kind)
+    turn-falls c.args.pace c.args.channel (settled c.commands.flow c.commands.went c.args.channel) c.commands.progress c.commands.senders c.next_due.new.self c.commands.buf c.next_due.new.buf c.in-Sent.past c.in-Sent.added c.in-Sent.price c.in-Sent.kind c.in-Sent.again a.s a.there
+    (called c.args.pace c.args.channel (settled c.commands.flow c.commands.went c.args.channel) c.commands.progress c.commands.senders c.next_due.new.self c.commands.buf c.next_due.new.buf (due.Sent c.in-Sent.past c.in-Sent.added c.in-Sent.price c.in-Sent.kind c.in-Sent.again)
     c.occasion_of-occasion.result c.place-place.result (c.occasion_of-occasion.ensures ∙ told-settled c.args.pace c.args.channel c.commands.flow c.commands.went) c.place-place.ensures c.in-Sent.ensures)
 
 pub skip-requires : goal.skip-requires
@@ -50,9 +50,9 @@ pub commands-smaller-then-refuses : goal.commands-smaller-then-refuses
 commands-smaller-then-refuses c =
     let first = some-sender c.args.senders.now c.args.channel c.requires in
     let a = c.commands.invariant first.0 first.1 in
-    let did = called c.args.pace c.args.channel (settled c.commands.flow c.commands.went c.args.channel) c.commands.progress c.commands.senders c.next_due.new.self c.commands.buf c.next_due.new.buf (due.Sent c.in-Sent.past c.in-Sent.added c.in-Sent.price c.in-Sent.kind)
+    let did = called c.args.pace c.args.channel (settled c.commands.flow c.commands.went c.args.channel) c.commands.progress c.commands.senders c.next_due.new.self c.commands.buf c.next_due.new.buf (due.Sent c.in-Sent.past c.in-Sent.added c.in-Sent.price c.in-Sent.kind c.in-Sent.again)
     c.occasion_of-occasion.result c.place-place.result (c.occasion_of-occasion.ensures ∙ told-settled c.args.pace c.args.channel c.commands.flow c.commands.went) c.place-place.ensures c.in-Sent.ensures in
-    let falls = turn-falls c.args.pace c.args.channel (settled c.commands.flow c.commands.went c.args.channel) c.commands.progress c.commands.senders c.next_due.new.self c.commands.buf c.next_due.new.buf c.in-Sent.past c.in-Sent.added c.in-Sent.price c.in-Sent.kind a.s a.there did in
+    let falls = turn-falls c.args.pace c.args.channel (settled c.commands.flow c.commands.went c.args.channel) c.commands.progress c.commands.senders c.next_due.new.self c.commands.buf c.next_due.new.buf c.in-Sent.past c.in-Sent.added c.in-Sent.price c.in-Sent.kind c.in-Sent.again a.s a.there did in
     let r = did a.s a.there in
     let there : slice_get c.next_due.new.self c.args.channel ≡ Some r.0 = ap (λ (xs : List SendingEnd). slice_get xs c.args.channel) r.1.0 ∙ get-set c.commands.senders c.args.channel a.s r.0 a.there in
     let skip = skip-falls c.args.channel c.next_due.new.self c.skip.new.self r.0 there c.skip.ensures in
@@ -66,7 +66,7 @@ overflow_add-flow c =
     let is : o.transit ≡ c.commands.flow.transit = ap (λ (x : Occasion). x.transit) c.occasion_of-occasion.ensures in
     let low : o.transit < 4294967296 = omega arith in
     let most : o.most < 4294967296 = omega arith in
-    let fits = called-bytes c.args.channel o c.place-place.result c.commands.senders c.next_due.new.self c.commands.buf c.next_due.new.buf c.in-Sent.past c.in-Sent.added c.in-Sent.price c.in-Sent.kind a.s a.there
+    let fits = called-bytes c.args.channel o c.place-place.result c.commands.senders c.next_due.new.self c.commands.buf c.next_due.new.buf c.in-Sent.past c.in-Sent.added c.in-Sent.price c.in-Sent.kind c.in-Sent.again a.s a.there
     c.in-Sent.ensures 4294967296 low most in
     omega arith
 
@@ -78,7 +78,7 @@ overflow_add-flow-else-refuses c =
     let is : o.prices ≡ c.commands.flow.prices = ap (λ (x : Occasion). x.prices) c.occasion_of-occasion.ensures in
     let low : o.prices < 4294967296 = omega arith in
     let most : o.dearest < 4294967296 = omega arith in
-    let fits = called-prices c.args.channel o c.place-place.result c.commands.senders c.next_due.new.self c.commands.buf c.next_due.new.buf c.in-Sent.past c.in-Sent.added c.in-Sent.price c.in-Sent.kind a.s a.there
+    let fits = called-prices c.args.channel o c.place-place.result c.commands.senders c.next_due.new.self c.commands.buf c.next_due.new.buf c.in-Sent.past c.in-Sent.added c.in-Sent.price c.in-Sent.kind c.in-Sent.again a.s a.there
     c.in-Sent.ensures 4294967296 low most in
     omega arith
 
@@ -86,16 +86,16 @@ pub with-progress-requires-clause-within : goal.with-progress-requires-clause-wi
 with-progress-requires-clause-within c =
     let first = some-sender c.args.senders.now c.args.channel c.requires in
     let a = c.commands.invariant first.0 first.1 in
-    (called-room c.args.pace c.args.channel (settled c.commands.flow c.commands.went c.args.channel) c.commands.progress c.commands.senders c.next_due.new.self c.commands.buf c.next_due.new.buf c.in-Sent.past c.in-Sent.added c.in-Sent.price c.in-Sent.kind a.s a.there
-    (called c.args.pace c.args.channel (settled c.commands.flow c.commands.went c.args.channel) c.commands.progress c.commands.senders c.next_due.new.self c.commands.buf c.next_due.new.buf (due.Sent c.in-Sent.past c.in-Sent.added c.in-Sent.price c.in-Sent.kind)
+    (called-room c.args.pace c.args.channel (settled c.commands.flow c.commands.went c.args.channel) c.commands.progress c.commands.senders c.next_due.new.self c.commands.buf c.next_due.new.buf c.in-Sent.past c.in-Sent.added c.in-Sent.price c.in-Sent.kind c.in-Sent.again a.s a.there
+    (called c.args.pace c.args.channel (settled c.commands.flow c.commands.went c.args.channel) c.commands.progress c.commands.senders c.next_due.new.self c.commands.buf c.next_due.new.buf (due.Sent c.in-Sent.past c.in-Sent.added c.in-Sent.price c.in-Sent.kind c.in-Sent.again)
     c.occasion_of-occasion.result c.place-place.result (c.occasion_of-occasion.ensures ∙ told-settled c.args.pace c.args.channel c.commands.flow c.commands.went) c.place-place.ensures c.in-Sent.ensures)).1
 
 pub with-progress-requires-clause-more : goal.with-progress-requires-clause-more
 with-progress-requires-clause-more c =
     let first = some-sender c.args.senders.now c.args.channel c.requires in
     let a = c.commands.invariant first.0 first.1 in
-    (called-room c.args.pace c.args.channel (settled c.commands.flow c.commands.went c.args.channel) c.commands.progress c.commands.senders c.next_due.new.self c.commands.buf c.next_due.new.buf c.in-Sent.past c.in-Sent.added c.in-Sent.price c.in-Sent.kind a.s a.there
-    (called c.args.pace c.args.channel (settled c.commands.flow c.commands.went c.args.channel) c.commands.progress c.commands.senders c.next_due.new.self c.commands.buf c.next_due.new.buf (due.Sent c.in-Sent.past c.in-Sent.added c.in-Sent.price c.in-Sent.kind)
+    (called-room c.args.pace c.args.channel (settled c.commands.flow c.commands.went c.args.channel) c.commands.progress c.commands.senders c.next_due.new.self c.commands.buf c.next_due.new.buf c.in-Sent.past c.in-Sent.added c.in-Sent.price c.in-Sent.kind c.in-Sent.again a.s a.there
+    (called c.args.pace c.args.channel (settled c.commands.flow c.commands.went c.args.channel) c.commands.progress c.commands.senders c.next_due.new.self c.commands.buf c.next_due.new.buf (due.Sent c.in-Sent.past c.in-Sent.added c.in-Sent.price c.in-Sent.kind c.in-Sent.again)
     c.occasion_of-occasion.result c.place-place.result (c.occasion_of-occasion.ensures ∙ told-settled c.args.pace c.args.channel c.commands.flow c.commands.went) c.place-place.ensures c.in-Sent.ensures)).0
 
 pub returns-in-NoRoom : goal.returns-in-NoRoom

@@ -35,8 +35,9 @@ returns-in-Some-clause-outbox c =
     let apart : (c.args.channel == 0xFF) ≡ false = ne_eqb c.args.channel 255 (λ e. omega (arith, c.requires)) in
     let accepted = c.acknowledge_on.ensures.accepted in
     let grown = c.acknowledge.ensures in
-    let P : Sending → Type 0 = λ v. record o { senders = c.acknowledge_on.new.senders; allowance = c.acknowledge.new.self; kept = c.still_kept-self-inside.result } ≡ after_match matched.Data v.outbox c.args.channel c.args.number c.args.time in
+    let counted = c.with_acknowledged-self-inside.ensures in
+    let P : Sending → Type 0 = λ v. record o { senders = c.acknowledge_on.new.senders; allowance = c.acknowledge.new.self; kept = c.still_kept-self-inside.result; traffic = c.with_acknowledged-self-inside.result } ≡ after_match matched.Data v.outbox c.args.channel c.args.number c.args.time in
     subst P c.self.view_is
-    ((λ i. record o { senders = accepted i; allowance = grown i; kept = c.still_kept-self-inside.result })
+    ((λ i. record o { senders = accepted i; allowance = grown i; kept = c.still_kept-self-inside.result; traffic = counted i })
     ∙ accepted-some o c.args.channel c.args.number c.args.time c.in-Some.told c.still_kept-self-inside.result apart (sym c.in-Some.ensures.told)
     (λ s there. c.still_kept-self-inside.ensures s (ap (λ (ss : List SendingEnd). slice_get ss c.args.channel) accepted ∙ there)))

@@ -1,4 +1,4 @@
-use Rattle.std.proofs.Common.{◌≡◌, ◌+◌, Bool, not, length, map, take, refl, sym, ap, subst, ◌∙◌, Option, Some}
+use Rattle.std.proofs.Common.{◌≡◌, ◌+◌, Bool, true, not, length, map, take, refl, sym, ap, subst, ◌∙◌, Option, Some}
 use Rattle.std.specs.List.{slice_get}
 use Rattle.std.proofs.lemmas.List.{get_or_read}
 use Rattle.slab.specs.Slab.{get}
@@ -72,7 +72,7 @@ returns-clause-did c =
     let queued = ap (map command_of) (change-named g).2 in
     let next = ap (next_resent c.args.occasion s i) changed.0 ∙ next_resent-goes c.args.occasion s i c.in-Some.sent.now (sym c.has_room.ensures ∙ c.if-not-has_room.false) in
     let wants : Bool = due_lacks c.args.occasion (slice_get s.sent i) in
-    let P : Option Next → Type 0 = λ n. Did n wants (due.Sent c.in-Some-put.past c.counted-added.result.0 c.counted-added.result.1 c.due_kind-kind.result) old new (record { old = c.args.buf.now; at = c.args.at; new = c.put.new.buf }) in
+    let P : Option Next → Type 0 = λ n. Did n wants (due.Sent c.in-Some-put.past c.counted-added.result.0 c.counted-added.result.1 c.due_kind-kind.result true) old new (record { old = c.args.buf.now; at = c.args.at; new = c.put.new.buf }) in
     subst P (sym next) (
       c.in-Some-put.ensures.some,
       c.counted-added.ensures.bytes,
@@ -83,6 +83,7 @@ returns-clause-did c =
         sender = record { number = c.args.self.now.number; unreliable = c.args.self.now.unreliable; queued = queued j; sent = changed.1 j };
       },
       c.in-Some-put.ensures.message,
+      refl,
     )
 
 pub returns-clause-kept : goal.returns-clause-kept

@@ -1,4 +1,4 @@
-use Rattle.std.proofs.Common.{◌≡◌, ◌==◌, ◌&&◌, not, cond, Bool, [], length, drop, true, Option, Some, refl, sym, ap, subst, ◌∙◌}
+use Rattle.std.proofs.Common.{◌≡◌, ◌==◌, ◌&&◌, not, cond, Bool, [], length, drop, true, false, Option, Some, refl, sym, ap, subst, ◌∙◌}
 use Rattle.slab.specs.Slab.{get}
 use Rattle.enet_seq.specs.Numbering.{wire}
 use Rattle.enet_sender.specs.declared.outgoing.Due.TheVariants as due
@@ -39,7 +39,7 @@ returns-then-reliable-clause-did c =
     let is = head-queued at r.queued c.in-Some.key p (sym c.in-Some.ensures) (sym c.in-Some-get.ensures) in
     let next = goes (goal.at.returns-then-reliable-clause-did c).After-put c.if-not-may_go.false in
     let wants : Bool = head_lacks c.args.occasion (named (get c.args.pending.now.slab) c.args.self.now.sent.items) (commands_at (get c.args.pending.now.slab) c.args.self.now.queued.items) in
-    let P : Option Next → Type 0 = λ n. Did n wants (due.Sent c.in-Some-put.past c.counted-added.result.0 c.counted-added.result.1 c.due_kind-kind.result) (end_of c.args.pending.now.slab c.args.self.now) (end_of c.begin.new.pending.slab c.begin.new.self) (record { old = c.args.buf.now; at = c.args.at; new = c.put.new.buf }) in
+    let P : Option Next → Type 0 = λ n. Did n wants (due.Sent c.in-Some-put.past c.counted-added.result.0 c.counted-added.result.1 c.due_kind-kind.result false) (end_of c.args.pending.now.slab c.args.self.now) (end_of c.begin.new.pending.slab c.begin.new.self) (record { old = c.args.buf.now; at = c.args.at; new = c.put.new.buf }) in
     subst P (sym next) (
       c.in-Some-put.ensures.some,
       c.counted-added.ensures.bytes,
@@ -47,6 +47,7 @@ returns-then-reliable-clause-did c =
       c.due_kind-kind.ensures,
       c.begin.ensures.sends p (drop 1 (commands_at at r.queued)) (sym c.in-Some-get.ensures) is,
       c.in-Some-put.ensures.message,
+      refl,
     )
 
 pub returns-else-reliable-clause-did : goal.returns-else-reliable-clause-did
@@ -57,7 +58,7 @@ returns-else-reliable-clause-did c =
     let is = head-queued at r.queued c.in-Some.key p (sym c.in-Some.ensures) (sym c.in-Some-get.ensures) in
     let next = goes (goal.at.returns-else-reliable-clause-did c).After-put c.if-not-may_go.false in
     let wants : Bool = head_lacks c.args.occasion (named (get c.args.pending.now.slab) c.args.self.now.sent.items) (commands_at (get c.args.pending.now.slab) c.args.self.now.queued.items) in
-    let P : Option Next → Type 0 = λ n. Did n wants (due.Sent c.in-Some-put.past c.counted-added.result.0 c.counted-added.result.1 c.due_kind-kind.result) (end_of c.args.pending.now.slab c.args.self.now) (end_of c.leave.new.pending.slab c.leave.new.self) (record { old = c.args.buf.now; at = c.args.at; new = c.put.new.buf }) in
+    let P : Option Next → Type 0 = λ n. Did n wants (due.Sent c.in-Some-put.past c.counted-added.result.0 c.counted-added.result.1 c.due_kind-kind.result false) (end_of c.args.pending.now.slab c.args.self.now) (end_of c.leave.new.pending.slab c.leave.new.self) (record { old = c.args.buf.now; at = c.args.at; new = c.put.new.buf }) in
     subst P (sym next) (
       c.in-Some-put.ensures.some,
       c.counted-added.ensures.bytes,
@@ -65,6 +66,7 @@ returns-else-reliable-clause-did c =
       c.due_kind-kind.ensures,
       c.leave.ensures.sends c.args.occasion.now c.args.occasion.timeout p (drop 1 (commands_at at r.queued)) (sym c.in-Some-get.ensures) is,
       c.in-Some-put.ensures.message,
+      refl,
     )
 
 pub returns-in_default-clause-did : goal.returns-in_default-clause-did

@@ -37,7 +37,7 @@ invariant_of-self-in-Nothing c =
     let es = ends_in c.self.inside.pending c.self.inside.channels.items in
     let new = ends_in c.next_due_on-due.new.pending c.next_due_on-due.new.channels.items in
     let same : new ≡ es = same-unsent c.args.occasion es new c.args.channel due.Nothing c.args.buf.now c.args.at c.next_due_on-due.new.buf inside
-    (λ past added price kind is. absurd (cc)) c.in-Nothing.ensures.did in
+    (λ past added price kind again is. absurd (cc)) c.in-Nothing.ensures.did in
     record {
       kept = c.next_due_on-due.ensures.kept;
       sets = keeps-still c.self.inside.ready c.self.inside.flying _ new c.args.channel c.note_still.ensures.others
@@ -51,7 +51,7 @@ invariant_of-self-in-NoRoom c =
     let es = ends_in c.self.inside.pending c.self.inside.channels.items in
     let new = ends_in c.next_due_on-due.new.pending c.next_due_on-due.new.channels.items in
     let same : new ≡ es = same-unsent c.args.occasion es new c.args.channel due.NoRoom c.args.buf.now c.args.at c.next_due_on-due.new.buf inside
-    (λ past added price kind is. absurd (cc)) c.in-NoRoom.ensures.did in
+    (λ past added price kind again is. absurd (cc)) c.in-NoRoom.ensures.did in
     record {
       kept = c.next_due_on-due.ensures.kept;
       sets = subst (λ (xs : List SendingEnd). KeepsSets c.self.inside.ready c.self.inside.flying xs) (sym same) c.self.invariant.sets;
@@ -63,7 +63,7 @@ invariant_of-self-in-Full c =
     let es = ends_in c.self.inside.pending c.self.inside.channels.items in
     let new = ends_in c.next_due_on-due.new.pending c.next_due_on-due.new.channels.items in
     let same : new ≡ es = same-unsent c.args.occasion es new c.args.channel due.Full c.args.buf.now c.args.at c.next_due_on-due.new.buf inside
-    (λ past added price kind is. absurd (cc)) c.in-Full.ensures.did in
+    (λ past added price kind again is. absurd (cc)) c.in-Full.ensures.did in
     record {
       kept = c.next_due_on-due.ensures.kept;
       sets = subst (λ (xs : List SendingEnd). KeepsSets c.self.inside.ready c.self.inside.flying xs) (sym same) c.self.invariant.sets;

@@ -1,0 +1,8 @@
+use Rattle.std.proofs.Common.{append_assoc, refl}
+use Rattle.enet_metrics.specs.Readings.{sends_text}
+use Rattle.enet_metrics.proofs.reading.push_sends.Goals as goal
+
+pub returns : goal.returns
+unfolding sends_text
+returns c =
+    simp (append_assoc, c.in_ok-push_figure-2.ensures, c.in_ok-push_figure.ensures) refl
