@@ -1,13 +1,11 @@
 -- What a datagram that asks for a connection begins with.
-use Rattle.std.proofs.Common.{rules, ◌≡◌, ℕ, ◌≤◌, List, [], ◌∷◌, ◌++◌, length, take, drop, Option, Some, None, IfNone, IfSome, IsSomeAnd, refl, ap, sym, subst, ◌∙◌, arith}
+use Rattle.std.proofs.Common.{rules, ◌≡◌, ℕ, List, ◌++◌, length, take, drop, Option, Some, None, IfNone, IfSome, refl, ap, sym, subst, ◌∙◌, arith}
 use Rattle.std.proofs.lemmas.List.{take-append-drop, drop_at}
 use Rattle.std.proofs.lemmas.Option.{none-some}
 use Rattle.enet_codec.specs.declared.header.Header.{Header}
-use Rattle.enet_codec.specs.declared.command.Head.{Head}
 use Rattle.enet_codec.specs.declared.command.Offer.{Offer}
-use Rattle.enet_codec.specs.declared.command.Command.{Command}
 use Rattle.enet_codec.specs.Header.{SpellsHeader}
-use Rattle.enet_codec.specs.Message.{Body, Message, Spells, view, connect, acknowledge, verify_connect, disconnect, ping, send_reliable, send_unreliable, send_fragment, send_unsequenced, bandwidth_limit, throttle_configure, send_unreliable_fragment}
+use Rattle.enet_codec.specs.Message.{Body, Message, Spells, connect, acknowledge, verify_connect, disconnect, ping, send_reliable, send_unreliable, send_fragment, send_unsequenced, bandwidth_limit, throttle_configure, send_unreliable_fragment}
 use Rattle.enet_guard.specs.Asking.{Asks}
 use Rattle.enet_guard.specs.Private.Ids.{id_in}
 

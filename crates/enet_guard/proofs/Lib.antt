@@ -1,3 +1,4 @@
 pub mod Ids
 pub mod Passings
 pub mod Learning
+mod Rests

@@ -54,10 +54,10 @@ forgotten g = record g { half_open = filter (is_kept g.clock) g.half_open; recen
 abbrev pub is_again : Guarding → Addr → ℕ → Bool
 is_again g from connect_id = list_any (λ a. eqb a.address.ip from.ip && (eqb a.address.port from.port && eqb a.connect_id connect_id)) g.half_open
 
--- whether the rules leave room for another CONNECT of this address
+-- whether the rules leave room for another CONNECT of this address, and so does what is noted at most
 abbrev pub has_room : Guarding → ℕ → Bool
 has_room g ip = is_below (peers_at ip g) g.rules.peers_of_address && is_below (count_by (λ a. eqb a.address.ip ip) g.recent) g.rules.connects_of_address
-    && is_below (length g.recent) g.rules.connects && nat_lt (length g.half_open) 16384
+    && is_below (length g.recent) g.rules.connects && nat_lt (length g.half_open) 16384 && nat_lt (length g.recent) 16384
 
 -- whether a CONNECT from there passes: the address isn't banned, and it passed before, or there is room
 abbrev pub may_pass : Guarding → Addr → ℕ → Bool
@@ -66,10 +66,6 @@ may_pass g from connect_id = not (list_any (λ ip. eqb ip from.ip) g.banned) && 
 -- a moment later; the clock stops at the last one
 abbrev pub later : ℕ → ℕ → ℕ
 later clock ms = min (clock + ms) 18446744073709551615
-
--- whether one passes that did not pass before: only it is noted, which takes memory
-abbrev pub is_new : Guarding → Addr → ℕ → Bool
-is_new g from connect_id = may_pass g from connect_id && not (is_again g from connect_id)
 
 -- a CONNECT that passed counts as half-open for 8 seconds, and as recent for one
 abbrev pub noted : Guarding → Addr → ℕ → Guarding

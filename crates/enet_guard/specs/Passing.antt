@@ -1,12 +1,12 @@
 -- What a wire behind a guard gives.
-use Rattle.std.specs.Prelude.{◌≡◌, ◌⊎◌, ℕ, Bool, true, false, List, [], ◌∷◌, ◌++◌, length, map, take, Option, Some, None, Result, Ok, Err}
+use Rattle.std.specs.Prelude.{◌≡◌, ◌⊎◌, ℕ, true, false, List, [], ◌∷◌, ◌++◌, length, map, take, Option, Some, None, Result, Ok, Err}
 use Rattle.enet_codec.specs.declared.address.Addr.{Addr}
 use Rattle.enet_codec.specs.declared.refusal.Refusal.{Refusal}
 use Rattle.enet_wire.specs.declared.told.Told.{Told}
 use Rattle.enet_wire.specs.declared.told.Told.TheVariants.{Came, NothingCame}
 use Rattle.enet_wire.specs.Wires.{also, unless_spent}
 use Rattle.enet_guard.specs.Asking.{Asks}
-use Rattle.enet_guard.specs.Guarding.{Guarding, Judges, forgotten, has_no_rule, is_new}
+use Rattle.enet_guard.specs.Guarding.{Guarding, Judges, has_no_rule}
 
 -- a datagram passes: it is no CONNECT, or there is no rule, and then the guard stays as it is; or the guard lets the CONNECT pass
 abbrev pub Lets : Guarding → Addr → List ℕ → Guarding → Type 0
@@ -14,10 +14,9 @@ Lets old from bytes new =
     (((connect_id : ℕ) → Asks bytes connect_id → ⊥) × (new ≡ old))
     ⊎ (((has_no_rule old ≡ true) × (new ≡ old)) ⊎ ((connect_id : ℕ) × Asks bytes connect_id × Judges old from connect_id true new))
 
--- a datagram is passed over: it is a CONNECT, and the guard doesn't let it pass, or there was no memory to count it, as it would have to
+-- a datagram is passed over: it is a CONNECT, and the guard doesn't let it pass
 abbrev pub Refuses : Guarding → Addr → List ℕ → Guarding → Type 0
-Refuses old from bytes new = (connect_id : ℕ) × Asks bytes connect_id × (has_no_rule old ≡ false)
-    × (Judges old from connect_id false new ⊎ ((is_new (forgotten old) from connect_id ≡ true) × (new ≡ forgotten old)))
+Refuses old from bytes new = (connect_id : ℕ) × Asks bytes connect_id × (has_no_rule old ≡ false) × Judges old from connect_id false new
 
 -- datagrams that are passed over, one after another
 abbrev pub PassesOver : Guarding → List (Addr × List ℕ) → Guarding → Type 0

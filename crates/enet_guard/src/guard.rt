@@ -1,7 +1,8 @@
 //! The guard: whom it lets pass.
-ghost use Rattle.std.specs.Prelude.{◌≡◌, ◌<◌, length, IfSome, slice_get};
+ghost use Rattle.std.specs.Prelude.{◌≡◌, ◌<◌, ◌≤◌, ◌++◌, ◌∷◌, [], length, IfOk, IfSome, IfErr, slice_get, vec_capacity};
 ghost use Rattle.std.specs.List.{filter, position};
 ghost use Rattle.enet_guard.specs.Guarding.{is_below, is_seated_at, is_kept, is_known, is_other, is_of, is_same, without_first};
+ghost use Rattle.enet_guard.specs.Private.Room.{most_noted};
 
 use enet_codec::{Addr, Refusal};
 use std::alloc::Global;
@@ -14,8 +15,9 @@ const HALF_OPEN: u64 = 8_000;
 /// And against the limits of a second so many.
 const SECOND: u64 = 1_000;
 
-/// So many CONNECTs that passed and whose peers aren't connected are kept at most.
-const MOST_HALF_OPEN: usize = 16_384;
+/// So many CONNECTs that passed and whose peers aren't connected are noted at most, and so many that passed within a second. There is
+/// room for them from the start, so that nobody is kept out for want of memory.
+const MOST_NOTED: usize = 16_384;
 
 /// What is allowed. Where None stands there is no limit.
 #[derive(Clone, Copy)]
@@ -73,20 +75,26 @@ pub struct Guard {
 }
 
 impl Model for Guard {
+    ghost use Rattle.std.specs.Prelude.{◌≤◌, length, vec_capacity};
     ghost use Rattle.enet_guard.specs.Guarding.{Guarding};
+    ghost use Rattle.enet_guard.specs.Private.Room.{most_noted};
 
     ghost Value = { Guarding };
 
     ghost view = { λ g. record { rules = g.rules; banned = g.banned.items; seats = g.seats.items; half_open = g.half_open.items; recent = g.recent.items; clock = g.clock } };
+
+    ghost invariant = { λ g. (length g.half_open.items ≤ most_noted) × (length g.recent.items ≤ most_noted)
+        × (most_noted ≤ vec_capacity g.half_open) × (most_noted ≤ vec_capacity g.recent) };
 }
 
 impl Guard {
-    ghost use Rattle.std.specs.Prelude.{◌≡◌, ◌++◌, ◌∷◌, [], true, OnOk, OnErr, IfOk, IfErr, count_by};
+    ghost use Rattle.std.specs.Prelude.{◌≡◌, ◌<◌, ◌++◌, ◌∷◌, [], length, OnOk, OnErr, IfOk, IfErr, count_by};
     ghost use Rattle.std.specs.List.{filter, list_any};
     ghost use Rattle.std.specs.Prelude.{eqb};
-    ghost use Rattle.enet_guard.specs.Guarding.{new_guard, has_no_rule, forgotten, Judges, noted, is_again, is_new, has_room, is_other, peers_at, later, seated};
+    ghost use Rattle.enet_guard.specs.Guarding.{new_guard, has_no_rule, forgotten, Judges, noted, is_again, has_room, is_other, peers_at, later, seated};
+    ghost use Rattle.enet_guard.specs.Private.Room.{most_noted};
 
-    /// A guard with these rules for a host of so many slots, to which nothing came. E1 for want of memory.
+    /// A guard with these rules for a host of so many slots, to which nothing came, with room for all that it may note. E1 for want of memory.
     pub fn new(alloc: Global, rules: Rules, slots: u16) -> Result<Guard, Refusal>
         ensures new { IfOk result (λ guard. guard ≡ new_guard rules slots) }
         ensures memory { IfErr result (λ why. why ≡ Refusal.Memory) }
@@ -99,8 +107,8 @@ impl Guard {
             rules,
             banned: Vec::new(alloc),
             seats,
-            half_open: Vec::new(alloc),
-            recent: Vec::new(alloc),
+            half_open: with_room(alloc)?,
+            recent: with_room(alloc)?,
             clock: 0,
         })
     }
@@ -158,27 +166,22 @@ impl Guard {
         })
     }
 
-    /// Whether a CONNECT from there, with this connect id, passes; then it counts. One that comes again counts once.
-    ///
-    /// E1 for want of memory, only of one that passes and didn't before: then it is to be passed over, and doesn't count.
-    pub fn lets_pass(&mut self, from: Addr, connect_id: u32) -> Result<bool, Refusal>
-        ensures judged { IfOk result (λ passes. Judges self.old from connect_id passes self.new) }
-        ensures memory { IfErr result (λ why. why ≡ Refusal.Memory) }
-        ensures needed { OnErr result (is_new (forgotten self.old) from connect_id ≡ true) }
-        ensures same { OnErr result (self.new ≡ forgotten self.old) }
+    /// Whether a CONNECT from there, with this connect id, passes; then it counts. One that comes again counts once. It takes no memory.
+    pub fn lets_pass(&mut self, from: Addr, connect_id: u32) -> bool
+        ensures { Judges self.old from connect_id result self.new }
     {
         self.forget();
         if self.is_banned(from.ip) {
-            return Ok(false);
+            return false;
         }
         if self.is_again(from, connect_id) {
-            return Ok(true);
+            return true;
         }
         if !self.has_room(from.ip) {
-            return Ok(false);
+            return false;
         }
-        self.note(from, connect_id)?;
-        Ok(true)
+        self.note(from, connect_id);
+        true
     }
 
     // Whether the rules leave room for another CONNECT of this address.
@@ -188,7 +191,8 @@ impl Guard {
         is_below(self.peers_at(ip), self.rules.peers_of_address)
             && is_below(self.recent_of(ip), self.rules.connects_of_address)
             && is_below(self.recent.len(), self.rules.connects)
-            && self.half_open.len() < MOST_HALF_OPEN
+            && self.half_open.len() < MOST_NOTED
+            && self.recent.len() < MOST_NOTED
     }
 
     // How many CONNECTs of this address passed in the last second.
@@ -211,14 +215,11 @@ impl Guard {
     }
 
     // Counts a CONNECT that passes.
-    fn note(&mut self, from: Addr, connect_id: u32) -> Result<(), Refusal>
-        ensures noted { OnOk result (self.new ≡ noted self.old from connect_id) }
-        ensures memory { IfErr result (λ why. why ≡ Refusal.Memory) }
-        ensures same { OnErr result (self.new ≡ self.old) }
+    fn note(&mut self, from: Addr, connect_id: u32)
+        requires half_open { length self.old.half_open < most_noted }
+        requires recent { length self.old.recent < most_noted }
+        ensures { self.new ≡ noted self.old from connect_id }
     {
-        if self.half_open.reserve(1).is_err() || self.recent.reserve(1).is_err() {
-            return Err(Refusal::Memory);
-        }
         let clock = self.clock;
         self.half_open.push_reserved(Asked {
             address: from,
@@ -230,7 +231,6 @@ impl Guard {
             connect_id,
             until: clock.saturating_add(SECOND),
         });
-        Ok(())
     }
 
     /// So many milliseconds have passed.
@@ -264,16 +264,32 @@ fn let_go(banned: &mut Vec<u32>, ip: u32)
     banned.retain(|banned| *banned != ip);
 }
 
+// An empty list with room for all that may be noted.
+fn with_room(alloc: Global) -> Result<Vec<Asked>, Refusal>
+    ensures empty { IfOk result (λ asked. asked.items ≡ []) }
+    ensures room { IfOk result (λ asked. most_noted ≤ vec_capacity asked) }
+    ensures memory { IfErr result (λ why. why ≡ Refusal.Memory) }
+{
+    match Vec::with_capacity(alloc, MOST_NOTED) {
+        Ok(asked) => Ok(asked),
+        Err(_) => Err(Refusal::Memory),
+    }
+}
+
 // Keeps those that still count.
 fn keep_young(asked: &mut Vec<Asked>, clock: u64)
-    ensures { asked.new.items ≡ filter (is_kept clock) asked.old.items }
+    ensures kept { asked.new.items ≡ filter (is_kept clock) asked.old.items }
+    ensures fewer { length asked.new.items ≤ length asked.old.items }
+    ensures room { vec_capacity asked.new ≡ vec_capacity asked.old }
 {
     asked.retain(|asked| clock < asked.until);
 }
 
 // Drops the first one from there.
 fn drop_first(asked: &mut Vec<Asked>, address: Addr)
-    ensures { asked.new.items ≡ without_first address asked.old.items }
+    ensures dropped { asked.new.items ≡ without_first address asked.old.items }
+    ensures fewer { length asked.new.items ≤ length asked.old.items }
+    ensures room { vec_capacity asked.new ≡ vec_capacity asked.old }
 {
     if let Some(place) = place_of(asked.as_slice(), address) {
         asked.remove(place);

@@ -10,6 +10,7 @@ use crate::register::Register;
 use enet_codec::{Addr, Refusal};
 use enet_wire::{Journal, Note, SendOutcome, Wire};
 use std::alloc::Global;
+use std::marker::Model;
 use std::sync::{Arc, Wait};
 use std::time::Clock;
 
@@ -17,19 +18,31 @@ use std::time::Clock;
 const MOST_PASSED_OVER: u32 = 64;
 
 /// A wire that passes over the CONNECTs that its guard doesn't let pass. It tells what its own calls did, in a list that clauses alone
-/// read.
+/// read: that is what the wire inside told since then, less those CONNECTs. So nobody has the wire inside take or send a datagram but
+/// through the guard.
 #[derive(Drop)]
-pub struct Guarded<N> {
-    pub wire: N,
-    pub guard: Guard,
+pub struct Guarded<N: Wire> {
+    wire: N,
+    guard: Guard,
     register: Arc<Register, Global>,
     journal: Journal,
 }
 
-impl<N: Drop> Guarded<N> {
-    ghost use Rattle.std.specs.Prelude.{◌≡◌, [], None, IfOk, IfErr, replicate};
-    ghost use Rattle.enet_guard.specs.Guarding.{new_guard};
-    ghost use Rattle.enet_guard.specs.Journals.{told_of};
+impl<N: Wire> Model for Guarded<N> {
+    ghost use Rattle.enet_guard.specs.Journals.{BehindGuard, TellsTheRest};
+
+    ghost Value = { BehindGuard N };
+
+    ghost view = { λ g. record { wire = g.wire; guard = g.guard; told = g.journal.told } };
+
+    ghost invariant = { λ g. TellsTheRest (N.told g.wire) g.journal.told };
+}
+
+impl<N: Wire + Drop> Guarded<N> {
+    ghost use Rattle.std.specs.Prelude.{◌≡◌, ◌++◌, ◌∷◌, [], OnOk, OnErr, IfOk, IfErr};
+    ghost use Rattle.std.specs.List.{filter};
+    ghost use Rattle.enet_guard.specs.Guarding.{new_guard, is_other};
+    ghost use Rattle.enet_guard.specs.Journals.{told_of, TellsTheRest};
 
     /// The wire of a host of so many slots behind a guard with these rules, to which nothing came. E1 for want of memory.
     pub fn new(alloc: Global, wire: N, rules: Rules, slots: u16) -> Result<Guarded<N>, Refusal>
@@ -48,6 +61,30 @@ impl<N: Drop> Guarded<N> {
             register,
             journal: Journal::new(),
         })
+    }
+
+    /// The wire inside. It told what is told here, and CONNECTs that were passed over, and nothing else since it is behind the guard.
+    pub fn wire(&self) -> &N
+        ensures wire { result.now ≡ self.now.wire }
+        ensures tells { TellsTheRest (N.told self.now.wire) (told_of self.now) }
+    {
+        &self.wire
+    }
+
+    /// Has the guard let no CONNECT of this address pass from now on ([`Guard::ban`]). E1 for want of memory, and then nothing has changed.
+    pub fn ban(&mut self, ip: u32) -> Result<(), Refusal>
+        ensures banned { OnOk result (self.new ≡ record self.old { guard = record (self.old.guard) { banned = self.old.guard.banned ++ ip ∷ [] } }) }
+        ensures memory { IfErr result (λ why. why ≡ Refusal.Memory) }
+        ensures same { OnErr result (self.new ≡ self.old) }
+    {
+        self.guard.ban(ip)
+    }
+
+    /// Has the guard let the CONNECTs of this address pass again, as the rules say ([`Guard::unban`]).
+    pub fn unban(&mut self, ip: u32)
+        ensures { self.new ≡ record self.old { guard = record (self.old.guard) { banned = filter (is_other ip) self.old.guard.banned } } }
+    {
+        self.guard.unban(ip);
     }
 
     /// Where its guard is told who is connected. E1 where so many of them are held that no more can be counted.
@@ -134,9 +171,7 @@ impl<N: Wire> Wire for Guarded<N> {
         let spent = self.wire.failures() == u64::MAX;
         let ms = self.wire.wait(rt)?;
         self.guard.tick(ms);
-        if self.register.has_changed() {
-            learn(&mut self.guard, &self.register);
-        }
+        learn(&mut self.guard, &self.register);
         if !spent {
             self.journal = self.journal.and(&Note::Waited { ms });
         }
@@ -184,14 +219,17 @@ fn judge(guard: &mut Guard, from: Addr, bytes: &[u8]) -> bool
     }
     match asks(bytes) {
         None => true,
-        Some(connect_id) => guard.lets_pass(from, connect_id).unwrap_or(false),
+        Some(connect_id) => guard.lets_pass(from, connect_id),
     }
 }
 
-// Has the guard know who is connected in each slot.
+// Has the guard know who is connected in each slot, where something was told since it last knew.
 fn learn(guard: &mut Guard, register: &Register)
     ensures { HasLearned guard.old guard.new }
 {
+    if !register.has_changed() {
+        return;
+    }
     for slot in 0..register.len() {
         guard.seat(slot, register.seated(slot));
     }

@@ -29,6 +29,7 @@ use Rattle.enet_turn.specs.Run.{IsSound, AreCut, all_gave, all_told, all_puts, t
 use Rattle.enet_chat.specs.Relaying.{noted_all, relayed_all, SameForEach, AreBehind, AreFarBehind}
 use Rattle.enet_service.specs.declared.run_length.RunLength.{RunLength}
 use Rattle.enet_service.specs.ServiceRuns.{Lasts, LastsAtMost, IsCapacity, IsNotSettled}
+use Rattle.enet_serve.specs.Leaving.{OverWire, over}
 use Rattle.enet_serve.specs.declared.server.ChatServer.{ChatServer}
 use Rattle.enet_serve.specs.declared.server.Settings.{Settings}
 
@@ -55,6 +56,10 @@ waiting_of server = server.bound.service.waiting
 -- its service
 abbrev pub service_of : ChatServer → Service Host
 service_of server = record { host = host_of server; waiting = waiting_of server }
+
+-- over its wire
+abbrev pub over_wire : ChatServer → OverWire
+over_wire server = over (service_of server) (Some (told_of server)) (faults_of server)
 
 -- how many places each of its queues has
 abbrev pub queue_capacity_of : ChatServer → ℕ
@@ -88,9 +93,10 @@ config_of settings = record (standard_config (slots_of settings) settings.channe
   secret = settings.secret;
   gives_way = true;
   most = Some settings.peers;
+  of_address = settings.of_address;
 }
 
--- whether a server may have so many peers, and there are hosts with so many channels, this mtu and these lengths
+-- whether a server may have so many peers, and there are hosts with so many channels, this mtu, these lengths and this limit of an address
 abbrev pub is_in_range : Settings → Bool
 is_in_range settings = configs.is_in_range (config_of settings)
 

@@ -1,9 +1,9 @@
 //! How the clients of a server are told that it ends.
-ghost use Rattle.enet_serve.specs.Leaving.{TakesLeave};
+ghost use Rattle.enet_serve.specs.Leaving.{TakesLeave, over};
 ghost use Rattle.enet_serve.specs.Private.SeeingOff.{HasSeenOff, Idles};
 
 use enet_codec::{DisconnectMode, Event};
-use enet_service::{BoundService, Fault, MemorySource, Sink, Wire, run};
+use enet_service::{BoundService, MemorySource, Sink, Wire, run};
 use std::alloc::Global;
 use std::collections::VecDeque;
 use std::io;
@@ -21,9 +21,9 @@ pub(crate) fn take_leave<R: Wait + Clock, N: Wire + Drop>(
     alloc: Global,
     bound: &mut BoundService<N>,
 )
-    ensures leaves { TakesLeave bound.old.service bound.new.service }
+    ensures leaves { TakesLeave (over bound.old.service (N.told bound.old.wire) (N.faults bound.old.wire)) (over bound.new.service (N.told bound.new.wire) (N.faults bound.new.wire)) }
 {
-    if see_off(rt, alloc, bound).is_err() {
+    if see_off(rt, alloc, bound) {
         return;
     }
     if bound.service.host.disconnect_all(DisconnectMode::Now) > 0 {
@@ -31,20 +31,22 @@ pub(crate) fn take_leave<R: Wait + Clock, N: Wire + Drop>(
     }
 }
 
-// Takes turns until no peer is left, or the moment is over. Who connects meanwhile is asked to go, too.
+// Takes turns until no peer is left, or the moment is over. Who connects meanwhile is asked to go, too. Whether the wire failed.
 fn see_off<R: Wait + Clock, N: Wire + Drop>(
     rt: &R,
     alloc: Global,
     bound: &mut BoundService<N>,
-) -> Result<(), Fault>
-    ensures { HasSeenOff bound.old.service bound.new.service }
+) -> bool
+    ensures { HasSeenOff (over bound.old.service (N.told bound.old.wire) (N.faults bound.old.wire)) (over bound.new.service (N.told bound.new.wire) (N.faults bound.new.wire)) result }
 {
     let start = Instant::now(rt);
     for _ in rt.forever() {
         let peers = bound.service.host.disconnect_all(DisconnectMode::Later);
-        take_turn(rt, alloc, bound)?;
+        if take_turn(rt, alloc, bound) {
+            return true;
+        }
         if peers == 0 || is_over(rt, &start) {
-            return Ok(());
+            return false;
         }
     }
     unreachable!()
@@ -78,16 +80,15 @@ impl Sink for Nobody {
     fn announce(&self) {}
 }
 
-// A turn without orders, whose events nobody takes.
+// A turn without orders, whose events nobody takes. Whether the wire failed.
 fn take_turn<R: Wait + Clock, N: Wire + Drop>(
     rt: &R,
     alloc: Global,
     bound: &mut BoundService<N>,
-) -> Result<(), Fault>
-    ensures { Idles bound.old.service bound.new.service }
+) -> bool
+    ensures { Idles (over bound.old.service (N.told bound.old.wire) (N.faults bound.old.wire)) (over bound.new.service (N.told bound.new.wire) (N.faults bound.new.wire)) result }
 {
     let mut source = MemorySource::new(VecDeque::new(alloc));
     let BoundService { wire, service } = bound;
-    run(rt, service, wire, &mut source, &mut Nobody, 1)?;
-    Ok(())
+    run(rt, service, wire, &mut source, &mut Nobody, 1).is_err()
 }

@@ -24,12 +24,14 @@
 //! Besides:
 //! - A server opens with the standard host of its settings and with their limit on what is sent, behind a guard with their rules, with
 //!   nothing waiting ([`ChatServer::open`]). [`ChatServer::ban`] and [`ChatServer::unban`] change who is banned, and nothing else.
+//!   [`ChatServer::order`] changes the orders that wait, and nothing else.
 //! - Where it takes leave (`TakesLeave`), its turns are given no order, and between them, once at least, it parts from every peer that its host
-//!   has then, behind all that was sent, but for a last time. What the relay keeps is as before.
+//!   has then, behind all that was sent, but for a last time. After each parting comes a turn, unless the wire failed, and the wire told just
+//!   what these turns did. What the relay keeps is as before.
 //!
 //! # Only tested, or neither
 //!
-//! - By scripts/check/check-admission.sh: whom the guard of a server lets in.
+//! - By scripts/check/check-admission.sh: whom the guard of a server and its limit of an address let in.
 //! - By scripts/check/check-rows.sh and scripts/check/check-clients.sh: what real clients get, that a call ends, at which address a server
 //!   listens, what the system says where it can't, that the queues settle (no E16), that the server ends once its relay has, that its
 //!   clients are told of its end, and that the threads end.
@@ -37,7 +39,8 @@
 //!   `gauge` shows and `watch` is told; when the guard is told who is connected.
 //! - Of leave-taking: from which clients leave is taken, and when it gives them up. That the clock alone does that can't be said: the kit ties
 //!   no reading of the clock to anything that a contract could name.
-//! - What the socket told beside what the guard in front of the host told is said call by call alone (`enet_guard`).
+//! - Whom the guard keeps out while a server serves or takes leave: the turns say nothing of the wire but what it told and how often it failed.
+//!   What the socket told is what the guard in front of the host told, and the CONNECTs that this passed over (`TellsTheRest` of `enet_guard`).
 #![tactic(auto)]
 
 mod alone;

@@ -55,6 +55,9 @@ pub struct Settings {
     pub send_limit: Option<SendLimit>,
     /// How many bytes of datagrams the system is asked to keep until they are received; None for as many as [`MioWire`] asks for.
     pub receive_buffer: Option<u32>,
+    /// How many clients of one IP address there may be, also those that haven't confirmed yet: 1 to as many as its host has slots
+    /// (`Config::of_address`); None for as many as there are slots.
+    pub of_address: Option<u16>,
     /// Whom the guard in front of its host lets ask for a connection.
     pub rules: Rules,
     /// By what its host draws (`Config::secret`); with none it goes as ENet does.
@@ -85,6 +88,7 @@ impl Settings {
         config.secret = self.secret;
         config.gives_way = true;
         config.most = Some(self.peers);
+        config.of_address = self.of_address;
         config
     }
 }
@@ -104,12 +108,12 @@ impl ChatServer {
     ghost use Rattle.enet_guard.specs.Guarding.{is_other};
     ghost use Rattle.enet_service.specs.ServiceRuns.{AreNew, IsCapacity};
     ghost use Rattle.enet_turn.specs.LoneTurn.{beside, lone};
-    ghost use Rattle.enet_serve.specs.Serving.{Serves, IsCutOffBeside, IsCutOffAlone, EndsRun, IsNotServed, IsOpened, is_in_range, host_of, faults_of, told_of, guard_of, waiting_of, service_of, peers_of, backlog_of, orders_of, unsettled_of, queue_capacity_of};
+    ghost use Rattle.enet_serve.specs.Serving.{Serves, IsCutOffBeside, IsCutOffAlone, EndsRun, IsNotServed, IsOpened, is_in_range, host_of, faults_of, told_of, guard_of, waiting_of, over_wire, peers_of, backlog_of, orders_of, unsettled_of, queue_capacity_of};
     ghost use Rattle.enet_serve.specs.Leaving.{TakesLeave};
 
     /// A server at this address, with no peer.
     ///
-    /// E8 where `peers`, `channels`, `mtu`, `max_packet` or `max_waiting` is out of its range (`queue_capacity` is tested by
+    /// E8 where `peers`, `channels`, `mtu`, `max_packet`, `max_waiting` or `of_address` is out of its range (`queue_capacity` is tested by
     /// [`ChatServer::serve`]), E14 where the address can't be had, with what the system says of it, E1 for want of memory.
     pub fn open<R: Net + AllocGlobal>(rt: &R, settings: Settings) -> Result<ChatServer, Unopened>
         ensures out_of_range { is_in_range settings ≡ false → result ≡ Err (record { why = Refusal.BadConfig; reason = None }) }
@@ -166,7 +170,7 @@ impl ChatServer {
         ensures failed { IfErr result (λ why. why ≡ Refusal.WireFault → faults_of self.new ≡ faults_of self.old + 1) }
         ensures other { IfErr result (λ why. why ≢ Refusal.WireFault → faults_of self.new ≡ faults_of self.old) }
     {
-        let bell = self.bound.wire.wire.bell()?;
+        let bell = self.bound.wire.wire().bell()?;
         let register = self.bound.wire.register()?;
         let mut watch = Registrar { register, watch };
         let Queues {
@@ -208,7 +212,7 @@ impl ChatServer {
         ensures failed { IfErr result (λ why. why ≡ Refusal.WireFault → faults_of self.new ≡ faults_of self.old + 1) }
         ensures other { IfErr result (λ why. why ≢ Refusal.WireFault → faults_of self.new ≡ faults_of self.old) }
     {
-        let bell = self.bound.wire.wire.bell()?;
+        let bell = self.bound.wire.wire().bell()?;
         let register = self.bound.wire.register()?;
         let mut watch = Registrar { register, watch };
         let kept = mem::replace(&mut self.kept, Carryover::new(self.alloc));
@@ -298,6 +302,7 @@ impl ChatServer {
         ensures same { OnErr result ((orders_of self.new ≡ orders_of self.old) × (orders.new.items ≡ orders.old.items)) }
         ensures memory { IfErr result (λ why. why ≡ Refusal.Memory) }
         ensures host { (host_of self.new ≡ host_of self.old) × (waiting_of self.new ≡ waiting_of self.old) × (faults_of self.new ≡ faults_of self.old) }
+        ensures guard { guard_of self.new ≡ guard_of self.old }
         ensures told { told_of self.new ≡ told_of self.old }
         ensures relay { (peers_of self.new ≡ peers_of self.old) × (backlog_of self.new ≡ backlog_of self.old) × (unsettled_of self.new ≡ unsettled_of self.old) × (queue_capacity_of self.new ≡ queue_capacity_of self.old) }
     {
@@ -318,7 +323,7 @@ impl ChatServer {
         ensures told { told_of self.new ≡ told_of self.old }
         ensures relay { (peers_of self.new ≡ peers_of self.old) × (backlog_of self.new ≡ backlog_of self.old) × (orders_of self.new ≡ orders_of self.old) × (unsettled_of self.new ≡ unsettled_of self.old) × (queue_capacity_of self.new ≡ queue_capacity_of self.old) }
     {
-        self.bound.wire.guard.ban(ip)
+        self.bound.wire.ban(ip)
     }
 
     /// Lets the CONNECTs of this address pass again, as the rules say.
@@ -328,7 +333,7 @@ impl ChatServer {
         ensures told { told_of self.new ≡ told_of self.old }
         ensures relay { (peers_of self.new ≡ peers_of self.old) × (backlog_of self.new ≡ backlog_of self.old) × (orders_of self.new ≡ orders_of self.old) × (unsettled_of self.new ≡ unsettled_of self.old) × (queue_capacity_of self.new ≡ queue_capacity_of self.old) }
     {
-        self.bound.wire.guard.unban(ip);
+        self.bound.wire.unban(ip);
     }
 
     /// What tells how many CONNECTs the guard passed over. E1 where so many of it are held that no more can be counted.
@@ -347,7 +352,7 @@ impl ChatServer {
 
     /// How many bytes of datagrams the system keeps until they are received, as [`MioWire::receive_buffer`] tells.
     pub fn receive_buffer(&self) -> Option<u32> {
-        self.bound.wire.wire.receive_buffer()
+        self.bound.wire.wire().receive_buffer()
     }
 
     /// Why nothing was kept of the last run, which E14 ended: its queues weren't settled, by E1 or E16. None where all was kept.
@@ -359,14 +364,14 @@ impl ChatServer {
 
     /// What the system said where the wire failed.
     pub fn reason(&self) -> Option<io::Error> {
-        self.bound.wire.wire.reason()
+        self.bound.wire.wire().reason()
     }
 
     /// Tells each client that the server ends, behind all that was sent to it, and gives them a second to acknowledge it; who is left by then
     /// is cut off. No order is given in these turns. Where the wire fails nobody is told. The relay isn't told of these ends, and keeps its
     /// peers, its events and its orders: nothing is served after it.
     pub fn take_leave<R: Wait + Clock>(&mut self, rt: &R)
-        ensures leaves { TakesLeave (service_of self.old) (service_of self.new) }
+        ensures leaves { TakesLeave (over_wire self.old) (over_wire self.new) }
         ensures peers { peers_of self.new ≡ peers_of self.old }
         ensures kept { (backlog_of self.new ≡ backlog_of self.old) × (orders_of self.new ≡ orders_of self.old) × (unsettled_of self.new ≡ unsettled_of self.old) }
         ensures queues { queue_capacity_of self.new ≡ queue_capacity_of self.old }

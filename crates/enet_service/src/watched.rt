@@ -7,6 +7,7 @@ ghost use Rattle.enet_submit.specs.declared.order.Order.TheVariants as orders;
 ghost use Rattle.enet_service.specs.Lacking.{is_lacked};
 
 use crate::Core;
+use crate::sends::Sends;
 use enet_codec::{Addr, Config, DisconnectMode, Event, PeerRef, RELIABLE, Refusal, Stop};
 use enet_host::HostCore;
 use enet_peer::Ending;
@@ -77,6 +78,7 @@ pub struct WatchedHost {
     // How many datagrams were stopped so far, and how many orders refused, by the number of the reason.
     stops: [u64; 14],
     refusals: [u64; 10],
+    sends: Sends,
 }
 
 impl Model for WatchedHost {
@@ -116,6 +118,9 @@ impl WatchedHost {
         if met.resize(slots, None).is_err() || lacking.resize(slots, None).is_err() {
             return Err(Refusal::Memory);
         }
+        let Ok(sends) = Sends::new(alloc, slots) else {
+            return Err(Refusal::Memory);
+        };
         Ok(WatchedHost {
             host: HostCore::open(alloc, config)?,
             met,
@@ -128,6 +133,7 @@ impl WatchedHost {
             refused: 0,
             stops: [0; 14],
             refusals: [0; 10],
+            sends,
         })
     }
 
@@ -170,6 +176,17 @@ impl WatchedHost {
     /// How many orders were refused so far for the reason of this number: 1 for E1 to 9 for E9. A host has no other reason; 0 of others.
     pub fn refusals(&self, number: u8) -> u64 {
         self.refusals.get(usize::from(number)).copied().unwrap_or(0)
+    }
+
+    /// How often commands with data that ask for an acknowledgement went so far to all peers, those that are gone too; each time that one
+    /// goes, first or again. 2^64 - 1 of more.
+    pub fn sends(&self) -> u64 {
+        self.sends.sends()
+    }
+
+    /// How many of these times the command had gone before.
+    pub fn resends(&self) -> u64 {
+        self.sends.resends()
     }
 
     /// By their slots, the peers whose connection was told and whose end wasn't.
@@ -367,7 +384,9 @@ impl Core for WatchedHost {
     }
 
     fn emit(&mut self, buf: &mut [u8; 4096]) -> Option<(Addr, usize)> {
-        self.host.emit(buf)
+        let (peer, to, len) = self.host.service(buf)?;
+        self.sends.count(&self.host, peer);
+        Some((to, len))
     }
 
     fn next_event(&mut self) -> Option<Event> {

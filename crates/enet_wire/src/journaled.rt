@@ -1,4 +1,4 @@
-//! A socket that keeps a journal.
+//! A socket that keeps a journal: all that asks the system for datagrams, or about the socket.
 ghost use Rattle.std.specs.Prelude.{◌≡◌, ◌++◌, [], ◌<◌, ◌≤◌, true, Some, None, Ok, IfOk, IfErr, IfSome};
 ghost use Rattle.enet_wire.specs.Journals.{is_answerable, plain, sender};
 ghost use Rattle.enet_wire.specs.Private.Noted.{gave, noted_at};
@@ -7,13 +7,18 @@ ghost use Rattle.enet_wire.specs.Wires.{came, went, waited};
 use crate::journal::{Journal, Note};
 use crate::wire::SendOutcome;
 use enet_codec::Addr;
+use libc::net as c;
 use mio::net::UdpSocket;
+use mio::{Interest, Registry, Token};
 use std::io;
-use std::net::{IpAddr, Ipv4Addr, SocketAddr};
+use std::net::{IpAddr, Ipv4Addr, Net, SocketAddr};
 use std::os::fd::{AsRawFd, RawFd};
 
 /// In a call so many datagrams that can't be answered are passed over at most, so that they don't keep a turn from its other work.
 const MOST_PASSED_OVER: u32 = 64;
+
+/// How many bytes of datagrams the system is asked to keep until they are received, and as many until they are sent.
+const BUFFER: u32 = 4_194_304;
 
 /// A UDP socket with a journal, to which nobody else has the socket. That a datagram came or went is noted by [`receive`] and [`send`]
 /// alone, with what the system answered: what these two functions note of it is trusted.
@@ -24,14 +29,40 @@ pub(crate) struct JournaledSocket {
 }
 
 impl JournaledSocket {
-    /// The socket, of which nothing is noted.
-    pub(crate) fn new(socket: UdpSocket) -> JournaledSocket
-        ensures { noted_at result ≡ [] }
+    /// A socket at this address, at port 0 at one that the system chooses, with buffers of 4 MB where the system grants that. The registry
+    /// tells by this token that a datagram came. Of the socket nothing is noted.
+    pub(crate) fn bind<R: Net>(
+        rt: &R,
+        addr: Addr,
+        registry: &Registry,
+        token: Token,
+    ) -> io::Result<JournaledSocket>
+        ensures { IfOk result (λ socket. noted_at socket ≡ []) }
     {
-        JournaledSocket {
+        let mut socket = UdpSocket::bind(rt, socket_addr(addr))?;
+        widen(socket.as_raw_fd());
+        registry.register(&mut socket, token, Interest::READABLE)?;
+        Ok(JournaledSocket {
             socket,
             journal: Journal::new(),
+        })
+    }
+
+    /// How many bytes of datagrams the system keeps until they are received, as it tells. None where it doesn't tell.
+    pub(crate) fn receive_buffer(&self) -> Option<u32> {
+        let mut value = [0u8; 16];
+        let mut len = 4u32;
+        let fd = self.socket.as_raw_fd();
+        let told = unsafe { c::getsockopt(fd, c::SOL_SOCKET, c::SO_RCVBUF, &mut value, &mut len) };
+        if told != 0 {
+            return None;
         }
+        Some(u32::from_ne_bytes([value[0], value[1], value[2], value[3]]))
+    }
+
+    /// Asks the system to keep so many bytes of datagrams until they are received. It may keep fewer, which is no fault.
+    pub(crate) fn set_receive_buffer(&self, bytes: u32) {
+        widen_incoming(self.socket.as_raw_fd(), bytes);
     }
 
     /// Has the system give the next datagram that can be answered. Others are passed over, and not noted. None where 64 were passed over,
@@ -106,15 +137,30 @@ impl JournaledSocket {
     {
         self.journal = self.journal.and(&Note::Waited { ms });
     }
-
-    /// By which the system knows the socket.
-    pub(crate) fn fd(&self) -> RawFd {
-        self.socket.as_raw_fd()
-    }
 }
 
-/// An address as the system has it.
-pub(crate) fn socket_addr(addr: Addr) -> SocketAddr
+// Asks the system to keep more datagrams that weren't received yet, or didn't leave yet. It may keep fewer, which is no fault.
+fn widen(fd: RawFd) {
+    widen_incoming(fd, BUFFER);
+    let value = option_value(BUFFER);
+    let _ = unsafe { c::setsockopt(fd, c::SOL_SOCKET, c::SO_SNDBUF, &value, 4) };
+}
+
+// Asks it to keep so many bytes that weren't received yet.
+fn widen_incoming(fd: RawFd, bytes: u32) {
+    let value = option_value(bytes);
+    let _ = unsafe { c::setsockopt(fd, c::SOL_SOCKET, c::SO_RCVBUF, &value, 4) };
+}
+
+// A number as an option of a socket has it.
+fn option_value(number: u32) -> [u8; 16] {
+    let mut value = [0u8; 16];
+    value[..4].copy_from_slice(&number.to_ne_bytes());
+    value
+}
+
+// An address as the system has it.
+fn socket_addr(addr: Addr) -> SocketAddr
     ensures { plain result ≡ Some addr }
 {
     SocketAddr::from((Ipv4Addr::from_bits(addr.ip), addr.port))

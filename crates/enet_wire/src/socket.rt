@@ -1,19 +1,17 @@
 //! A UDP socket as a wire.
 ghost use Rattle.std.specs.Prelude.{◌≡◌, [], ◌⊎◌, ◌↔◌, ◌+◌, ◌<◌, Err, IfOk, IfErr, IsSome, None, Some};
+ghost use Rattle.enet_wire.specs.Private.Noted.{noted_at};
 ghost use Rattle.enet_wire.specs.Socket.{bell_of, failures_of, reason_of, told_of};
 ghost use Rattle.std.specs.Arc.{arc_value};
 
 use crate::bell::Bell;
-use crate::journaled::{JournaledSocket, socket_addr};
+use crate::journaled::JournaledSocket;
 use crate::wire::{MOST_LOST_PER_TURN, MOST_PER_TURN, SendOutcome, Wire};
 use enet_codec::{Addr, Refusal};
-use libc::net as c;
-use mio::net::UdpSocket;
-use mio::{Events, Interest, Poll, Token};
+use mio::{Events, Poll, Token};
 use std::alloc::Global;
 use std::io::ErrorKind;
 use std::net::Net;
-use std::os::fd::{AsRawFd, RawFd};
 use std::sync::{Arc, Wait};
 use std::time::{Clock, Duration, Instant};
 use std::{io, thread};
@@ -31,9 +29,6 @@ const LONGEST_BLOCKED: u64 = 1;
 const MOMENT: u64 = 200;
 
 const LOOKS: u32 = 1000;
-
-/// How many bytes of datagrams the system is asked to keep until they are received, and as many until they are sent.
-const BUFFER: u32 = 4_194_304;
 
 /// Why there is no socket.
 #[derive(Clone, Copy)]
@@ -121,7 +116,7 @@ impl MioWire {
             return Err(Unopened::from(Refusal::Memory));
         };
         Ok(MioWire {
-            socket: JournaledSocket::new(socket),
+            socket,
             poll,
             events,
             bell,
@@ -151,20 +146,13 @@ impl MioWire {
     /// How many bytes of datagrams the system keeps until they are received, as it tells: Linux tells twice as many as it granted,
     /// for what it needs beside them. None where it doesn't tell.
     pub fn receive_buffer(&self) -> Option<u32> {
-        let mut value = [0u8; 16];
-        let mut len = 4u32;
-        let fd = self.socket.fd();
-        let told = unsafe { c::getsockopt(fd, c::SOL_SOCKET, c::SO_RCVBUF, &mut value, &mut len) };
-        if told != 0 {
-            return None;
-        }
-        Some(u32::from_ne_bytes([value[0], value[1], value[2], value[3]]))
+        self.socket.receive_buffer()
     }
 
     /// Asks the system to keep so many bytes of datagrams until they are received, in place of 4 MB. It may keep fewer
     /// ([`MioWire::receive_buffer`] tells), which is no fault.
     pub fn set_receive_buffer(&self, bytes: u32) {
-        widen_incoming(self.socket.fd(), bytes);
+        self.socket.set_receive_buffer(bytes);
     }
 
     /// What the system said at the last call that answered E14.
@@ -272,34 +260,13 @@ impl MioWire {
     }
 }
 
-fn opened<R: Net>(rt: &R, addr: Addr) -> io::Result<(UdpSocket, Poll, Bell)> {
+fn opened<R: Net>(rt: &R, addr: Addr) -> io::Result<(JournaledSocket, Poll, Bell)>
+    ensures { IfOk result (λ opened. noted_at opened.0 ≡ []) }
+{
     let poll = Poll::new(rt)?;
-    let mut socket = UdpSocket::bind(rt, socket_addr(addr))?;
-    widen(socket.as_raw_fd());
-    poll.registry()
-        .register(&mut socket, SOCKET, Interest::READABLE)?;
+    let socket = JournaledSocket::bind(rt, addr, poll.registry(), SOCKET)?;
     let bell = Bell::new(poll.registry())?;
     Ok((socket, poll, bell))
-}
-
-// Asks the system to keep more datagrams that weren't received yet, or didn't leave yet. It may keep fewer, which is no fault.
-fn widen(fd: RawFd) {
-    widen_incoming(fd, BUFFER);
-    let value = option_value(BUFFER);
-    let _ = unsafe { c::setsockopt(fd, c::SOL_SOCKET, c::SO_SNDBUF, &value, 4) };
-}
-
-// Asks it to keep so many bytes that weren't received yet.
-fn widen_incoming(fd: RawFd, bytes: u32) {
-    let value = option_value(bytes);
-    let _ = unsafe { c::setsockopt(fd, c::SOL_SOCKET, c::SO_RCVBUF, &value, 4) };
-}
-
-// A number as an option of a socket has it.
-fn option_value(number: u32) -> [u8; 16] {
-    let mut value = [0u8; 16];
-    value[..4].copy_from_slice(&number.to_ne_bytes());
-    value
 }
 
 // Why a datagram didn't leave.

@@ -1,36 +1,47 @@
 -- The steps of taking leave.
-use Rattle.std.specs.Prelude.{◌≡◌, ◌≤◌, List, [], ◌∷◌, length}
+use Rattle.std.specs.Prelude.{◌≡◌, ◌⊎◌, ◌+◌, ◌≤◌, Bool, false, List, [], ◌∷◌, length}
 use Rattle.enet_codec.specs.declared.event.DisconnectMode.TheVariants.{Later}
-use Rattle.enet_host.specs.Host.{Host}
-use Rattle.enet_turn.specs.declared.service.Service.{Service}
+use Rattle.enet_wire.specs.Wires.{also, unless_spent}
+use Rattle.enet_turn.specs.Counts.{count_of}
 use Rattle.enet_turn.specs.Phases.{Chain}
 use Rattle.enet_service.specs.Queues.{given}
-use Rattle.enet_turn.specs.Run.{all_gave}
+use Rattle.enet_turn.specs.Run.{all_gave, all_told}
 use Rattle.enet_service.specs.ServiceRuns.{TakesTurns}
 use Rattle.enet_turn.specs.Spans.{Span, rounds_in}
 use Rattle.enet_turn.specs.Turn.{Round}
-use Rattle.enet_serve.specs.Leaving.{PartsFromAll}
+use Rattle.enet_serve.specs.Leaving.{OverWire, PartsFromAll, HaveTurns}
 
--- turns that are given no order
-pub record Idles (old new : Service Host) : Type 0 where
+-- turns that are given no order: one at least, unless the wire fails
+pub record Idles (old new : OverWire) (fails : Bool) : Type 0 where
   pub rounds : List Round
-  pub turns : TakesTurns old rounds new
+  pub turns : TakesTurns old.service rounds new.service
   pub no_orders : given (all_gave rounds) ≡ []
+  pub told : new.told ≡ also old.told (unless_spent old.faults (all_told rounds))
+  pub faults : new.faults ≡ old.faults + count_of fails
+  pub some : fails ≡ false → 1 ≤ length rounds
 
 abbrev pub AreLater : List Span → Type 0
 AreLater [] = Unit {0}
 AreLater (s ∷ spans) = (s.how ≡ Later) × AreLater spans
 
--- such turns, between them everybody is parted from behind all that was sent, and such turns after that
-pub record SeesOff (old new : Service Host) : Type 0 where
-  pub spans : List Span
-  pub between : Service Host
-  pub acts : Chain PartsFromAll old spans between
-  pub no_orders : given (all_gave (rounds_in spans)) ≡ []
-  pub later : AreLater spans
-  pub last : Idles between new
+-- all but the first of them have a turn
+abbrev pub Follow : List Span → Type 0
+Follow [] = Unit {0}
+Follow (s ∷ spans) = HaveTurns spans
 
--- at least once
-pub record HasSeenOff (old new : Service Host) : Type 0 where
-  pub off : SeesOff old new
-  pub asked : 1 ≤ length off.spans
+-- such turns, between them everybody is parted from behind all that was sent, and such turns after that
+pub record HasSeenOff (old new : OverWire) (fails : Bool) : Type 0 where
+  pub spans : List Span
+  pub between : OverWire
+  pub acts : Chain PartsFromAll old.service spans between.service
+  pub no_orders : given (all_gave (rounds_in spans)) ≡ []
+  pub told : between.told ≡ also old.told (unless_spent old.faults (all_told (rounds_in spans)))
+  pub faults : between.faults ≡ old.faults
+  pub later : AreLater spans
+  pub follow : Follow spans
+  pub asked : 1 ≤ length spans
+  pub last : Idles between new fails
+
+-- nothing yet, or that
+abbrev pub SeesOff : OverWire → OverWire → Type 0
+SeesOff old new = (new ≡ old) ⊎ HasSeenOff old new false

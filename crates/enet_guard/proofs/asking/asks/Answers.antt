@@ -1,4 +1,4 @@
-use Rattle.std.proofs.Common.{◌≡◌, ◌∙◌, ap, sym}
+use Rattle.std.proofs.Common.{◌∙◌}
 use Rattle.std.proofs.lemmas.List.{take_rest}
 use Rattle.enet_codec.specs.Message.{view}
 use Rattle.enet_guard.proofs.Ids.{asks_if, asks_not, asks_else, if_none}
