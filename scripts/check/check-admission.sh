@@ -57,18 +57,56 @@ answered() {
     fail "$2" "no answer like $1: $(<"$room/out")"
 }
 
-# Two of an address are in at once, whatever their ports, and a third once one has gone; another address has its own two.
+# How many clients at the address $2 the server has; the case is $1.
+has() {
+    local before answer
+    before=$(wc -l < "$room/out")
+    echo peers >&8
+    for _ in {1..50}; do
+        answer=$(tail -n "+$((before + 1))" "$room/out")
+        grep -q '^peers ' <<< "$answer" && break
+        sleep 0.1
+    done
+    answer=$(grep -c " at ${2//./\\.}:" <<< "$answer")
+    if [ "$answer" = "$3" ]; then passed=$((passed + 1)); else fail "$1 in $threads threads" "$answer at $2 where $3 are wanted"; fi
+}
+
+# Two of an address are in at most, whatever their ports and however many ask at once; another address has its own two. (One that was answered
+# and gave way before it confirmed believes for a while that it is in.) Where two are in, those that come later get no answer, and end nobody;
+# once both have gone, another gets in.
 per_address() {
     begin --per-address 2
     knock 127.0.0.1 5 3 five
-    knock 127.0.0.2 2 3 two
+    knock 127.0.0.2 2 5 two
+    sleep 2
+    has per-address-at-once 127.0.0.1 2
+    has per-address-at-once 127.0.0.2 2
+    sleep 2
+    knock 127.0.0.1 1 4 first
+    sleep 0.3
+    knock 127.0.0.1 1 4 second
+    sleep 0.3
+    knock 127.0.0.1 3 2 late
     await
-    says per-address five '2 connected 0 ended'
     says per-address two '2 connected 0 ended'
-    sleep 9
-    knock 127.0.0.1 1 2 one
+    says per-address first '1 connected 0 ended'
+    says per-address second '1 connected 0 ended'
+    says per-address late '0 connected 0 ended'
+    knock 127.0.0.1 1 2 again
     await
-    says per-address-again one '1 connected 0 ended'
+    says per-address-again again '1 connected 0 ended'
+    finish
+}
+
+# CONNECTs that are forged from an address, fewer than it may have within a round trip, keep nobody out there.
+forged_from_its_own() {
+    begin --per-address 4
+    "$room/forge" "$port" 20 4 127.0.0.9 > "$room/forged" &
+    sleep 1
+    knock 127.0.0.9 1 2 own
+    await
+    says forged-from-its-own own '1 connected 0 ended'
+    wait %?forge
     finish
 }
 
@@ -186,6 +224,7 @@ else
         no_rule
         per_address
         forged_from_one
+        forged_from_its_own
         connects_per_address
         connects_per_second
         ban

@@ -1,7 +1,7 @@
 //! The settings of a host.
 
 ghost use Rattle.std.specs.Prelude.{◌≡◌};
-ghost use Rattle.enet_codec.specs.Config.{admitting, is_admissible, is_in_range, is_most_in_range, standard_config};
+ghost use Rattle.enet_codec.specs.Config.{admitting, is_admissible, is_in_range, is_limit_in_range, standard_config};
 
 use crate::limits::MAX_PEERS;
 use std::fmt;
@@ -59,9 +59,14 @@ pub struct Config {
     /// How many peers that began by a CONNECT may be connected or leaving at once: 1 to `peers`; with none said as many as there are slots.
     /// A client that confirms where as many are there is told that the host is full, and let go, with no event (our profile).
     pub most: Option<u16>,
+    /// How many peers that began by a CONNECT there may be at once of one IP address, whatever their ports: 1 to `peers`; with none said as
+    /// many as there are slots. A CONNECT that comes where as many are there takes the slot of the one of them that has been waiting longest
+    /// for its client: that peer is let go, with no event. It is stopped where none of them waits (our profile). This, too, wants
+    /// 4,294,967,295 `generations`.
+    pub of_address: Option<u16>,
 }
 
-/// What the user of a host sets of whom it lets in (`Config::gives_way`, `Config::most`).
+/// What the user of a host sets of whom it lets in (`Config::gives_way`, `Config::most`, `Config::of_address`).
 #[derive(Clone, Copy, Debug, PartialEq, Eq)]
 pub enum Admission {
     /// From now on the peer which has been waiting longest for its client gives way where no slot is free. See `Config::gives_way` for the
@@ -72,12 +77,17 @@ pub enum Admission {
         /// How many.
         peers: u16,
     },
+    /// So many peers of one IP address that began by a CONNECT may be there: 1 to the number of slots. See `Config::of_address`.
+    OfAddress {
+        /// How many.
+        peers: u16,
+    },
 }
 
 impl Config {
     /// The settings that serve most hosts: an mtu of 1,392 bytes (libenet 1.3.18's default), no bandwidth limits, 33,554,432 bytes each for a
     /// packet and for what waits, 1,000,000 generations, a clock that begins at 0, and no secret; no peer gives way, and as many as there
-    /// are slots may be connected. It tests nothing: what opens a host does.
+    /// are slots may be connected, and of one address. It tests nothing: what opens a host does.
     pub fn standard(peers: u16, channels: u8) -> Config
         ensures { result ≡ standard_config peers channels }
     {
@@ -94,6 +104,7 @@ impl Config {
             secret: None,
             gives_way: false,
             most: None,
+            of_address: None,
         }
     }
 
@@ -107,14 +118,18 @@ impl Config {
         let mtu = (MIN_MTU..=MAX_MTU).contains(&self.mtu);
         let bytes = (1..=MAX_BYTES).contains(&self.max_packet)
             && (1..=MAX_BYTES).contains(&self.max_waiting);
-        counts && mtu && bytes && self.is_most_in_range()
+        counts
+            && mtu
+            && bytes
+            && self.is_limit_in_range(self.most)
+            && self.is_limit_in_range(self.of_address)
     }
 
-    /// Whether there may be so many peers connected or leaving.
-    fn is_most_in_range(&self) -> bool
-        ensures { result ≡ is_most_in_range self.now.peers self.now.most }
+    /// Whether a limit, if there is one, lets one peer in, and no more than there are slots.
+    fn is_limit_in_range(&self, limit: Option<u16>) -> bool
+        ensures { result ≡ is_limit_in_range self.now.peers limit }
     {
-        match self.most {
+        match limit {
             Some(most) => (1..=self.peers).contains(&most),
             None => true,
         }
@@ -127,6 +142,7 @@ impl Config {
         match admission {
             Admission::GiveWay => true,
             Admission::Most { peers } => (1..=self.peers).contains(&peers),
+            Admission::OfAddress { peers } => (1..=self.peers).contains(&peers),
         }
     }
 
@@ -141,6 +157,10 @@ impl Config {
             },
             Admission::Most { peers } => Config {
                 most: Some(peers),
+                ..self
+            },
+            Admission::OfAddress { peers } => Config {
+                of_address: Some(peers),
                 ..self
             },
         }

@@ -135,8 +135,11 @@ pub enum End {
 pub enum Task {
     /// The help or the version was printed, and nothing is left to do.
     Nothing,
-    /// To run a script of the lab.
-    Lab,
+    /// To run a script of the lab, with an explanation of each line or without.
+    Lab {
+        /// Whether each line is explained.
+        is_explained: bool,
+    },
     /// To tell what datagrams say.
     Inspect(InspectOptions),
     /// To relay chat.
@@ -194,9 +197,6 @@ fn answer<R: Print + Eprint>(rt: &R, error: &Error) -> Result<Task, Unread> {
 }
 
 fn command<'a>(alloc: Global) -> Result<Command<'a>, AllocError> {
-    let lab = Command::new(alloc, "lab").about(
-        "Runs a script from standard input and writes one answer per line",
-    );
     Command::new(alloc, "enet_relay")
         .about(
             "Hosts of ENet 1.3: a lab for them, what datagrams say, a server that relays chat, and a demonstration of it",
@@ -204,10 +204,25 @@ fn command<'a>(alloc: Global) -> Result<Command<'a>, AllocError> {
         .version(version())
         .disable_help_subcommand(true)
         .subcommand_required(true)
-        .subcommand(lab)?
+        .subcommand(lab_command(alloc)?)?
         .subcommand(inspect_command(alloc)?)?
         .subcommand(serve_command(alloc)?)?
         .subcommand(demo_command(alloc)?)
+}
+
+fn lab_command<'a>(alloc: Global) -> Result<Command<'a>, AllocError> {
+    Command::new(alloc, "lab")
+        .about("Runs a script from standard input and writes one answer per line")
+        .arg(explain(alloc))
+}
+
+fn explain<'a>(alloc: Global) -> Arg<'a> {
+    Arg::new(alloc, "explain")
+        .long("explain")
+        .help(
+            "Write each line, its answer, datagrams in words, what changed at its host, and what was expected of a bad line",
+        )
+        .action(ArgAction::SetTrue)
 }
 
 fn inspect_command<'a>(alloc: Global) -> Result<Command<'a>, AllocError> {
@@ -460,7 +475,9 @@ fn task_of(alloc: Global, found: &ArgMatches<'_>) -> Result<Option<Task>, Unread
         return Ok(None);
     };
     match name {
-        "lab" => Ok(Some(Task::Lab)),
+        "lab" => Ok(Some(Task::Lab {
+            is_explained: found.get_flag("explain"),
+        })),
         "inspect" => Ok(inspect_options(alloc, found)?.map(Task::Inspect)),
         "serve" => match (read_admission(alloc, found)?, length_of(found)) {
             (Some(admission), Some(length)) => {

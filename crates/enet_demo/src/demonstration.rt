@@ -92,6 +92,7 @@ where
         max_waiting: MOST_BYTES,
         send_limit: None,
         receive_buffer: None,
+        of_address: None,
         rules: Rules::none(),
         secret: shown.secret,
     };

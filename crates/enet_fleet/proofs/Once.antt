@@ -333,10 +333,10 @@ begun-track w from old new count k x qs none shown (Calls (call.Connect address 
 begun-track w from old new count k x qs none shown (Calls c) happens t h of = absurd h
 begun-track w from old new count k x qs none shown (Delivers i answer) happens t h of = by (slice_get from.log i) refl happens h
   where
-    by : (found : Option Logged) → slice_get from.log i ≡ found → BringsOne from found answer old new → Has (more_in w.count old new found) t → Track new t qs
+    by : (found : Option Logged) → slice_get from.log i ≡ found → BringsOne from found answer old new → Has (more_in from.address old new found) t → Track new t qs
     by None is brings y = absurd y
     by (Some d) is brings y =
-        let b = begun-is d.connection old.host new.host t y in
+        let b = begun-is d.connection from.address old.host new.host t y in
         let at : d.connection ≡ x = ap (λ (z : HostEnd). z.connection) (sym b.4) ∙ of in
         let far = shown d (Has-slice_get from.log i d is) in
         let z : Begins far.0 new t = answered i answer d from old new k.few brings is (nothing-of old count d.connection k (λ e h same. none e h (same ∙ at))) t y far.0 far.1 in

@@ -2,7 +2,7 @@
 
 ghost use Rattle.std.specs.Prelude.{◌≡◌, ◌&&◌, nat_le, true, false, length, zip, Err, IfOk, IfErr, OnErr};
 ghost use Rattle.std.specs.List.{list_all};
-ghost use Rattle.std.specs.Option.{option_map};
+ghost use Rattle.std.specs.Option.{option_copied, option_map};
 ghost use Rattle.enet_codec.specs.Config.{is_in_range};
 ghost use Rattle.law_network.specs.Headline.{submitted_at, taken_at, events_at};
 ghost use Rattle.law_headline.specs.Delivered.{HasDelivered};
@@ -19,6 +19,7 @@ use crate::event::{End, FleetEvent};
 use crate::happening::happen;
 use crate::hosts::{Hosts, sent_by};
 use enet_codec::{Addr, Config, Event, Packet, Refusal};
+use enet_host::HostCore;
 use law_headline::Node;
 use std::alloc::Global;
 use std::marker::Model;
@@ -268,6 +269,14 @@ impl Fleet {
     {
         let place = self.hosts.place(node)?;
         sent_by(place, k)
+    }
+
+    /// A host, to be looked at; None where it isn't there.
+    pub fn host(&self, node: Node) -> Option<&HostCore>
+        ensures { option_copied result ≡ option_map (λ p. p.site.host) (place_of self.now node) }
+    {
+        let place = self.hosts.place(node)?;
+        Some(place.site.host())
     }
 
     /// How many slots a host has; None where the host isn't there.

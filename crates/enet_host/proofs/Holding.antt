@@ -329,6 +329,7 @@ pub keeps-admitting : (c : Config) (what : Admission) (clock from event : ℕ) (
     → KeepsHost (record { peers = (admitting c what).peers; clock = clock; generations = (admitting c what).generations; max_packet = (admitting c what).max_packet; max_waiting = (admitting c what).max_waiting; service_from = from; event_from = event }) v f u xs
 keeps-admitting c admission.GiveWay clock from event v f u xs k = k
 keeps-admitting c (admission.Most peers) clock from event v f u xs k = k
+keeps-admitting c (admission.OfAddress peers) clock from event v f u xs k = k
 
 -- what it keeps of its peers
 abbrev pub Minded : HostNumbers → Waiting → Seating → List Slot → Type 0

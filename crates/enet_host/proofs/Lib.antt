@@ -17,3 +17,5 @@ pub mod Adding
 pub mod Weighing
 pub mod Yielding
 pub mod Guests
+pub mod Servers
+pub mod AddressLimits

@@ -224,7 +224,7 @@ connects-holds P basis slots new question r old first (asks i s some at there) =
 
 -- what is true of each but the one whose slot was given out, of that one too
 offers-holds : (P : ℕ → Tag → Peering → Type 0) (basis : Basis) (slots new : List SlotState) (from : Addr) (o : Offer) (answer : Received) → AllHold P slots
-    → ((i : ℕ) (s : SlotState) → seat basis slots ≡ Some i → Holds P i (answering basis i (readied s) from o))
+    → ((i : ℕ) (s : SlotState) → seat basis from slots ≡ Some i → Holds P i (answering basis i (readied s) from o))
     → Offers (record { basis = basis; slots = slots }) from o answer new → AllHold P new
 offers-holds P basis slots new from o answer old first (receiving.refused why is) = old
 offers-holds P basis slots new from o answer old first (receiving.repeated is known) = old
@@ -233,7 +233,7 @@ offers-holds P basis slots new from o answer old first (receiving.no_memory i is
 offers-holds P basis slots new from o answer old first (receiving.answers i s is known at there) = set-holds P slots i (answering basis i (readied s) from o) old (first i s at)
 
 pub arrives-holds : (P : ℕ → Tag → Peering → Type 0) → Lasting P → (basis : Basis) (slots new : List SlotState) (from : Addr) (bytes : List ℕ) (answer : Received) → AllHold P slots
-    → ((i : ℕ) (s : SlotState) (o : Offer) → seat basis slots ≡ Some i → Holds P i (answering basis i (readied s) from o))
+    → ((i : ℕ) (s : SlotState) (o : Offer) → seat basis from slots ≡ Some i → Holds P i (answering basis i (readied s) from o))
     → Arrives (record { basis = basis; slots = slots }) from bytes answer new → AllHold P new
 arrives-holds P lasts basis slots new from bytes answer old first (receiving.unreadable why is) = old
 arrives-holds P lasts basis slots new from bytes answer old first (receiving.no_offer header commands read stranger none) = old

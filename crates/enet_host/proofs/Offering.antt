@@ -1,5 +1,5 @@
 -- A slot is given out.
-use Rattle.std.proofs.Common.{◌≡◌, ◌≢◌, ℕ, ◌<◌, false, Option, Some, None, Result, Ok, Err, IfOk, IfErr, OnOk, OnErr, List, length, slice_get, slice_set, get_or, sym, ap, subst, ◌∙◌}
+use Rattle.std.proofs.Common.{◌≡◌, ◌≢◌, ℕ, ◌<◌, Bool, true, false, cond, Option, Some, None, Result, Ok, Err, IfOk, IfErr, IfSome, OnOk, OnErr, List, length, slice_get, slice_set, get_or, sym, ap, subst, ◌∙◌}
 use Rattle.enet_codec.specs.declared.command.Offer.{Offer}
 use Rattle.std.proofs.lemmas.Option.{slice_get-get_or}
 use Rattle.enet_codec.specs.declared.address.Addr.{Addr}
@@ -17,17 +17,18 @@ use Rattle.enet_slot.specs.Seating.{IsSeat}
 use Rattle.enet_slot.specs.Slot.{SlotState, name_of}
 use Rattle.enet_slot.specs.Giving.{Basis, unused_slot, asking, answering}
 use Rattle.enet_host.specs.Opening.{available, Connects, no_memory, asks}
-use Rattle.enet_slot.specs.Receiving.{stopped}
+use Rattle.std.specs.List.{list_any}
+use Rattle.enet_slot.specs.Receiving.{is_connection, stopped}
 use Rattle.enet_host.specs.declared.credits.Credit.{Credit}
 use Rattle.enet_host.specs.Crediting.{with_came}
 use Rattle.enet_host.specs.Receiving.{Listener, Offers, offer_refused, is_known, handled_one}
 use Rattle.enet_host.specs.Receiving as receiving
-use Rattle.enet_slot.specs.Yielding.{readied}
-use Rattle.enet_host.specs.Opening.{or_oldest, seat}
-use Rattle.enet_host.specs.Private.Receiving.{IsSeatOf, OfferCredits}
+use Rattle.enet_slot.specs.Yielding.{guests_of, oldest_of, readied, yields_to}
+use Rattle.enet_host.specs.Opening.{is_most, or_oldest, seat}
+use Rattle.enet_host.specs.Private.Receiving.{IsSeatOf, OfferCredits, placed}
 use Rattle.enet_host.specs.Private.Receiving as credit
 use Rattle.enet_slot.specs.Slotted.{shown, all_shown}
-use Rattle.enet_slot.proofs.Shown.{get-shown, set-shown, same-shown}
+use Rattle.enet_slot.proofs.Shown.{get-shown, length-shown, set-shown, same-shown}
 
 -- what was found among the slots of a vector
 pub found-in : (c : Config) (xs ys : List Slot) (r a : Option ℕ) → r ≡ available c (all_shown ys) → ys ≡ xs → r ≡ a → available c (all_shown xs) ≡ a
@@ -51,14 +52,14 @@ connects-at basis xs question i x y (Err e) some found inside read asked named s
     (subst (λ (f : Refusal). Connects basis (all_shown xs) question (Err f) (all_shown xs)) (sym why) (no_memory i some found))
 
 pub answers-at : (basis : Basis) (xs : List Slot) (from : Addr) (o : Offer) (i : ℕ) (x y : Slot)
-    → offer_refused o ≡ None → is_known (all_shown xs) from o ≡ false → seat basis (all_shown xs) ≡ Some i → i < length xs → x ≡ get_or xs i x
+    → offer_refused o ≡ None → is_known (all_shown xs) from o ≡ false → seat basis from (all_shown xs) ≡ Some i → i < length xs → x ≡ get_or xs i x
     → shown y ≡ answering basis i (readied (shown x)) from o → Offers (record { basis = basis; slots = all_shown xs }) from o handled_one (all_shown (slice_set xs i y))
 answers-at basis xs from o i x y fine unknown found inside read answered =
     subst (λ (ss : List SlotState). Offers (record { basis = basis; slots = all_shown xs }) from o handled_one ss) (given-at xs i y (answering basis i (readied (shown x)) from o) answered)
     (receiving.answers i (shown x) fine unknown found (get-shown xs i x inside read))
 
 pub no-memory-at : (basis : Basis) (xs : List Slot) (from : Addr) (o : Offer) (i : ℕ) (x y : Slot) (answer : Received)
-    → offer_refused o ≡ None → is_known (all_shown xs) from o ≡ false → seat basis (all_shown xs) ≡ Some i → x ≡ get_or xs i x
+    → offer_refused o ≡ None → is_known (all_shown xs) from o ≡ false → seat basis from (all_shown xs) ≡ Some i → x ≡ get_or xs i x
     → shown y ≡ shown x → answer ≡ stopped stop.Memory → Offers (record { basis = basis; slots = all_shown xs }) from o answer (all_shown (slice_set xs i y))
 no-memory-at basis xs from o i x y answer fine unknown found read same is =
     subst (λ (ss : List SlotState). Offers (record { basis = basis; slots = all_shown xs }) from o answer ss) (sym (same-shown xs i x y read same))
@@ -70,17 +71,31 @@ pub seat-in : (xs ys : List Slot) (basis : Basis) (from : Addr) (word : ℕ) (r 
 seat-in xs ys basis from word r found e same is =
     subst (λ (zs : List Slot). IsSeatOf basis from word (all_shown zs) found) same (subst (λ (t : Seat). IsSeatOf basis from word (all_shown ys) t) is e)
 
--- the seat of an offer, by the slot that is free
-pub seat-free : (basis : Basis) (from : Addr) (word : ℕ) (slots : List SlotState) (i : ℕ) → IsSeat from word basis.config.generations slots (At i) → IsSeatOf basis from word slots (At i)
-seat-free basis from word slots i s = (s.0, ap (λ (o : Option ℕ). or_oldest basis slots o) s.1, s.2)
+-- which slot is free, if an offer is of no connection that is there
+pub free-at : (from : Addr) (word : ℕ) (c : Config) (slots : List SlotState) (i : ℕ) → IsSeat from word c.generations slots (At i) → Some i ≡ available c slots
+free-at from word c slots i s = sym s.1
 
--- or by the one that gives way, if any
-pub seat-yielding : (basis : Basis) (from : Addr) (word : ℕ) (slots : List SlotState) (i : ℕ) → IsSeat from word basis.config.generations slots Full → or_oldest basis slots None ≡ Some i → i < length slots
-    → IsSeatOf basis from word slots (At i)
-seat-yielding basis from word slots i s found within = (s.0, ap (λ (o : Option ℕ). or_oldest basis slots o) s.1 ∙ found, within)
+pub free-nowhere : (from : Addr) (word : ℕ) (c : Config) (slots : List SlotState) → IsSeat from word c.generations slots Full → None ≡ available c slots
+free-nowhere from word c slots s = sym s.1
 
-pub seat-nowhere : (basis : Basis) (from : Addr) (word : ℕ) (slots : List SlotState) → IsSeat from word basis.config.generations slots Full → or_oldest basis slots None ≡ None → IsSeatOf basis from word slots Full
-seat-nowhere basis from word slots s none = (s.0, ap (λ (o : Option ℕ). or_oldest basis slots o) s.1 ∙ none)
+-- so it goes to its seat
+pub seat-placed : (basis : Basis) (from : Addr) (word : ℕ) (xs : List Slot) (r : Option ℕ) → list_any (is_connection from word) (all_shown xs) ≡ false → r ≡ seat basis from (all_shown xs)
+    → IfSome r (λ i. i < length xs) → IsSeatOf basis from word (all_shown xs) (placed r)
+seat-placed basis from word xs None unknown found within = (unknown, sym found)
+seat-placed basis from word xs (Some i) unknown found within = (unknown, sym found, subst (λ (m : ℕ). i < m) (sym (length-shown xs)) within)
+
+-- the seat of an offer where as many peers of its address are there as may be, and where fewer are
+seat-if : (basis : Basis) (from : Addr) (slots : List SlotState) (b : Bool) → is_most basis.config.of_address (guests_of from.ip slots) ≡ b
+    → seat basis from slots ≡ cond b (oldest_of (yields_to from.ip basis.config.generations) basis.clock slots) (or_oldest basis slots (available basis.config slots))
+seat-if basis from slots b is = ap (λ (c : Bool). cond c (oldest_of (yields_to from.ip basis.config.generations) basis.clock slots) (or_oldest basis slots (available basis.config slots))) is
+
+pub seat-own : (basis : Basis) (from : Addr) (slots : List SlotState) (b : Bool) (r : Option ℕ) → b ≡ is_most basis.config.of_address (guests_of from.ip slots) → b ≡ true
+    → r ≡ oldest_of (yields_to from.ip basis.config.generations) basis.clock slots → r ≡ seat basis from slots
+seat-own basis from slots b r is full own = own ∙ sym (seat-if basis from slots true (sym is ∙ full))
+
+pub seat-any : (basis : Basis) (from : Addr) (slots : List SlotState) (b : Bool) (free r : Option ℕ) → b ≡ is_most basis.config.of_address (guests_of from.ip slots) → b ≡ false
+    → free ≡ available basis.config slots → r ≡ or_oldest basis slots free → r ≡ seat basis from slots
+seat-any basis from slots b free r is room first found = found ∙ ap (λ (o : Option ℕ). or_oldest basis slots o) first ∙ sym (seat-if basis from slots false (sym is ∙ room))
 
 -- which credits an offer of a connection that is there leaves
 pub credits-known : (h : Listener) (from : Addr) (o : Offer) (len i : ℕ) (credits new : List Credit) (answer : Received) → offer_refused o ≡ None

@@ -16,7 +16,8 @@ use Rattle.enet_slot.specs.Entering.{awaits}
 use Rattle.enet_slot.specs.Receiving.{IsHeardAlike, PeerReceives, is_deaf, is_same_address, fits_session, hears_in, no_peer, refused_by_slot, refused_by_peer}
 use Rattle.enet_host.specs.declared.credits.Credit.{Credit}
 use Rattle.enet_host.specs.Crediting.{with_came}
-use Rattle.enet_host.specs.Receiving.{Listener, Arrives, Credits, heard, is_at, is_most, refused_by, refuses_at}
+use Rattle.enet_host.specs.Opening.{is_most}
+use Rattle.enet_host.specs.Receiving.{Listener, Arrives, Credits, heard, is_at, refused_by, refuses_at}
 use Rattle.enet_host.specs.Receiving as receiving
 use Rattle.enet_host.specs.Private.Receiving.{is_heard, ComesAsAt, OfferCredits}
 use Rattle.enet_host.specs.Private.Receiving as credit

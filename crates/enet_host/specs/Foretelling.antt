@@ -1,6 +1,7 @@
 -- What a host tells of what is to come: the next peer's name, a submission's refusal, the next event.
 use Rattle.std.specs.Prelude.{◌≡◌, ℕ, Option, Some, None, Result, Ok, Err, List, slice_get}
 use Rattle.std.specs.Option.{option_map, option_and_then}
+use Rattle.enet_codec.specs.declared.address.Addr.{Addr}
 use Rattle.enet_codec.specs.declared.config.Config.{Config}
 use Rattle.enet_codec.specs.declared.event.Event.{Event}
 use Rattle.enet_codec.specs.declared.event.Event.TheVariants as events
@@ -21,9 +22,9 @@ use Rattle.enet_host.specs.Calls.{Takes}
 abbrev pub next_name : Config → List SlotState → Option PeerRef
 next_name c slots = option_and_then (λ i. option_map (name_of i) (slice_get slots i)) (available c slots)
 
--- and the one that the peer gets which answers the next CONNECT
-abbrev pub guest_name : Basis → List SlotState → Option PeerRef
-guest_name basis slots = option_and_then (λ i. option_map (λ (s : SlotState). name_of i (readied s)) (slice_get slots i)) (seat basis slots)
+-- and the one that the peer gets which answers the next CONNECT, if it comes from this address
+abbrev pub guest_name : Basis → Addr → List SlotState → Option PeerRef
+guest_name basis from slots = option_and_then (λ i. option_map (λ (s : SlotState). name_of i (readied s)) (slice_get slots i)) (seat basis from slots)
 
 -- the first refusal but want of memory that a submission of so many bytes meets at the peer of this name
 abbrev pub submission_refusal : Option SendLimit → List SlotState → PeerRef → ℕ → ℕ → Option Refusal

@@ -1,5 +1,5 @@
 -- How a host begins, and which of its slots is given out.
-use Rattle.std.specs.Prelude.{◌≡◌, ◌≢◌, ℕ, true, false, if◌then◌else◌, Option, Some, None, Result, Ok, Err, List, slice_get, slice_set, replicate}
+use Rattle.std.specs.Prelude.{◌≡◌, ◌≢◌, ℕ, Bool, nat_le, true, false, if◌then◌else◌, Option, Some, None, Result, Ok, Err, List, slice_get, slice_set, replicate}
 use Rattle.std.specs.List.{position}
 use Rattle.enet_codec.specs.declared.address.Addr.{Addr}
 use Rattle.enet_codec.specs.declared.config.Config.{Config}
@@ -9,7 +9,7 @@ use Rattle.enet_codec.specs.declared.refusal.Refusal.TheVariants.{Memory, NoSlot
 use Rattle.enet_codec.specs.Config.{is_in_range}
 use Rattle.enet_slot.specs.declared.giving.Question.{Question}
 use Rattle.enet_slot.specs.Slot.{SlotState, name_of}
-use Rattle.enet_slot.specs.Yielding.{oldest}
+use Rattle.enet_slot.specs.Yielding.{guests_of, oldest, oldest_of, yields_to}
 use Rattle.enet_slot.specs.Giving.{unused_slot, joined_slots, is_available, Basis, asking}
 use Rattle.enet_host.specs.declared.totals.Totals.{Totals}
 use Rattle.enet_host.specs.Crediting.{no_credit}
@@ -48,14 +48,22 @@ Opens c (Err why) fresh = (is_in_range c ≡ false) × (why ≡ BadConfig)
 abbrev pub available : Config → List SlotState → Option ℕ
 available c slots = position (is_available c.generations) slots
 
--- the slot that an offer gets: the lowest available one; where there is none and the host lets peers give way, the one whose peer has been
--- waiting longest for its client
+-- the lowest available slot; where there is none and the host lets peers give way, the one whose peer has been waiting longest for its client
 abbrev pub or_oldest : Basis → List SlotState → Option ℕ → Option ℕ
 or_oldest basis slots (Some i) = Some i
 or_oldest basis slots None = if basis.config.gives_way then oldest basis.clock basis.config.generations slots else None
 
-abbrev pub seat : Basis → List SlotState → Option ℕ
-seat basis slots = or_oldest basis slots (available basis.config slots)
+-- whether as many are there as may be
+abbrev pub is_most : Option ℕ → ℕ → Bool
+is_most None count = false
+is_most (Some most) count = nat_le most count
+
+-- the seat of an offer that comes from an address: where as many peers of that address are there as may be, the slot of the one of them that
+-- has been waiting longest for its client
+abbrev pub seat : Basis → Addr → List SlotState → Option ℕ
+seat basis from slots =
+    if is_most basis.config.of_address (guests_of from.ip slots) then oldest_of (yields_to from.ip basis.config.generations) basis.clock slots
+    else or_oldest basis slots (available basis.config slots)
 
 -- what a call of connect answers and leaves of the slots: the lowest available slot asks, or the first refusal that applies.
 -- Memory may be refused where nothing else is

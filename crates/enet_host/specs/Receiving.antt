@@ -1,5 +1,5 @@
 -- A datagram comes to a host.
-use Rattle.std.specs.Prelude.{◌≡◌, ◌≢◌, ℕ, ◌+◌, ◌&&◌, not, min, Bool, true, false, nat_le, if◌then◌else◌, Option, Some, None, List, length, slice_get, slice_set}
+use Rattle.std.specs.Prelude.{◌≡◌, ◌≢◌, ◌≤◌, ℕ, ◌+◌, ◌&&◌, not, min, Bool, true, false, nat_le, if◌then◌else◌, Option, Some, None, List, length, slice_get, slice_set}
 use Rattle.std.specs.List.{list_any}
 use Rattle.enet_codec.specs.declared.address.Addr.{Addr}
 use Rattle.enet_codec.specs.declared.event.Received.{Received}
@@ -11,14 +11,14 @@ use Rattle.enet_connect.specs.Terms.{is_channel_count}
 use Rattle.enet_peer.specs.Heading.{IsUnreadable, IsRead, IsOffer, IsNoOffer}
 use Rattle.enet_slot.specs.Slot.{SlotState}
 use Rattle.enet_slot.specs.Giving.{Basis, answering}
-use Rattle.enet_slot.specs.Yielding.{readied}
+use Rattle.enet_slot.specs.Yielding.{guests_of, readied}
 use Rattle.enet_slot.specs.Receiving.{no_peer, hears, refused_by_slot, is_connection, stopped, PeerReceives}
 use Rattle.enet_host.specs.declared.credits.Credit.{Credit}
 use Rattle.enet_host.specs.declared.totals.Totals.{Totals}
 use Rattle.enet_host.specs.Crediting.{with_came, with_first}
 use Rattle.enet_slot.specs.Entering.{awaits, entered}
 use Rattle.enet_host.specs.Host.{Host}
-use Rattle.enet_host.specs.Opening.{host_basis, seat}
+use Rattle.enet_host.specs.Opening.{host_basis, is_most, seat}
 
 abbrev pub refused_by : List SlotState → Addr → Header → Option Stop
 refused_by slots from header = refused_by_slot from header.session (slice_get slots header.peer)
@@ -47,16 +47,12 @@ pub record Listener : Type 0 where
 pub data Offers (h : Listener) (from : Addr) (o : Offer) : Received → List SlotState → Type 0 where
   refused : (why : Stop) → offer_refused o ≡ Some why → Offers h from o (stopped why) h.slots
   repeated : offer_refused o ≡ None → is_known h.slots from o ≡ true → Offers h from o handled_one h.slots
-  no_slot : offer_refused o ≡ None → is_known h.slots from o ≡ false → seat h.basis h.slots ≡ None → Offers h from o (stopped stop.NoSlot) h.slots
-  no_memory : (i : ℕ) → offer_refused o ≡ None → is_known h.slots from o ≡ false → seat h.basis h.slots ≡ Some i → Offers h from o (stopped stop.Memory) h.slots
-  answers : (i : ℕ) (s : SlotState) → offer_refused o ≡ None → is_known h.slots from o ≡ false → seat h.basis h.slots ≡ Some i → slice_get h.slots i ≡ Some s
+  no_slot : offer_refused o ≡ None → is_known h.slots from o ≡ false → seat h.basis from h.slots ≡ None → Offers h from o (stopped stop.NoSlot) h.slots
+  no_memory : (i : ℕ) → offer_refused o ≡ None → is_known h.slots from o ≡ false → seat h.basis from h.slots ≡ Some i → Offers h from o (stopped stop.Memory) h.slots
+  answers : (i : ℕ) (s : SlotState) → offer_refused o ≡ None → is_known h.slots from o ≡ false → seat h.basis from h.slots ≡ Some i → slice_get h.slots i ≡ Some s
       → Offers h from o handled_one (slice_set h.slots i (answering h.basis i (readied s) from o))
 
 -- whether as many peers that began by a CONNECT have a client that confirmed as may be there
-abbrev pub is_most : Option ℕ → ℕ → Bool
-is_most None count = false
-is_most (Some most) count = nat_le most count
-
 abbrev pub is_full : Listener → Bool
 is_full h = is_most h.basis.config.most (entered h.slots)
 
@@ -110,7 +106,7 @@ pub data Counts (h : Listener) (from : Addr) (bytes : List ℕ) : Received → C
   unanswered : (header : Header) (commands : List ℕ) (o : Offer) (why : Stop) → IsRead bytes header commands → header.peer ≡ no_peer
       → IsOffer commands o → is_known h.slots from o ≡ false → Counts h from bytes (stopped why) Nowhere
   answered : (header : Header) (commands : List ℕ) (o : Offer) (i : ℕ) → IsRead bytes header commands → header.peer ≡ no_peer
-      → IsOffer commands o → is_known h.slots from o ≡ false → seat h.basis h.slots ≡ Some i → Counts h from bytes handled_one (First i)
+      → IsOffer commands o → is_known h.slots from o ≡ false → seat h.basis from h.slots ≡ Some i → Counts h from bytes handled_one (First i)
   elsewhere : (header : Header) (commands : List ℕ) → IsRead bytes header commands → header.peer ≢ no_peer
       → is_at from (slice_get h.slots header.peer) ≡ false → (answer : Received) → Counts h from bytes answer Nowhere
   here : (header : Header) (commands : List ℕ) → IsRead bytes header commands → header.peer ≢ no_peer
@@ -130,8 +126,9 @@ pub record Credits (h : Listener) (from : Addr) (bytes : List ℕ) (answer : Rec
 abbrev pub listener_of : Host → Listener
 listener_of h = record { basis = host_basis h; slots = h.slots }
 
--- a call of receive: each datagram counts in the totals
+-- a call of receive: each datagram counts in the totals. No more peers of an address are there than may be, if no more were before
 pub record Receives (old : Host) (from : Addr) (bytes : List ℕ) (answer : Received) (new : Host) : Type 0 where
   pub arrives : Arrives (listener_of old) from bytes answer new.slots
   pub credits : Credits (listener_of old) from bytes answer old.credits new.credits
   pub rest : new ≡ record old { slots = new.slots; totals = with_datagram_in old.totals (length bytes); credits = new.credits }
+  pub few : (ip n : ℕ) → old.config.of_address ≡ Some n → guests_of ip old.slots ≤ n → guests_of ip new.slots ≤ n

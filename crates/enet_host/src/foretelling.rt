@@ -10,10 +10,10 @@ ghost use Rattle.enet_host.specs.Foretelling.{guest_name, next_name, teller_of, 
 
 use crate::events::{name_at, packet_of, teller};
 use crate::host::HostCore;
-use crate::receiving::oldest_seat;
+use crate::receiving::seat;
 use crate::ticking::SHARING_INTERVAL;
 use bytes::Bytes;
-use enet_codec::{Packet, PeerRef};
+use enet_codec::{Addr, Packet, PeerRef};
 use enet_rtt::elapsed;
 
 impl HostCore {
@@ -28,20 +28,20 @@ impl HostCore {
         Some(name_at(&self.slots, place as u16))
     }
 
-    /// The name that the peer gets which answers the next CONNECT: that of `next_peer`, or, where there is none and the host lets peers give
-    /// way, the next one of the slot whose peer gives way. None where neither is there.
-    pub fn next_guest(&mut self) -> Option<PeerRef>
-        ensures guest { result ≡ guest_name (host_basis self.old) self.old.slots }
+    /// The name that the peer gets which answers the next CONNECT, if that comes from this address: that of `next_peer`, or the next one of
+    /// the slot whose peer gives way, where none is free and the host lets peers give way, or as many peers of the address are there as may
+    /// be. None where neither is there.
+    pub fn next_guest(&mut self, from: Addr) -> Option<PeerRef>
+        ensures guest { result ≡ guest_name (host_basis self.old) from self.old.slots }
         ensures same { self.new ≡ self.old }
     {
-        if let Some(name) = self.next_peer() {
-            return Some(name);
-        }
-        let place = oldest_seat(&self.slots, &mut self.unproved, &self.start)?;
-        let name = name_at(&self.slots, place as u16);
+        let free = self
+            .sleepers
+            .first_available(&self.slots, self.start.config.generations);
+        let place = seat(&self.slots, &mut self.unproved, &self.start, from, free)?;
         Some(PeerRef {
-            generation: name.generation.saturating_add(1),
-            ..name
+            slot: place as u16,
+            generation: self.slots[place].next_generation(),
         })
     }
 

@@ -196,11 +196,12 @@ impl HostCore {
     /// compressed, S3 for a stranger's datagram that is anything but one CONNECT and where the slot is free, has ended or is
     /// parting, S4 where the peer is at another address, S5 where its session is another, once the other end's slot is known.
     /// Of an offer S6 where it names no slot, S8 where it asks for no channel or for more than 255, S13 where no slot is free
-    /// that has a generation left and none is given up (`Config::gives_way`), S11 where memory is refused; an offer of a connection that is
-    /// there has no effect. Else it
-    /// is the stop of the first command that the peer stops: the commands before it have taken effect, and the stopped one has
+    /// that has a generation left and none is given up (`Config::gives_way`), or as many peers of the address are there as may be and none of
+    /// them waits for its client (`Config::of_address`), S11 where memory is refused; an offer of a connection that is there has no effect.
+    /// Else it is the stop of the first command that the peer stops: the commands before it have taken effect, and the stopped one has
     /// none, that of S12 excepted. Each datagram counts in the totals. Its bytes count for the peer to whose slot it comes from the peer's
-    /// address, and an offer's for the peer that it is or becomes, also where the datagram is stopped: see `tick`.
+    /// address, and an offer's for the peer that it is or becomes, also where the datagram is stopped: see `tick`. Where `Config::of_address`
+    /// is set and no more peers of an address were there, no more are there afterwards.
     pub fn receive(&mut self, from: Addr, bytes: &[u8]) -> Received
         ensures { Receives self.old from bytes.now result self.new }
     {
@@ -276,8 +277,8 @@ impl HostCore {
         Ok(())
     }
 
-    /// Sets whom the host lets in (`Config::gives_way`, `Config::most`). Peers that are there stay. E8, with nothing changed, where more peers
-    /// may be connected or leaving than there are slots, or none.
+    /// Sets whom the host lets in (`Config::gives_way`, `Config::most`, `Config::of_address`). Peers that are there stay. E8, with nothing
+    /// changed, where more peers may be connected or leaving, or be of one address, than there are slots, or none.
     pub fn admit(&mut self, admission: Admission) -> Result<(), Refusal>
         ensures { Admits admission result self.old self.new }
     {

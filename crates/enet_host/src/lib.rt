@@ -8,11 +8,13 @@
 //! Each call exactly, by small definitions over the slots:
 //! - One that names a peer is that peer's call on the one slot of that number and generation (`on_named`), with E2 where there is none,
 //!   and leaves all else as it was (`rest`). `submission_refusal` is the refusal of `submit` but E1.
-//! - `receive` is `Arrives`: the tests of a datagram in their order; a stranger's offer, which takes the lowest slot that is free and has
-//!   a generation left; or the commands of a datagram at the one slot that its header names. If no slot is free and the host lets peers
-//!   give way, an offer takes the slot of the peer that has waited longest for its client (`seat`). If as many are connected or leaving as
-//!   may be, a client that confirms is told so, and isn't connected (`refuses_at`). `admit` sets both (`with_admission`). `next_peer` is
-//!   the name that a connection of our own gets, `next_guest` the one that the next offer's peer gets.
+//! - `receive` is `Arrives`: the tests of a datagram in their order; a stranger's offer, which takes the lowest slot that is free and has a
+//!   generation left; or the commands of a datagram at the one slot that its header names. If no slot is free and the host lets peers give
+//!   way, an offer takes the slot of the peer that has waited longest for its client, and if as many peers of its IP address are there as
+//!   may be, that of the one of them that has (`seat`): so no more are there than may be, if no more were before (`few` of `Receives`). If
+//!   as many are connected or leaving as may be, a client that confirms is told so, and isn't connected (`refuses_at`). `admit` sets all
+//!   three (`with_admission`). `next_peer` is the name that a connection of our own gets, `next_guest` the one that the peer of an address's
+//!   next offer gets.
 //! - `service` asks slot after slot, beginning after the one served last, up to the first that gives a datagram, and names its peer as it
 //!   was before (`EmitsInTurn`).
 //! - `next_event` goes by the first slot in turn that has an event (`IsFirst`). `next_event_of`, `next_packet` and `next_body` say of the
@@ -29,7 +31,9 @@
 //!   (`with_secret`).
 //! - `slot_counts` counts the slots that are free, with a generation left or without, and of the others how far their connections have
 //!   come (`Counts`).
-//! - `sent_again` counts the commands of all peers that are unacknowledged and were sent more than once.
+//! - `sent_again` counts the commands of all peers that are unacknowledged and were sent more than once. `traffic` is a peer's own count:
+//!   how often its reliable data commands went since it began, how often again, and how many were acknowledged (specs/Traffic of
+//!   `enet_outbox`).
 //! - `held` counts what the host holds of what others sent (`held_by`). Whatever datagrams come, and whether or not its user takes, that is
 //!   no more than `most_held` of its settings: each peer has their limits (`AreLimited`, by the invariant of `HostCore`).
 //! - `memory_held` tells how many bytes that takes, with the slots, as one of each kind takes so many (`memory_with`, specs/Memory), and
@@ -53,7 +57,7 @@
 //!   `due_in` not at all, and by `tick` only where bandwidth is shared out or time brings that slot something.
 //! - That an offer is compared with a few slots, those that are noted at its connection's place, and looks at no other that sleeps but the
 //!   free ones up to the one that it gets.
-//! - That an offer finds the peer that gives way without a look at each slot.
+//! - That an offer finds the peer that gives way without a look at each slot. Where a limit for an address is set it looks at each slot.
 #![tactic(auto)]
 
 mod broadcast;

@@ -18,6 +18,7 @@ use crate::host::HostCore;
 use bytes::Bytes;
 use enet_codec::{Addr, DisconnectMode, PeerRef, Refusal};
 use enet_connect::Terms;
+use enet_outbox::Traffic;
 use enet_peer::{Ending, PeerState, RoundTrip};
 use enet_sender::Outstanding;
 use enet_slot::{Setting, submission_refusal};
@@ -208,6 +209,15 @@ impl HostCore {
         ensures { result ≡ option_map (λ p. capped (outstanding_of p.outbox)) (named self.now.slots peer) }
     {
         Some(calls::peer_of(&self.slots, peer)?.outstanding())
+    }
+
+    /// How many of the peer's commands that ask for an acknowledgement went so far, how many of them again, and how many were acknowledged:
+    /// reliable packets, a packet that is cut as many as it has pieces. The counts begin at 0 with the peer, also stand once its connection
+    /// has ended, and are modulo 2^64. What the host itself sends, as pings, doesn't count. None if there is no such peer.
+    pub fn traffic(&self, peer: PeerRef) -> Option<Traffic>
+        ensures { result ≡ option_map (λ p. p.outbox.traffic) (named self.now.slots peer) }
+    {
+        Some(calls::peer_of(&self.slots, peer)?.traffic())
     }
 
     /// The lowest estimates of the peer's round trip in the throttle's running interval and in the one before, in milliseconds. None if

@@ -1,14 +1,15 @@
 //! A datagram comes to a host.
 
 ghost use Rattle.std.specs.Prelude.{◌≡◌, ◌<◌, ◌≤◌, if◌then◌else◌, slice_get, Some, None, length, IfSome, IfNone};
-ghost use Rattle.enet_host.specs.Opening.{or_oldest};
+ghost use Rattle.enet_host.specs.Opening.{available, is_most, or_oldest, seat};
 ghost use Rattle.enet_slot.specs.Giving.{basis_of};
 ghost use Rattle.enet_slot.specs.Receiving.{stopped};
-ghost use Rattle.enet_host.specs.Receiving.{is_most, refuses_at, refused_by, offer_refused, Offers, Arrives, Credits};
+ghost use Rattle.enet_host.specs.Receiving.{refuses_at, refused_by, offer_refused, Offers, Arrives, Credits};
 ghost use Rattle.enet_host.specs.Crediting.{with_came};
 ghost use Rattle.enet_slot.specs.Entering.{entered};
+ghost use Rattle.enet_slot.specs.Yielding.{guests_of};
 ghost use Rattle.enet_slot.specs.Slot.{SlotState};
-ghost use Rattle.enet_host.specs.Private.Receiving.{is_heard, ComesAsAt, IsSeatOf, OfferCredits};
+ghost use Rattle.enet_host.specs.Private.Receiving.{is_heard, placed, ComesAsAt, IsSeatOf, OfferCredits};
 ghost use Rattle.enet_sleepers.specs.Seating.{KeepsSeats};
 ghost use Rattle.enet_sleepers.specs.Sleeping.{KeepsSleepers};
 ghost use Rattle.enet_sleepers.specs.Unproved.{KeepsUnproved};
@@ -19,7 +20,7 @@ use enet_codec::{Addr, Header, MAX_CHANNELS, NO_PEER, Received, Stop};
 use enet_connect::Offer;
 use enet_peer::{read_heading, read_offer};
 use enet_sleepers::{Seats, Sleepers, Unproved, seat_for};
-use enet_slot::{Seat, Slot, Start, count_entered};
+use enet_slot::{Seat, Slot, Start, count_entered, count_guests, oldest_guest};
 
 /// The answer to a datagram of which nothing was looked at.
 const fn stopped(why: Stop) -> Received
@@ -90,7 +91,7 @@ fn offer_refused(offer: &Offer) -> Option<Stop>
 }
 
 /// The slot whose peer gives way to an offer, if the host lets peers give way and one can.
-pub(crate) fn oldest_seat(slots: &[Slot], unproved: &mut Unproved, start: &Start) -> Option<usize>
+fn oldest_seat(slots: &[Slot], unproved: &mut Unproved, start: &Start) -> Option<usize>
     requires { KeepsUnproved start.now.clock start.now.config.generations unproved.old (all_shown slots.now) }
     ensures seat { result ≡ or_oldest (basis_of start.now) (all_shown slots.now) None }
     ensures within { IfSome result (λ i. i < length slots.now) }
@@ -100,6 +101,53 @@ pub(crate) fn oldest_seat(slots: &[Slot], unproved: &mut Unproved, start: &Start
         unproved.oldest(slots, start.config.generations)
     } else {
         None
+    }
+}
+
+/// Whether as many peers of this IP address are there as may be. Each slot is looked at, if that is bounded.
+fn is_address_full(slots: &[Slot], most: Option<u16>, ip: u32) -> bool
+    requires { length slots.now ≤ 4095 }
+    ensures { result ≡ is_most most (guests_of ip (all_shown slots.now)) }
+{
+    match most {
+        Some(most) => count_guests(slots, ip) >= u32::from(most),
+        None => false,
+    }
+}
+
+/// The slot that an offer from this address gets, if it is of no connection that is there; `free` is the first that is free and has a
+/// generation left.
+pub(crate) fn seat(
+    slots: &[Slot],
+    unproved: &mut Unproved,
+    start: &Start,
+    from: Addr,
+    free: Option<usize>,
+) -> Option<usize>
+    requires many { length slots.now ≤ 4095 }
+    requires free { free ≡ available start.now.config (all_shown slots.now) }
+    requires within { IfSome free (λ i. i < length slots.now) }
+    requires unproved { KeepsUnproved start.now.clock start.now.config.generations unproved.old (all_shown slots.now) }
+    ensures seat { result ≡ seat (basis_of start.now) from (all_shown slots.now) }
+    ensures within { IfSome result (λ i. i < length slots.now) }
+    ensures kept { KeepsUnproved start.now.clock start.now.config.generations unproved.new (all_shown slots.now) }
+{
+    if is_address_full(slots, start.config.of_address, from.ip) {
+        return oldest_guest(slots, from.ip, start.clock, start.config.generations);
+    }
+    match free {
+        Some(place) => Some(place),
+        None => oldest_seat(slots, unproved, start),
+    }
+}
+
+/// Where an offer of no connection that is there goes, if it gets this slot.
+const fn placed(place: Option<usize>) -> Seat
+    ensures { result ≡ placed place }
+{
+    match place {
+        Some(place) => Seat::At(place),
+        None => Seat::Full,
     }
 }
 
@@ -113,6 +161,7 @@ fn find_seat(
     from: Addr,
     connect_id: u32,
 ) -> Seat
+    requires many { length slots.now ≤ 4095 }
     requires sleepers { KeepsSleepers start.now.clock sleepers.now (all_shown slots.now) }
     requires seats { KeepsSeats seats.now (all_shown slots.now) }
     requires unproved { KeepsUnproved start.now.clock start.now.config.generations unproved.old (all_shown slots.now) }
@@ -122,11 +171,8 @@ fn find_seat(
     let generations = start.config.generations;
     match seat_for(slots, sleepers, seats, from, connect_id, generations) {
         Seat::Known(place) => Seat::Known(place),
-        Seat::At(place) => Seat::At(place),
-        Seat::Full => match oldest_seat(slots, unproved, start) {
-            Some(place) => Seat::At(place),
-            None => Seat::Full,
-        },
+        Seat::At(place) => placed(seat(slots, unproved, start, from, Some(place))),
+        Seat::Full => placed(seat(slots, unproved, start, from, None)),
     }
 }
 

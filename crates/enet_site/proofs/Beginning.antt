@@ -23,7 +23,7 @@ use Rattle.law_network.specs.Falling as falling
 use Rattle.law_network.specs.Network.{HostEnd}
 use Rattle.law_network.specs.Steps.{end_of_guest, begun_by, begun}
 use Rattle.law_network.proofs.Guests.{guest-named, guest-none, guest, guest-begins}
-use Rattle.law_network.proofs.Seats.{is_open, seat-of, seat-there}
+use Rattle.law_network.proofs.Seats.{available-there, is_open, seat-there}
 use Rattle.law_network.proofs.Worlds.{IsFresh, fresh-seat, not-fresh}
 use Rattle.enet_site.specs.Private.Sites.{AreShown, begun_if}
 
@@ -38,7 +38,7 @@ pub record IsNext (h : Host) (name : PeerRef) : Type 0 where
 next-in : (h : Host) (name : PeerRef) (o : Option ℕ) → available h.config h.slots ≡ o → option_and_then (λ i. option_map (name_of i) (slice_get h.slots i)) o ≡ Some name → IsNext h name
 next-in h name None free is = absurd (let y : ◌≡◌ {A = Option PeerRef} None (Some name) = is in cc)
 next-in h name (Some i) free is =
-    let s = seat-there (host_basis h) h.slots i (seat-of (host_basis h) h.slots i free) in
+    let s = available-there h.config h.slots i free in
     record {
       place = i;
       slot = s.0;
@@ -53,7 +53,7 @@ next-is h name is = next-in h name (available h.config h.slots) refl is
 none-in : (h : Host) (o : Option ℕ) → available h.config h.slots ≡ o → option_and_then (λ i. option_map (name_of i) (slice_get h.slots i)) o ≡ None → o ≡ None
 none-in h None free is = refl
 none-in h (Some i) free is =
-    let s = seat-there (host_basis h) h.slots i (seat-of (host_basis h) h.slots i free) in
+    let s = available-there h.config h.slots i free in
     absurd (let y : ◌≡◌ {A = Option PeerRef} (Some (name_of i s.0)) None = sym (ap (λ (o : Option SlotState). option_map (name_of i) o) s.1) ∙ is in cc)
 
 pub next-none : (h : Host) → next_name h.config h.slots ≡ None → available h.config h.slots ≡ None
@@ -83,30 +83,30 @@ next-other h ends name k is f there same = (let s = k f there in not-fresh h f n
 
 -- nor the name of a guest
 
-record IsGuestName (h : Host) (name : PeerRef) : Type 0 where
+record IsGuestName (h : Host) (from : Addr) (name : PeerRef) : Type 0 where
   place : ℕ
   slot : SlotState
-  at : seat (host_basis h) h.slots ≡ Some place
+  at : seat (host_basis h) from h.slots ≡ Some place
   there : slice_get h.slots place ≡ Some slot
   named : name ≡ name_of place (readied slot)
 
-guest-is : (h : Host) (name : PeerRef) → guest_name (host_basis h) h.slots ≡ Some name → IsGuestName h name
-guest-is h name is = by (seat (host_basis h) h.slots) refl
+guest-is : (h : Host) (from : Addr) (name : PeerRef) → guest_name (host_basis h) from h.slots ≡ Some name → IsGuestName h from name
+guest-is h from name is = by (seat (host_basis h) from h.slots) refl
   where
     some-name : (m : PeerRef) → ◌≡◌ {A = Option PeerRef} (Some m) (Some name) → name ≡ m
     some-name m e = (let y : ◌≡◌ {A = Option PeerRef} (Some m) (Some name) = e in cc)
 
-    by : (o : Option ℕ) → seat (host_basis h) h.slots ≡ o → IsGuestName h name
-    by None none = absurd (let y : ◌≡◌ {A = Option PeerRef} None (Some name) = sym (guest-none (host_basis h) h.slots none) ∙ is in cc)
+    by : (o : Option ℕ) → seat (host_basis h) from h.slots ≡ o → IsGuestName h from name
+    by None none = absurd (let y : ◌≡◌ {A = Option PeerRef} None (Some name) = sym (guest-none (host_basis h) from h.slots none) ∙ is in cc)
     by (Some i) at =
-        let s = seat-there (host_basis h) h.slots i at in
-        record { place = i; slot = s.0; at = at; there = s.1; named = some-name (name_of i (readied s.0)) (sym (guest-named (host_basis h) h.slots i s.0 at s.1) ∙ is) }
+        let s = seat-there (host_basis h) from h.slots i at in
+        record { place = i; slot = s.0; at = at; there = s.1; named = some-name (name_of i (readied s.0)) (sym (guest-named (host_basis h) from h.slots i s.0 at s.1) ∙ is) }
 
-guest-fresh : (h : Host) (name : PeerRef) → Keeps h → guest_name (host_basis h) h.slots ≡ Some name → IsFresh h name
-guest-fresh h name keeps is = (let g = guest-is h name is in subst (IsFresh h) (sym g.named) (fresh-seat h g.place g.slot keeps.generations g.at g.there))
+guest-fresh : (h : Host) (from : Addr) (name : PeerRef) → Keeps h → guest_name (host_basis h) from h.slots ≡ Some name → IsFresh h name
+guest-fresh h from name keeps is = (let g = guest-is h from name is in subst (IsFresh h) (sym g.named) (fresh-seat h from g.place g.slot keeps.generations g.at g.there))
 
-pub guest-other : (h : Host) (ends : List HostEnd) (name : PeerRef) → Keeps h → AreShown h ends → guest_name (host_basis h) h.slots ≡ Some name → (f : HostEnd) → Has ends f → f.name ≢ name
-guest-other h ends name keeps k is f there same = (let s = k f there in not-fresh h f name s.0 s.1 (guest-fresh h name keeps is) (sym same))
+pub guest-other : (h : Host) (from : Addr) (ends : List HostEnd) (name : PeerRef) → Keeps h → AreShown h ends → guest_name (host_basis h) from h.slots ≡ Some name → (f : HostEnd) → Has ends f → f.name ≢ name
+guest-other h from ends name keeps k is f there same = (let s = k f there in not-fresh h f name s.0 s.1 (guest-fresh h from name keeps is) (sym same))
 
 -- the end that begins where a datagram is answered
 
@@ -114,12 +114,12 @@ end-if : (x : ℕ) (name : PeerRef) (o : Option Peering) (b : Bool) → b ≡ is
 end-if x name None b is = ap (λ (c : Bool). begun_if c x name) (sym is)
 end-if x name (Some p) b is = ap (λ (c : Bool). begun_if c x name) (sym is)
 
-pub begins-if : (x : ℕ) (old new : Host) (name : PeerRef) (b : Bool) (o : Option PeerState) → guest_name (host_basis old) old.slots ≡ Some name → b ≡ is_some o → o ≡ option_map (λ (p : Peering). p.state) (named new.slots name)
-    → begun x old new ≡ begun_if b x name
-begins-if x old new name b o next is state = ap (λ (g : Option PeerRef). begun_by x g new) next ∙ end-if x name (named new.slots name) b (is ∙ ap is_some state)
+pub begins-if : (x : ℕ) (from : Addr) (old new : Host) (name : PeerRef) (b : Bool) (o : Option PeerState) → guest_name (host_basis old) from old.slots ≡ Some name → b ≡ is_some o → o ≡ option_map (λ (p : Peering). p.state) (named new.slots name)
+    → begun x from old new ≡ begun_if b x name
+begins-if x from old new name b o next is state = ap (λ (g : Option PeerRef). begun_by x g new) next ∙ end-if x name (named new.slots name) b (is ∙ ap is_some state)
 
-pub begun-none : (x : ℕ) (old new : Host) → guest_name (host_basis old) old.slots ≡ None → begun x old new ≡ []
-begun-none x old new none = ap (λ (g : Option PeerRef). begun_by x g new) none
+pub begun-none : (x : ℕ) (from : Addr) (old new : Host) → guest_name (host_basis old) from old.slots ≡ None → begun x from old new ≡ []
+begun-none x from old new none = ap (λ (g : Option PeerRef). begun_by x g new) none
 
 -- a datagram to a peer begins none
 
@@ -133,6 +133,6 @@ not-offered from bytes answer h i s t other (falling.answers from' bytes' comman
     (let same : bytes ≡ bytes' = cc in other header commands (subst (λ (l : List ℕ). IsRead l header commands) (sym same) read) nobody)
 
 pub begun-nothing : (x : ℕ) (old new : Host) (from : Addr) (bytes : List ℕ) (answer : Received) → Keeps old → Acts (call.Receive from bytes answer) old new → ((header : Header) (commands : List ℕ) → IsRead bytes header commands → header.peer ≢ no_peer)
-    → begun x old new ≡ []
+    → begun x from old new ≡ []
 begun-nothing x old new from bytes answer keeps acts other =
-    none-has (begun x old new) (λ f h. (let g = guest x old new f h in let b = guest-begins (call.Receive from bytes answer) x old new f keeps.generations acts g in not-offered from bytes answer old g.number b.0 g.held.slot other b.1))
+    none-has (begun x from old new) (λ f h. (let g = guest x from old new f h in let b = guest-begins (call.Receive from bytes answer) x from old new f keeps.generations acts g in not-offered from bytes answer old g.number b.0 g.held.slot other b.1))

@@ -1,5 +1,6 @@
 -- What holds of each site stays, whatever happens at it.
 use Rattle.std.proofs.Common.{◌≡◌, ℕ, refl, sym, ap, subst, ◌∙◌, inl, inr, Option, Some, None, Result, Ok, Err, IfOk, OnErr, slice_get}
+use Rattle.enet_codec.specs.declared.address.Addr.{Addr}
 use Rattle.enet_codec.specs.declared.event.PeerRef.{PeerRef}
 use Rattle.enet_codec.specs.declared.refusal.Refusal.{Refusal}
 use Rattle.enet_peer.specs.Peering.{Peering}
@@ -28,9 +29,9 @@ use Rattle.enet_site.specs.Private.Sites.{AreShown, IsWhole}
 Held : Host → PeerRef → Type 0
 Held h name = (p : Peering) × IsThere h.slots name p
 
-held-begun : (x : ℕ) (old new : Host) (f : HostEnd) → Has (begun x old new) f → Held new f.name
+held-begun : (x : ℕ) (from : Addr) (old new : Host) (f : HostEnd) → Has (begun x from old new) f → Held new f.name
 unfolding Held
-held-begun x old new f m = (let g = guest x old new f m in subst (λ (z : HostEnd). (q : Peering) × IsThere new.slots z.name q) (sym g.is) (g.peer, g.held))
+held-begun x from old new f m = (let g = guest x from old new f m in subst (λ (z : HostEnd). (q : Peering) × IsThere new.slots z.name q) (sym g.is) (g.peer, g.held))
 
 held-more : (w : Around) (from old new : Site) (what : Happening) → HappensAmong w from what old new → (f : HostEnd) → Has (more_of w.count from old new what) f → Held new.host f.name
 unfolding Held
@@ -41,9 +42,9 @@ held-more w from old new (Calls (call.Connect address channels info word (Ok nam
 held-more w from old new (Calls c) x f m = absurd m
 held-more w from old new (Delivers k answer) x f m = by (slice_get from.log k) m
   where
-    by : (found : Option Logged) → Has (more_in w.count old new found) f → Held new.host f.name
+    by : (found : Option Logged) → Has (more_in from.address old new found) f → Held new.host f.name
     by None y = absurd y
-    by (Some d) y = held-begun d.connection old.host new.host f y
+    by (Some d) y = held-begun d.connection from.address old.host new.host f y
 
 -- each end is shown
 

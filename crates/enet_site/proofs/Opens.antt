@@ -1,6 +1,8 @@
 -- Hosts are opened one by one.
-use Rattle.std.proofs.Common.{◌≡◌, ◌<◌, ℕ, ◌+◌, List, [], ◌∷◌, ◌++◌, length, take, get_or, sym, ap, ◌∙◌, arith}
+use Rattle.std.proofs.Common.{◌≡◌, ◌<◌, ℕ, ◌+◌, Bool, true, false, List, [], ◌∷◌, ◌++◌, length, take, get_or, refl, sym, ap, ◌∙◌, arith}
 use Rattle.std.proofs.lemmas.List.{take_more, length-take}
+use Rattle.std.proofs.lemmas.List.Folds.{list_all_at}
+use Rattle.std.specs.List.{list_all}
 use Rattle.enet_codec.specs.declared.address.Addr.{Addr}
 use Rattle.enet_codec.specs.declared.config.Config.{Config}
 use Rattle.law_network.specs.Places.{Place, opened_at, all_opened}
@@ -10,6 +12,14 @@ opened-last address i [] c = ap (λ (n : ℕ). opened_at (address n) c ∷ []) (
 opened-last address i (x ∷ configs) c =
     ap (λ (l : List Place). opened_at (address i) x ∷ l)
     (opened-last address (i + 1) configs c ∙ ap (λ (n : ℕ). all_opened address (i + 1) configs ++ opened_at (address n) c ∷ []) (let same : i + 1 + length configs ≡ i + length (x ∷ configs) = omega arith in same))
+
+-- of a list of which each passes, so does each that is read
+pub all-at : {X : Type 0} (p : X → Bool) (xs : List X) (i : ℕ) (d : X) → list_all p xs ≡ true → i < length xs → p (get_or xs i d) ≡ true
+all-at p xs i d all low = by (p (get_or xs i d)) refl
+  where
+    by : (b : Bool) → p (get_or xs i d) ≡ b → p (get_or xs i d) ≡ true
+    by true is = is
+    by false is = absurd (let y : true ≡ false = sym all ∙ list_all_at p xs i d low is in cc)
 
 -- one more is opened
 pub opened-more : (address : ℕ → Addr) (configs : List Config) (n : ℕ) (d : Config) (place : Place) (places after : List Place) → n < length configs → places ≡ all_opened address 0 (take n configs)

@@ -34,24 +34,24 @@ fn names_nobody(text: &[u8]) -> bool
     }
 }
 
-/// The name of the peer that would answer this datagram, if any does.
-fn answering_peer(host: &mut HostCore, text: &[u8]) -> Option<PeerRef>
+/// The name of the peer that would answer this datagram of an address, if any does.
+fn answering_peer(host: &mut HostCore, from: Addr, text: &[u8]) -> Option<PeerRef>
     requires { Keeps host.old }
-    ensures next { IfSome result (λ name. guest_name (host_basis host.old) host.old.slots ≡ Some name) }
-    ensures none { IfNone result ((from : Addr) (x : ℕ) (answer : Received) (after : Host) → Acts (call.Receive from text.now answer) host.old after → begun x host.old after ≡ []) }
+    ensures next { IfSome result (λ name. guest_name (host_basis host.old) from host.old.slots ≡ Some name) }
+    ensures none { IfNone result ((x : ℕ) (answer : Received) (after : Host) → Acts (call.Receive from text.now answer) host.old after → begun x from host.old after ≡ []) }
     ensures same { host.new ≡ host.old }
 {
     if !names_nobody(text) {
         return None;
     }
-    host.next_guest()
+    host.next_guest(from)
 }
 
 /// A datagram comes from an address, and whether the peer that has this name next answers it.
 fn receive(host: &mut HostCore, name: PeerRef, from: Addr, text: &[u8]) -> (Received, bool)
-    requires { guest_name (host_basis host.old) host.old.slots ≡ Some name }
+    requires { guest_name (host_basis host.old) from host.old.slots ≡ Some name }
     ensures receives { Acts (call.Receive from text.now result.0) host.old host.new }
-    ensures begins { (x : ℕ) → begun x host.old host.new ≡ begun_if result.1 x name }
+    ensures begins { (x : ℕ) → begun x from host.old host.new ≡ begun_if result.1 x name }
 {
     let answer = host.receive(from, text);
     let begins = host.state(name).is_some();
@@ -73,7 +73,7 @@ fn receive_datagram(
     ensures unchanged { OnErr result (own.new ≡ own.old) }
     ensures brings { IfOk result (λ answer. (address : Addr) → Brought from datagram.now answer (site address host.old own.old) (site address host.new own.new)) }
 {
-    let Some(name) = answering_peer(host, &datagram.text) else {
+    let Some(name) = answering_peer(host, from, &datagram.text) else {
         return Ok(host.receive(from, &datagram.text));
     };
     let end = fresh_end(alloc, datagram.connection, name)?;

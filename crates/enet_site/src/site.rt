@@ -238,6 +238,13 @@ impl Site {
         self.host.set_send_limit(bytes, commands);
     }
 
+    /// The host, to be looked at.
+    pub fn host(&self) -> &HostCore
+        ensures { result.now ≡ self.now.host }
+    {
+        &self.host
+    }
+
     /// How many slots the host has.
     pub fn slots(&self) -> u16
         ensures { result ≡ length self.now.host.slots }

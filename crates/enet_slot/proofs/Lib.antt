@@ -5,3 +5,4 @@ pub mod OverAll
 pub mod Waiting
 pub mod OneByOne
 pub mod Tallies
+pub mod Longest

@@ -11,7 +11,8 @@
 //! memory changes nothing.
 //! Over all slots of a host: `unused_slots` and `joined_slots` make them, `position_of_connection` looks for a connection,
 //! `set_bandwidth` (`changed`) and `share_out` (`shared`) are one change on each, and `count_slots` says how many are free and how far the
-//! others have come (`Counts`). Where an offer is to go is said (`IsSeat`), and found by `enet_sleepers`.
+//! others have come (`Counts`). `count_guests` counts the peers of an IP address that began by a CONNECT (`guests_of`), and `oldest_guest` is
+//! the one of them that gives way to another (`oldest_of`). Where an offer is to go is said (`IsSeat`), and found by `enet_sleepers`.
 //! Only tested, with the host's calls by `check_hosts`: that calls succeed with ample memory.
 #![tactic(auto)]
 
@@ -23,6 +24,7 @@ mod emitting;
 mod entering;
 mod events;
 mod giving;
+mod guests;
 mod holding;
 mod receiving;
 mod sharing;
@@ -34,4 +36,5 @@ pub use calls::{Setting, submission_refusal};
 pub use counting::{SlotCounts, Standing, count_sent_again, count_slots};
 pub use entering::count_entered;
 pub use giving::{Question, Start};
+pub use guests::{count_guests, oldest_guest};
 pub use slot::Slot;

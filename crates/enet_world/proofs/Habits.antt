@@ -260,6 +260,7 @@ still-mtu : (c : Call) (k : Config) → IsStill c → (config_by c k).mtu ≡ k.
 still-mtu (call.SetBandwidth incoming outgoing answer) k still = absurd still
 still-mtu (call.Admit admission.GiveWay (Ok done)) k still = refl
 still-mtu (call.Admit (admission.Most peers) (Ok done)) k still = refl
+still-mtu (call.Admit (admission.OfAddress peers) (Ok done)) k still = refl
 still-mtu c k still = refl
 
 still-call : (time : ℕ) (c : Call) (h g : Host) → IsStill c → Acts c h g → HostHabits time h → HostHabits time g

@@ -337,9 +337,9 @@ brought joined b v x side now own far p k received o r h none is plain lone q is
         let apart : found.0.connection ≢ x = passed.0 found.0 (subst (λ (t : Site). slice_get t.log k ≡ Some found.0) same_from found.1) in
         let shown = passes-over k received found.0 from to (site_of v (other side)) found.2 found.1 (host-at j b s (other (other side))).named ends.e far o.new (is-end j b x (other side) far o.new s ends)
         (far-end j b x (other side) far o.new s ends) (λ e. apart (e ∙ ends.of_e)) in
-        let m : Moved v x (other side) o.new (λ end. (end ≡ far) ⊎ GoesTo to ends.e found.0 far o.new end) =
-        moved b v x (other side) far o.new (Delivers k received) (λ end. (end ≡ far) ⊎ GoesTo to ends.e found.0 far o.new end) ends h shown in
-        let up : Up joined v x side o.new far = done far (subst (λ (e : End). Ends v x (other side) e o.new) (not-let-go to ends.e found.0 far o.new m.0 q is_q on_q m.2) m.1) o.joint (q, is_q, on_q) in
+        let m : Moved v x (other side) o.new (λ end. (end ≡ far) ⊎ GoesTo from.address to ends.e found.0 far o.new end) =
+        moved b v x (other side) far o.new (Delivers k received) (λ end. (end ≡ far) ⊎ GoesTo from.address to ends.e found.0 far o.new end) ends h shown in
+        let up : Up joined v x side o.new far = done far (subst (λ (e : End). Ends v x (other side) e o.new) (not-let-go from.address to ends.e found.0 far o.new m.0 q is_q on_q m.2) m.1) o.joint (q, is_q, on_q) in
         elim passed.1 [
           | inl same ↦ (0, o.new, far, up, (same, refl))
           | inr emits ↦ (1, o.new, far, up, one-put now there own far o.new far (record { goes = emits; new = []; logged = passed.2 ∙ sym (append-nil own.log); arrived = far; come = refl; events = 0; takes = refl }))

@@ -216,7 +216,7 @@ deliver-near : (joined : Bool) (P : Peering → Type 0) (w v : World) (x : ℕ) 
     → Lone P w x side → Lone P v x side
 deliver-near joined P w v x side n (Err why) r step apart k = subst (λ (u : World). Lone P u x side) (sym step.1) k
 deliver-near joined P w v x side n (Ok (answers.Received received)) r step apart k =
-    near P P w v x side (Delivers n received) k h (shown-so Went (Holds (IsOnWith P)) (site_of v side) k.ends.e (λ end went. same-on P k.own end k.p k.is k.on k.holds (not-let-go (site_of w side) k.ends.e found.0 k.own k.far end k.p k.is k.on went)) shown)
+    near P P w v x side (Delivers n received) k h (shown-so Went (Holds (IsOnWith P)) (site_of v side) k.ends.e (λ end went. same-on P k.own end k.p k.is k.on k.holds (not-let-go (site_of w (other side)).address (site_of w side) k.ends.e found.0 k.own k.far end k.p k.is k.on went)) shown)
   where
     h : HappensAt side (Delivers n received) w v
     h = subst (λ (e : Happening). HappensAt side e w v) step.1 step.2
@@ -231,7 +231,7 @@ deliver-near joined P w v x side n (Ok (answers.Received received)) r step apart
     found = found-in from (site_of w side) (site_of v side) received (slice_get from.log n) h.here
 
     Went : End → Type 0
-    Went end = (end ≡ k.own) ⊎ GoesTo (site_of w side) k.ends.e found.0 k.own k.far end
+    Went end = (end ≡ k.own) ⊎ GoesTo from.address (site_of w side) k.ends.e found.0 k.own k.far end
 
     shown : IsShownAs (site_of v side) k.ends.e Went
     shown = passes-over n received found.0 from (site_of w side) (site_of v side) found.2 found.1 (host-at (from_start joined) w s (other side)).named k.ends.e k.own k.far (is-end (from_start joined) w x side k.own k.far s k.ends)

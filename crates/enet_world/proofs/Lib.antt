@@ -36,3 +36,4 @@ pub mod EndedIsSilent
 pub mod LeftAlone
 pub mod AloneIsTold
 pub mod Stands
+pub mod Joining

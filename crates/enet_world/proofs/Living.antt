@@ -60,6 +60,7 @@ same-mtu (call.SetBandwidth incoming outgoing (Ok done)) k = refl
 same-mtu (call.SetBandwidth incoming outgoing (Err why)) k = refl
 same-mtu (call.Admit admission.GiveWay (Ok done)) k = refl
 same-mtu (call.Admit (admission.Most peers) (Ok done)) k = refl
+same-mtu (call.Admit (admission.OfAddress peers) (Ok done)) k = refl
 same-mtu (call.Admit what (Err why)) k = refl
 same-mtu c k = refl
 

@@ -1,5 +1,6 @@
 -- While both ends are connected, no DISCONNECT goes: a connected peer has none to send, and by no other command it ceases to be connected.
 use Rattle.std.proofs.Common.{◌≡◌, ◌⊎◌, inl, inr, ℕ, Bool, true, false, List, [], ◌∷◌, ◌++◌, append-nil, map, refl, sym, ap, subst, ◌∙◌, Option, Some, None}
+use Rattle.enet_codec.specs.declared.address.Addr.{Addr}
 use Rattle.enet_codec.specs.declared.command.Fragment.{Fragment}
 use Rattle.enet_codec.specs.Message.{Message, disconnect}
 use Rattle.enet_senders.specs.declared.control.Control.{Control}
@@ -39,9 +40,9 @@ hears-on p now sent m on none = meets (λ q. q.state ≡ state.Connected) p now 
 })
 
 -- nor is it let go for another
-pub not-let-go : (s : Site) (e : HostEnd) (d : Logged) (own far new : End) (p : Peering) → own.peer ≡ Some p → p.state ≡ state.Connected → (new ≡ own) ⊎ GoesTo s e d own far new → new ≡ own
-not-let-go s e d own far new p is on (inl same) = same
-not-let-go s e d own far new p is on (inr x) =
+pub not-let-go : (from : Addr) (s : Site) (e : HostEnd) (d : Logged) (own far new : End) (p : Peering) → own.peer ≡ Some p → p.state ≡ state.Connected → (new ≡ own) ⊎ GoesTo from s e d own far new → new ≡ own
+not-let-go from s e d own far new p is on (inl same) = same
+not-let-go from s e d own far new p is on (inr x) =
     let gone = x.2 in
     let same : gone.0 ≡ p = same-some gone.0 p (sym gone.1 ∙ is) in
     absurd (let y : true ≡ false = sym gone.2 ∙ ap (λ (q : Peering). is_answering q.state) same ∙ ap is_answering on in cc)

@@ -198,7 +198,7 @@ pub delivers-site : (f : PeerState → Bool) → Rises f → (was : HostEnd) (x 
     → IsEither f was old x → IsEither f was new x
 delivers-site f rises was x from old new answer None few h k = absurd h
 delivers-site f rises was x from old new answer (Some d) few h k =
-    keeps-site f rises was x (call.Receive from.address d.text answer) old new few h.1.0 tt (remains-more x old new (begun d.connection old.host new.host) (ap (λ (s : Site). s.ends) h.1.1)) k
+    keeps-site f rises was x (call.Receive from.address d.text answer) old new few h.1.0 tt (remains-more x old new (begun d.connection from.address old.host new.host) (ap (λ (s : Site). s.ends) h.1.1)) k
 
 -- ---- the user takes
 -- an event, which may be another end's

@@ -16,7 +16,7 @@ ghost use Rattle.enet_world.specs.Private.Worlds.{IsReachedIn};
 use crate::enough::rounds_of_a_wait;
 use crate::hosts::Hosts;
 use enet_codec::{Config, Event, Packet, Refusal};
-use enet_host::PeerState;
+use enet_host::{HostCore, PeerState};
 use law_network::{Answer, Side, WorldEvent, each_connection_in_order};
 use std::alloc::Global;
 use std::marker::Model;
@@ -283,6 +283,13 @@ impl World {
         ensures { option_copied result ≡ option_map (λ d. d.text) (slice_get (site_of self.now.world side).log k) }
     {
         self.hosts.site(side).datagram(k)
+    }
+
+    /// The host of a side, to be looked at.
+    pub fn host(&self, side: Side) -> &HostCore
+        ensures { result.now ≡ (site_of self.now.world side).host }
+    {
+        self.hosts.site(side).host()
     }
 
     /// How many slots the host of a side has.

@@ -263,10 +263,10 @@ calls-change submitted taken w from old new (call.NextEvent (Some event)) x =
     taken-one submitted taken event (name_of a.from a.first.slot) a.gives.taken.event old new a.gives.told (ap (λ (s : Site). s.ends) x.1)
 
 brings-change : (submitted : PeerRef → ℕ → List Packet) (taken : PeerRef → List Event) (next k : ℕ) (from old new : Site) (answer : Received) (found : Option Logged) → BringsOne from found answer old new
-    → Changed submitted taken (Delivers k answer) old new (more_in next old new found)
+    → Changed submitted taken (Delivers k answer) old new (more_in from.address old new found)
 brings-change submitted taken next k from old new answer None x = absurd x
 brings-change submitted taken next k from old new answer (Some d) x =
-    unchanged submitted taken (Delivers k answer) old new (begun d.connection old.host new.host) (ap (λ (s : Site). s.ends) x.1.1) (λ n channel. refl) (λ n. refl)
+    unchanged submitted taken (Delivers k answer) old new (begun d.connection from.address old.host new.host) (ap (λ (s : Site). s.ends) x.1.1) (λ n channel. refl) (λ n. refl)
 
 changes : (submitted : PeerRef → ℕ → List Packet) (taken : PeerRef → List Event) (w : Around) (from old new : Site) (what : Happening) → HappensAmong w from what old new → Changed submitted taken what old new (more_of w.count from old new what)
 changes submitted taken w from old new (Calls c) x = calls-change submitted taken w from old new c x
@@ -293,9 +293,9 @@ more-fresh next from old new (Calls (call.Connect address channels info word (Ok
 more-fresh next from old new (Calls c) f h = absurd h
 more-fresh next from old new (Delivers k answer) f h = by (slice_get from.log k) h
   where
-    by : (found : Option Logged) → Has (more_in next old new found) f → f ≡ fresh_end f.connection f.name
+    by : (found : Option Logged) → Has (more_in from.address old new found) f → f ≡ fresh_end f.connection f.name
     by None m = absurd m
-    by (Some d) m = (let b = begun-is d.connection old.host new.host f m in subst (λ (z : HostEnd). z ≡ fresh_end z.connection z.name) (sym b.4) refl)
+    by (Some d) m = (let b = begun-is d.connection from.address old.host new.host f m in subst (λ (z : HostEnd). z ≡ fresh_end z.connection z.name) (sym b.4) refl)
 
 fresh-unborn : (h : Host) (name : PeerRef) → IsFresh h name → IsUnborn h name
 fresh-unborn h name f = record {

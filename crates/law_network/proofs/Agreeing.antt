@@ -80,7 +80,7 @@ seat-same : (g h : Common) (i : ℕ) (from : Addr) (bytes commands : List ℕ) (
     → GetsSeat i (receipt h from bytes answer) header commands
 seat-same g h i from bytes commands answer header read e x =
     let k = e header commands x.offer read x.stranger x.is in
-    record { offer = x.offer; stranger = x.stranger; is = x.is; taken = x.taken; new = sym k.1 ∙ x.new; seat = next-same g.seat h.seat i k.0.2 x.seat; answered = x.answered }
+    record { offer = x.offer; stranger = x.stranger; is = x.is; taken = x.taken; new = sym k.1 ∙ x.new; seat = next-same (g.seat from) (h.seat from) i k.0.2 x.seat; answered = x.answered }
 
 offers-back : (from : Addr) (bytes : List ℕ) (i : ℕ) (g h : Common) → AgreeOnOffers from bytes i g h → AgreeOnOffers from bytes i h g
 offers-back from bytes i g h e = λ header commands o read stranger offer. (let k = e header commands o read stranger offer in ((sym k.0.0, sym k.0.1, sym k.0.2), sym k.1))
@@ -125,13 +125,13 @@ counts-same c g h i s o e = refl
 
 -- by an offer
 pub answers-same : (c : Call) (g h : Common) (i : ℕ) (s : SlotState) (from : Addr) (bytes commands : List ℕ) (header : Header) (o : Offer) → c ≡ call.Receive from bytes handled_one → IsRead bytes header commands → header.peer ≡ no_peer → IsOffer commands o
-    → offer_refused o ≡ None → g.knows from o.connect_id ≡ false → g.seat ≡ Some i → AgreeOnOffers from bytes i g h → Begins c h i s (answering (common_basis g) i s from o)
+    → offer_refused o ≡ None → g.knows from o.connect_id ≡ false → g.seat from ≡ Some i → AgreeOnOffers from bytes i g h → Begins c h i s (answering (common_basis g) i s from o)
 answers-same c g h i s from bytes commands header o is read stranger offer taken new at e =
-    let k : AgreeOnSeat i g h × (g.knows from o.connect_id ≡ h.knows from o.connect_id) = e header commands o read stranger offer in
+    let k : AgreeOnSeat from i g h × (g.knows from o.connect_id ≡ h.knows from o.connect_id) = e header commands o read stranger offer in
     subst (λ (x : SlotState). Begins c h i s x)
     (sym (ap (λ (x : Config). answering (record { config = x; clock = g.clock }) i s from o) k.0.0
     ∙ ap (λ (now : ℕ). answering (record { config = h.config; clock = now }) i s from o) k.0.1))
-    (answers from bytes commands header o is read stranger offer taken (sym k.1 ∙ new) (next-same g.seat h.seat i k.0.2 at))
+    (answers from bytes commands header o is read stranger offer taken (sym k.1 ∙ new) (next-same (g.seat from) (h.seat from) i k.0.2 at))
 
 pub begins-same : (c : Call) (g h : Common) (i : ℕ) (s u : SlotState) → AgreeOnFree c i g h → Begins c g i s u → Begins c h i s u
 begins-same c g h i s u e (asks address channels info word is some at) =

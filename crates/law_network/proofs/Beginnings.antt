@@ -163,11 +163,11 @@ answered k answer d from old new few x sent none f h far shown = begins from k d
     nothing : HasNothingOf d.connection new
     nothing = subst (λ (l : List Logged). (z : Logged) → Has l z → z.connection ≢ d.connection) (ap (λ (s : Site). s.log) (sym brought.1)) none
 
-    g : IsGuest d.connection old.host new.host f
-    g = guest d.connection old.host new.host f h
+    g : IsGuest d.connection from.address old.host new.host f
+    g = guest d.connection from.address old.host new.host f h
 
     b : (u : SlotState) × falling.Begins (call.Receive from.address d.text answer) (common_of old.host) g.number u g.held.slot
-    b = guest-begins (call.Receive from.address d.text answer) d.connection old.host new.host f few brought.0 g
+    b = guest-begins (call.Receive from.address d.text answer) d.connection from.address old.host new.host f few brought.0 g
 
     named' : f ≡ fresh_end d.connection (name_of g.number g.held.slot)
     named' = g.is ∙ ap (λ (n : ℕ). fresh_end d.connection (record { slot = g.number; generation = n })) (sym g.held.same)

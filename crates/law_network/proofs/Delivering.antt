@@ -278,7 +278,7 @@ heard-at-address from text answer old new e p h =
 -- so a datagram is heard in the slot of an end, or its peer is let go for another, or nothing happens to it
 pub received-by : (M : Type 0) (from : Addr) (text : List ℕ) (answer : Received) (old new : Site) (e : HostEnd) (own : End) → old.host.config.generations ≤ greatest
     → Acts (call.Receive from text answer) old.host new.host → (k : Shows old e own) → (ShowsPeer new.host e.name k.peer → M)
-    → ((header : Header) (commands : List ℕ) → IsRead text header commands → header.peer ≡ no_peer → seat (host_basis old.host) old.host.slots ≡ Some e.name.slot → is_answering k.peer.state ≡ true → ShowsPeer new.host e.name (freed k.peer) → M)
+    → ((header : Header) (commands : List ℕ) → IsRead text header commands → header.peer ≡ no_peer → seat (host_basis old.host) from old.host.slots ≡ Some e.name.slot → is_answering k.peer.state ≡ true → ShowsPeer new.host e.name (freed k.peer) → M)
     → (IsHeard from text answer old new e k.peer → M) → M
 received-by M from text answer old new e own low acts k quiet let-go heard-here = by old.host.slots answer new.host.slots refl refl refl acts.arrives
   where
@@ -323,10 +323,10 @@ received-by M from text answer old new e own low acts k quiet let-go heard-here 
       where
         at : (j ≡ e.name.slot) ⊎ (j ≢ e.name.slot) → M
         at (inr other) = elsewhere slots after j (answering (host_basis old.host) j (readied s) from o) was is refl other
-        at (inl here) = seated (let-go header commands read stranger (ap (λ (xs : List SlotState). seat (host_basis old.host) xs) (sym was) ∙ found ∙ ap (λ (l : ℕ). Some l) here)) s (answering (host_basis old.host) j (readied s) from o)
+        at (inl here) = seated (let-go header commands read stranger (ap (λ (xs : List SlotState). seat (host_basis old.host) from xs) (sym was) ∙ found ∙ ap (λ (l : ℕ). Some l) here)) s (answering (host_basis old.host) j (readied s) from o)
             (subst (λ (l : ℕ). slice_get old.host.slots l ≡ Some s) here (ap (λ (xs : List SlotState). slice_get xs j) (sym was) ∙ there))
             (ap (λ (xs : List SlotState). slice_get xs e.name.slot) (sym is) ∙ ap (λ (l : ℕ). slice_get (slice_set slots j (answering (host_basis old.host) j (readied s) from o)) l) (sym here) ∙ get-set slots j s (answering (host_basis old.host) j (readied s) from o) there)
-            refl (seat-open (host_basis old.host) old.host.slots j s (ap (λ (xs : List SlotState). seat (host_basis old.host) xs) (sym was) ∙ found) (ap (λ (xs : List SlotState). slice_get xs j) (sym was) ∙ there))
+            refl (seat-open (host_basis old.host) from old.host.slots j s (ap (λ (xs : List SlotState). seat (host_basis old.host) from xs) (sym was) ∙ found) (ap (λ (xs : List SlotState). slice_get xs j) (sym was) ∙ there))
 
     heard-at : (header : Header) (commands : List ℕ) (s t : SlotState) → IsRead text header commands → header.peer ≢ no_peer → refused_by_slot from header.session (Some s) ≡ None
         → slice_get old.host.slots header.peer ≡ Some s → PeerReceives (arrival old.host header s) commands s answer t → new.host.slots ≡ slice_set old.host.slots header.peer t → header.peer ≡ e.name.slot

@@ -20,14 +20,14 @@ use Rattle.law_network.proofs.OneThing.{Has-append_left, event-ends}
 pub use Rattle.law_network.proofs.Guests.{begun-is}
 
 -- the ends that begin
-abbrev pub more_in : ℕ → Site → Site → Option Logged → List HostEnd
-more_in next old new None = []
-more_in next old new (Some d) = begun d.connection old.host new.host
+abbrev pub more_in : Addr → Site → Site → Option Logged → List HostEnd
+more_in from old new None = []
+more_in from old new (Some d) = begun d.connection from old.host new.host
 
 abbrev pub more_of : ℕ → Site → Site → Site → Happening → List HostEnd
 more_of next other old new (Calls (call.Connect address channels info word (Ok name))) = fresh_end next name ∷ []
 more_of next other old new (Calls c) = []
-more_of next other old new (Delivers k answer) = more_in next old new (slice_get other.log k)
+more_of next other old new (Delivers k answer) = more_in other.address old new (slice_get other.log k)
 
 -- all others are those of before, each changed alone, with the same name and connection
 pub record Grows (old new : Site) (more : List HostEnd) : Type 0 where
@@ -92,13 +92,13 @@ calls-grow w from old new (call.NextEvent (Some event)) x =
     subst (λ (t : Told). after_event t old.ends ≡ with_end (with_event t) name old.ends) (sym a.gives.told) (event-ends name a.gives.taken.event old.ends) in
     grows-one old new (with_event event) name (λ e. refl) (λ e. refl) (ap (λ (s : Site). s.ends) x.1 ∙ ends)
 
-brings-grow : (next : ℕ) (other old new : Site) (answer : Received) (found : Option Logged) → BringsOne other found answer old new → Grows old new (more_in next old new found)
-brings-grow next other old new answer None x = absurd x
-brings-grow next other old new answer (Some d) x = grows-same old new (begun d.connection old.host new.host) (ap (λ (s : Site). s.ends) x.1.1)
+brings-grow : (other old new : Site) (answer : Received) (found : Option Logged) → BringsOne other found answer old new → Grows old new (more_in other.address old new found)
+brings-grow other old new answer None x = absurd x
+brings-grow other old new answer (Some d) x = grows-same old new (begun d.connection other.address old.host new.host) (ap (λ (s : Site). s.ends) x.1.1)
 
 pub grows : (w : Around) (from old new : Site) (what : Happening) → HappensAmong w from what old new → Grows old new (more_of w.count from old new what)
 grows w from old new (Calls c) x = calls-grow w from old new c x
-grows w from old new (Delivers k answer) x = brings-grow w.count from old new answer (slice_get from.log k) x
+grows w from old new (Delivers k answer) x = brings-grow from old new answer (slice_get from.log k) x
 
 -- each end is one of before, or begins
 

@@ -1,6 +1,7 @@
 -- Who a CONNECT that is answered brings: the peer of the slot that an offer gets, as it was readied.
 use Rattle.std.proofs.Common.{◌≡◌, ◌≢◌, ◌<◌, ◌≤◌, ℕ, ◌⊎◌, inl, inr, List, [], ◌∷◌, refl, sym, ap, subst, ◌∙◌, arith, Option, Some, None, slice_get}
 use Rattle.std.specs.Option.{option_map, option_and_then}
+use Rattle.enet_codec.specs.declared.address.Addr.{Addr}
 use Rattle.enet_codec.specs.declared.event.PeerRef.{PeerRef}
 use Rattle.enet_peer.specs.declared.parts.PeerState.{PeerState}
 use Rattle.enet_peer.specs.declared.parts.PeerState.TheVariants as state
@@ -26,48 +27,48 @@ same-some : {X : Type 0} (x y : X) → ◌≡◌ {A = Option X} (Some x) (Some y
 same-some x y e = cc
 
 -- the name that a guest gets
-pub guest-named : (basis : Basis) (slots : List SlotState) (i : ℕ) (s : SlotState) → seat basis slots ≡ Some i → slice_get slots i ≡ Some s → guest_name basis slots ≡ Some (name_of i (readied s))
-guest-named basis slots i s at there =
+pub guest-named : (basis : Basis) (from : Addr) (slots : List SlotState) (i : ℕ) (s : SlotState) → seat basis from slots ≡ Some i → slice_get slots i ≡ Some s → guest_name basis from slots ≡ Some (name_of i (readied s))
+guest-named basis from slots i s at there =
     ap (λ (o : Option ℕ). option_and_then (λ j. option_map (λ (z : SlotState). name_of j (readied z)) (slice_get slots j)) o) at ∙ ap (λ (o : Option SlotState). option_map (λ (z : SlotState). name_of i (readied z)) o) there
 
-pub guest-none : (basis : Basis) (slots : List SlotState) → seat basis slots ≡ None → guest_name basis slots ≡ None
-guest-none basis slots none = ap (λ (o : Option ℕ). option_and_then (λ j. option_map (λ (z : SlotState). name_of j (readied z)) (slice_get slots j)) o) none
+pub guest-none : (basis : Basis) (from : Addr) (slots : List SlotState) → seat basis from slots ≡ None → guest_name basis from slots ≡ None
+guest-none basis from slots none = ap (λ (o : Option ℕ). option_and_then (λ j. option_map (λ (z : SlotState). name_of j (readied z)) (slice_get slots j)) o) none
 
 -- the end that begins is of that name
-pub record IsGuest (x : ℕ) (old new : Host) (f : HostEnd) : Type 0 where
+pub record IsGuest (x : ℕ) (from : Addr) (old new : Host) (f : HostEnd) : Type 0 where
   pub number : ℕ
   pub before : SlotState
-  pub at : seat (host_basis old) old.slots ≡ Some number
+  pub at : seat (host_basis old) from old.slots ≡ Some number
   pub there : slice_get old.slots number ≡ Some before
   pub peer : Peering
   pub held : IsThere new.slots (name_of number (readied before)) peer
   pub is : f ≡ fresh_end x (name_of number (readied before))
 
-pub guest : (x : ℕ) (old new : Host) (f : HostEnd) → Has (begun x old new) f → IsGuest x old new f
-guest x old new f h = by (seat (host_basis old) old.slots) refl
+pub guest : (x : ℕ) (from : Addr) (old new : Host) (f : HostEnd) → Has (begun x from old new) f → IsGuest x from old new f
+guest x from old new f h = by (seat (host_basis old) from old.slots) refl
   where
-    held : (i : ℕ) (s : SlotState) → seat (host_basis old) old.slots ≡ Some i → slice_get old.slots i ≡ Some s → (o : Option Peering) → named new.slots (name_of i (readied s)) ≡ o → Has (end_of_guest x (name_of i (readied s)) o) f → IsGuest x old new f
+    held : (i : ℕ) (s : SlotState) → seat (host_basis old) from old.slots ≡ Some i → slice_get old.slots i ≡ Some s → (o : Option Peering) → named new.slots (name_of i (readied s)) ≡ o → Has (end_of_guest x (name_of i (readied s)) o) f → IsGuest x from old new f
     held i s at there None is y = absurd y
     held i s at there (Some p) is (inl same) = record { number = i; before = s; at = at; there = there; peer = p; held = named-there new.slots (name_of i (readied s)) p is; is = sym same }
     held i s at there (Some p) is (inr y) = absurd y
 
-    by : (o : Option ℕ) → seat (host_basis old) old.slots ≡ o → IsGuest x old new f
-    by None e = absurd (subst (λ (o : Option PeerRef). Has (begun_by x o new) f) (guest-none (host_basis old) old.slots e) h)
+    by : (o : Option ℕ) → seat (host_basis old) from old.slots ≡ o → IsGuest x from old new f
+    by None e = absurd (subst (λ (o : Option PeerRef). Has (begun_by x o new) f) (guest-none (host_basis old) from old.slots e) h)
     by (Some i) e =
-        let s = seat-there (host_basis old) old.slots i e in
-        held i s.0 e s.1 (named new.slots (name_of i (readied s.0))) refl (subst (λ (o : Option PeerRef). Has (begun_by x o new) f) (guest-named (host_basis old) old.slots i s.0 e s.1) h)
+        let s = seat-there (host_basis old) from old.slots i e in
+        held i s.0 e s.1 (named new.slots (name_of i (readied s.0))) refl (subst (λ (o : Option PeerRef). Has (begun_by x o new) f) (guest-named (host_basis old) from old.slots i s.0 e s.1) h)
 
 -- and where the host holds a peer of that name then, an end begins
-pub guest-begun : (x : ℕ) (old new : Host) (i : ℕ) (s : SlotState) (p : Peering) → seat (host_basis old) old.slots ≡ Some i → slice_get old.slots i ≡ Some s → IsThere new.slots (name_of i (readied s)) p → Has (begun x old new) (fresh_end x (name_of i (readied s)))
-guest-begun x old new i s p at there held =
-    subst (λ (o : Option PeerRef). Has (begun_by x o new) (fresh_end x (name_of i (readied s)))) (sym (guest-named (host_basis old) old.slots i s at there))
+pub guest-begun : (x : ℕ) (from : Addr) (old new : Host) (i : ℕ) (s : SlotState) (p : Peering) → seat (host_basis old) from old.slots ≡ Some i → slice_get old.slots i ≡ Some s → IsThere new.slots (name_of i (readied s)) p → Has (begun x from old new) (fresh_end x (name_of i (readied s)))
+guest-begun x from old new i s p at there held =
+    subst (λ (o : Option PeerRef). Has (begun_by x o new) (fresh_end x (name_of i (readied s)))) (sym (guest-named (host_basis old) from old.slots i s at there))
     (subst (λ (o : Option Peering). Has (end_of_guest x (name_of i (readied s)) o) (fresh_end x (name_of i (readied s)))) (sym (there-named new.slots (name_of i (readied s)) p held)) (inl refl))
 
 -- the end as its slot has it afterwards
-pub begun-is : (x : ℕ) (old new : Host) (f : HostEnd) → Has (begun x old new) f
-    → (i : ℕ) × (s : SlotState) × (seat (host_basis old) old.slots ≡ Some i) × (slice_get new.slots i ≡ Some s) × (f ≡ fresh_end x (name_of i s))
-begun-is x old new f h =
-    let g = guest x old new f h in
+pub begun-is : (x : ℕ) (from : Addr) (old new : Host) (f : HostEnd) → Has (begun x from old new) f
+    → (i : ℕ) × (s : SlotState) × (seat (host_basis old) from old.slots ≡ Some i) × (slice_get new.slots i ≡ Some s) × (f ≡ fresh_end x (name_of i s))
+begun-is x from old new f h =
+    let g = guest x from old new f h in
     (g.number, g.held.slot, g.at, g.held.there, g.is ∙ ap (λ (n : ℕ). fresh_end x (record { slot = g.number; generation = n })) (sym g.held.same))
 
 -- ---- how it came
@@ -98,9 +99,9 @@ guest-fared c h i s t p few open' new has (takes_over r q ds was fell alone gone
 guest-fared c h i s t p few open' new has (begins none left b) = (s, b)
 
 -- by any call where an end begins, its peer begins in its slot
-pub guest-begins : (c : Call) (x : ℕ) (old new : Host) (f : HostEnd) → old.config.generations ≤ greatest → Acts c old new → (g : IsGuest x old new f) → (u : SlotState) × Begins c (common_of old) g.number u g.held.slot
-guest-begins c x old new f few acts g =
+pub guest-begins : (c : Call) (x : ℕ) (from : Addr) (old new : Host) (f : HostEnd) → old.config.generations ≤ greatest → Acts c old new → (g : IsGuest x from old new f) → (u : SlotState) × Begins c (common_of old) g.number u g.held.slot
+guest-begins c x from old new f few acts g =
     let t : (t : SlotState) × (slice_get new.slots g.number ≡ Some t) × Fares c (common_of old) g.number g.before t = one-call c old new acts g.number g.before g.there in
     let same : t.0 ≡ g.held.slot = same-some t.0 g.held.slot (sym t.1 ∙ g.held.there) in
-    guest-fared c old g.number g.before g.held.slot g.peer few (seat-open (host_basis old) old.slots g.number g.before g.at g.there) g.held.same g.held.peer
+    guest-fared c old g.number g.before g.held.slot g.peer few (seat-open (host_basis old) from old.slots g.number g.before g.at g.there) g.held.same g.held.peer
     (subst (λ (y : SlotState). Fares c (common_of old) g.number g.before y) same t.2)

@@ -310,10 +310,14 @@ never : (b : Bool) → (b && false) ≡ false
 never true = refl
 never false = refl
 
+-- nor has it a limit for an address
+unlimited : {M : Type 0} (n : ℕ) → ◌≡◌ {A = Option ℕ} None (Some n) → M
+unlimited n is = absurd (cc)
+
 pub hears : (next : ℕ) (side : Side) (from : Site) (x : Lone) (k session : ℕ) (sent : Option ℕ) (d : Logged) (m : Message) (q : Peering) → Brings from (site side x) side k 0 session sent d m → Obeys side x session sent m q
     → Happens next from (HearsIt k handled_one) (site side x) (site side (after_hearing x d.text q))
 hears next side from x k session sent d m q b o =
-    subst (λ (found : Option Logged). BringsOne from found handled_one (site side x) (site side (after_hearing x d.text q))) (sym b.there) (b.in_time, (record { arrives = arrives; credits = credits; rest = refl }, refl))
+    subst (λ (found : Option Logged). BringsOne from found handled_one (site side x) (site side (after_hearing x d.text q))) (sym b.there) (b.in_time, (record { arrives = arrives; credits = credits; rest = refl; few = λ ip n is low. unlimited n is }, refl))
   where
     old : SlotState
     old = slot_of side x
@@ -359,7 +363,7 @@ after_nothing x = record x { totals = with_datagram_in x.totals 0 }
 
 pub hears-nothing : (next : ℕ) (side : Side) (x : Lone) (from : Addr) → Called next (call.Receive from [] (stopped Short)) (site side x) (site side (after_nothing x))
 hears-nothing next side x from = (
-  record { arrives = unreadable Short (too_short (omega arith)); credits = record { counted = Nowhere; counts = unreadable Short (too_short (omega arith)) (stopped Short); after = refl }; rest = refl },
+  record { arrives = unreadable Short (too_short (omega arith)); credits = record { counted = Nowhere; counts = unreadable Short (too_short (omega arith)) (stopped Short); after = refl }; rest = refl; few = λ ip n is low. unlimited n is },
   refl,
 )
 
@@ -390,7 +394,7 @@ pub answers-first : (side : Side) (from : Site) (k session : ℕ) (sent : Option
     → Happens 1 from (HearsIt k handled_one) (free_site side) (site side (beginning (with_datagram_in no_totals (length d.text)) (came (length d.text) no_credit) (answering_peer o)))
 answers-first side from k session sent d head o fits b =
     subst (λ (found : Option Logged). BringsOne from found handled_one (free_site side) (site side new)) (sym b.there)
-    (b.in_time, (record { arrives = arrives; credits = credits; rest = refl }, ap (λ (x : ℕ). record (site side new) { ends = fresh_end x first_name ∷ [] }) (sym b.of)))
+    (b.in_time, (record { arrives = arrives; credits = credits; rest = refl; few = λ ip n is low. unlimited n is }, ap (λ (x : ℕ). record (site side new) { ends = fresh_end x first_name ∷ [] }) (sym b.of)))
   where
     new : Lone
     new = beginning (with_datagram_in no_totals (length d.text)) (came (length d.text) no_credit) (answering_peer o)

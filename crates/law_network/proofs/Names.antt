@@ -67,6 +67,7 @@ pub record IsSpent (h : Host) (name : PeerRef) : Type 0 where
 admitted-generations : (c : Config) (what : Admission) → (admitting c what).generations ≡ c.generations
 admitted-generations c admission.GiveWay = refl
 admitted-generations c (admission.Most peers) = refl
+admitted-generations c (admission.OfAddress peers) = refl
 
 pub same-generations : (c : Call) (old new : Host) → Acts c old new → new.config.generations ≡ old.config.generations
 same-generations (call.Connect address channels info word answer) old new acts = ap (λ (h : Host). h.config.generations) acts.1

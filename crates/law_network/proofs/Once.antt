@@ -187,10 +187,10 @@ new-in from text answer h i u t (falling.answers address bytes commands header o
       unknown = new;
     }))
 
-new-begun : (from : Addr) (text : List ℕ) (answer : Received) (x : ℕ) (old new : Host) (f : HostEnd) → old.config.generations ≤ greatest → Acts (call.Receive from text answer) old new → Has (begun x old new) f → IsNew old from text
+new-begun : (from : Addr) (text : List ℕ) (answer : Received) (x : ℕ) (old new : Host) (f : HostEnd) → old.config.generations ≤ greatest → Acts (call.Receive from text answer) old new → Has (begun x from old new) f → IsNew old from text
 new-begun from text answer x old new f few acts h =
-    let g = guest x old new f h in
-    let b = guest-begins (call.Receive from text answer) x old new f few acts g in
+    let g = guest x from old new f h in
+    let b = guest-begins (call.Receive from text answer) x from old new f few acts g in
     new-in from text answer old g.number b.0 g.held.slot b.1
 
 -- a CONNECT of a connection that is there is repeated
@@ -220,7 +220,7 @@ hears-still s from d e nobody earlier h of =
 
 twice : (j : Bool) (count i : ℕ) (answer : Received) (d : Logged) (from old new : Site) → BringsOne from (Some d) answer old new → IsHost old count → IsHost from count → slice_get from.log i ≡ Some d
     → (e : HostEnd) → Has old.ends e → e.connection ≡ d.connection → Pair j old from e.connection → ((p : Peering) (x : IsThere old.host.slots e.name p) → x.slot.address ≡ from.address)
-    → (f : HostEnd) → Has (begun d.connection old.host new.host) f → ⊥
+    → (f : HostEnd) → Has (begun d.connection from.address old.host new.host) f → ⊥
 twice j count i answer d from old new brought k ko sent e h of pair at f m = by (there-or old.host e.name own.peer own.shows)
   where
     n : IsNew old.host from.address d.text

@@ -125,7 +125,7 @@ bringing : (k : ℕ) (answer : Received) (from old new : Site) (found : Option L
     → (e : HostEnd) → Has old.ends e → IsApart old.ends e → (own far : End) → Shows old e own → IsBetween from (Delivers k answer) old e far → GoesOn own far new e
 bringing k answer from old new None is x low named' e h apart own far shows met = absurd x
 bringing k answer from old new (Some d) is x low named' e h apart own far shows met =
-    on-same own far new e (old.ends ++ begun d.connection old.host new.host) (ap (λ (s : Site). s.ends) b.1) (Has-append_left old.ends (begun d.connection old.host new.host) e h) (by met)
+    on-same own far new e (old.ends ++ begun d.connection from.address old.host new.host) (ap (λ (s : Site). s.ends) b.1) (Has-append_left old.ends (begun d.connection from.address old.host new.host) e h) (by met)
   where
     b : Brought from.address d answer old new
     b = x.1

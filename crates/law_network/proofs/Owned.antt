@@ -2,6 +2,7 @@
 use Rattle.std.proofs.Common.{◌≡◌, ℕ, zero, suc, Bool, true, false, inl, List, replicate, refl, sym, ap, subst, ◌∙◌, Option, Some, None, slice_get, slice_set}
 use Rattle.enet_codec.specs.declared.address.Addr.{Addr}
 use Rattle.enet_codec.specs.declared.event.PeerRef.{PeerRef}
+use Rattle.enet_codec.specs.declared.event.Received.{Received}
 use Rattle.enet_peer.specs.declared.parts.PeerState.{PeerState}
 use Rattle.enet_peer.specs.declared.parts.PeerState.TheVariants as state
 use Rattle.enet_peer.specs.Peering.{Peering}
@@ -66,12 +67,13 @@ called w from old new c x i s t at (falling.answers address bytes commands heade
     let y : (w.is_host address ≡ false) × Called w.count (call.Receive address bytes handled_one) old new = subst (λ (d : Call). HappensAmong w from (Calls d) old new) is x in
     absurd (let z : true ≡ false = sym at ∙ y.0 in cc)
 
-brought : (x : ℕ) (old new : Host) (c : Call) (i : ℕ) (s u t : SlotState) (p : Peering) → slice_get old.slots i ≡ Some s → slice_get new.slots i ≡ Some t → t.peer ≡ Some p → u.generation ≡ (readied s).generation → falling.Begins c (common_of old) i u t
-    → IsOwned (begun x old new) i t
-brought x old new c i s u t p was there has same b =
+brought : (x : ℕ) (from : Addr) (bytes : List ℕ) (answer : Received) (old new : Host) (i : ℕ) (s u t : SlotState) (p : Peering) → slice_get old.slots i ≡ Some s → slice_get new.slots i ≡ Some t → t.peer ≡ Some p → u.generation ≡ (readied s).generation → falling.Begins (call.Receive from bytes answer) (common_of old) i u t
+    → IsOwned (begun x from old new) i t
+brought x from bytes answer old new i s u t p was there has same b =
+    let c : Call = call.Receive from bytes answer in
     let generation : t.generation ≡ (readied s).generation = begun-generation c old i u t b ∙ same in (
       fresh_end x (name_of i (readied s)),
-      guest-begun x old new i s p (begins-at c old i u t b) was (record { slot = t; there = there; same = generation; peer = has }),
+      guest-begun x from old new i s p (begins-at c old i u t b) was (record { slot = t; there = there; same = generation; peer = has }),
       ap (λ (n : ℕ). record { slot = i; generation = n }) (sym generation),
     )
 
@@ -88,11 +90,11 @@ owned-goes w from old new (Calls c) x k =
     (λ i s u t p was there has at same b. called w from old new c x i u t at b)
 owned-goes w from old new (Delivers n answer) x k = by (slice_get from.log n) x (grows w from old new (Delivers n answer) x)
   where
-    by : (found : Option Logged) → BringsOne from found answer old new → Grows old new (more_in w.count old new found) → AreOwned w.is_host new
+    by : (found : Option Logged) → BringsOne from found answer old new → Grows old new (more_in from.address old new found) → AreOwned w.is_host new
     by None y g = absurd y
     by (Some d) y g =
-        by-call w.is_host (call.Receive from.address d.text answer) old new (begun d.connection old.host new.host) y.1.0 g k
-        (λ i s u t p was there has at same b. brought d.connection old.host new.host (call.Receive from.address d.text answer) i s u t p was there has same b)
+        by-call w.is_host (call.Receive from.address d.text answer) old new (begun d.connection from.address old.host new.host) y.1.0 g k
+        (λ i s u t p was there has at same b. brought d.connection from.address d.text answer old.host new.host i s u t p was there has same b)
 
 -- at first
 

@@ -39,13 +39,13 @@ use Rattle.law_network.specs.Falling as falling
 use Rattle.law_network.specs.IsolationLaw.{Fares, goes_on, takes_over, begins}
 use Rattle.law_network.proofs.Lists.{same-or}
 use Rattle.law_network.proofs.Coming.{Came, came}
-use Rattle.law_network.proofs.Seats.{IsOpen, holds_none, holds_waiting, seat-open, seat-of, readied-free, readied-waits, freed-low}
+use Rattle.law_network.proofs.Seats.{IsOpen, holds_none, holds_waiting, seat-open, readied-free, readied-waits, freed-low}
 use Rattle.law_network.proofs.Slots.{counted-same}
-use Rattle.law_network.proofs.Single.{Each, StaysAt, idle, BeginsNot, begins-at, each-none, each-set}
+use Rattle.law_network.proofs.Single.{Each, StaysAt, idle, BeginsNot, begins_in, begins-at, each-none, each-set}
 pub use Rattle.law_network.proofs.Seats.{is_open}
 
 -- a connection begins in one slot only
-apart-begins : (c : Call) (h : Host) (j : ℕ) → seat (host_basis h) h.slots ≡ Some j → (i : ℕ) → j ≢ i → BeginsNot c h i
+apart-begins : (c : Call) (h : Host) (j : ℕ) → begins_in c h ≡ Some j → (i : ℕ) → j ≢ i → BeginsNot c h i
 apart-begins c h j at i other s u b = other (let x : ◌≡◌ {A = Option ℕ} (Some j) (Some i) = sym at ∙ begins-at c h i s u b in cc)
 
 -- none begins where a question is refused
@@ -63,7 +63,7 @@ each-connects h address channels info word answer slots after same (opening.asks
     let at : available h.config h.slots ≡ Some j = ap (λ (xs : List SlotState). available h.config xs) (sym same) ∙ free in
     subst (λ (xs : List SlotState). Each (call.Connect address channels info word (Ok (name_of j s))) h (slice_set xs j (asking (host_basis h) j s (record { address = address; channels = channels; info = info; word = word })))) (sym same)
     (each-set (call.Connect address channels info word (Ok (name_of j s))) h j s (asking (host_basis h) j s (record { address = address; channels = channels; info = info; word = word })) (ap (λ (xs : List SlotState). slice_get xs j) (sym same) ∙ there)
-    (begins open'.0 open'.1 (asks address channels info word refl some at)) (λ i x. refl) (λ i other x p there held. idle _ (common_of h) i x p refl) (apart-begins (call.Connect address channels info word (Ok (name_of j s))) h j (seat-of (host_basis h) h.slots j at)))
+    (begins open'.0 open'.1 (asks address channels info word refl some at)) (λ i x. refl) (λ i other x p there held. idle _ (common_of h) i x p refl) (apart-begins (call.Connect address channels info word (Ok (name_of j s))) h j at))
 
 -- a datagram is read in one way
 append-same : (a b x y : List ℕ) → a ≡ b → a ++ x ≡ b ++ y → x ≡ y
@@ -132,7 +132,7 @@ heard-seat : (h : Host) (from : Addr) (bytes : List ℕ) (answer : Received) (he
 heard-seat h from bytes answer header commands i known g = known g.stranger
 
 -- and another slot than that of the seat
-apart-seat : (h : Host) (from : Addr) (bytes : List ℕ) (answer : Received) (header : Header) (commands : List ℕ) (j i : ℕ) → seat (host_basis h) h.slots ≡ Some j → j ≢ i → GetsNoSeat h from bytes answer header commands i
+apart-seat : (h : Host) (from : Addr) (bytes : List ℕ) (answer : Received) (header : Header) (commands : List ℕ) (j i : ℕ) → seat (host_basis h) from h.slots ≡ Some j → j ≢ i → GetsNoSeat h from bytes answer header commands i
 apart-seat h from bytes answer header commands j i at other g = other (let x : ◌≡◌ {A = Option ℕ} (Some j) (Some i) = sym at ∙ g.seat in cc)
 
 -- a datagram that reaches no peer
@@ -152,7 +152,7 @@ away-stopped h from bytes commands header why read e i = away h from bytes (stop
 
 -- the slot of the seat, which is free or whose peer gives way
 seated : (h : Host) (from : Addr) (bytes commands : List ℕ) (header : Header) (o : Offer) (j : ℕ) (s : SlotState) → IsRead bytes header commands → header.peer ≡ no_peer → IsOffer commands o → offer_refused o ≡ None → is_known h.slots from o ≡ false
-    → seat (host_basis h) h.slots ≡ Some j → IsOpen h.config.generations s → Fares (call.Receive from bytes handled_one) (common_of h) j s (answering (host_basis h) j (readied s) from o)
+    → seat (host_basis h) from h.slots ≡ Some j → IsOpen h.config.generations s → Fares (call.Receive from bytes handled_one) (common_of h) j s (answering (host_basis h) j (readied s) from o)
 seated h from bytes commands header o j s read e offer r new at (holds_none none low) =
     subst (λ (x : SlotState). Fares (call.Receive from bytes handled_one) (common_of h) j s (answering (host_basis h) j x from o)) (sym (readied-free s none))
     (begins none low (answers from bytes commands header o refl read e offer r new at))
@@ -172,11 +172,11 @@ each-offered h from bytes commands header o answer slots after same read e offer
 each-offered h from bytes commands header o answer slots after same read e offer (receiving.no_slot r k n) = each-stopped h from bytes stop.NoSlot slots same (away-stopped h from bytes commands header stop.NoSlot read e)
 each-offered h from bytes commands header o answer slots after same read e offer (receiving.no_memory j r k n) = each-stopped h from bytes stop.Memory slots same (away-stopped h from bytes commands header stop.Memory read e)
 each-offered h from bytes commands header o answer slots after same read e offer (receiving.answers j s r k found there) =
-    let at : seat (host_basis h) h.slots ≡ Some j = ap (λ (xs : List SlotState). seat (host_basis h) xs) (sym same) ∙ found in
+    let at : seat (host_basis h) from h.slots ≡ Some j = ap (λ (xs : List SlotState). seat (host_basis h) from xs) (sym same) ∙ found in
     let was : slice_get h.slots j ≡ Some s = ap (λ (xs : List SlotState). slice_get xs j) (sym same) ∙ there in
     let new : is_known h.slots from o ≡ false = ap (λ (xs : List SlotState). is_known xs from o) (sym same) ∙ k in
     subst (λ (xs : List SlotState). Each (call.Receive from bytes handled_one) h (slice_set xs j (answering (host_basis h) j (readied s) from o))) (sym same)
-    (each-set (call.Receive from bytes handled_one) h j s (answering (host_basis h) j (readied s) from o) was (seated h from bytes commands header o j s read e offer r new at (seat-open (host_basis h) h.slots j s at was)) (λ i x. refl)
+    (each-set (call.Receive from bytes handled_one) h j s (answering (host_basis h) j (readied s) from o) was (seated h from bytes commands header o j s read e offer r new at (seat-open (host_basis h) from h.slots j s at was)) (λ i x. refl)
     (λ i other. away h from bytes handled_one header commands i read (inl e) (apart-seat h from bytes handled_one header commands j i at other)) (apart-begins (call.Receive from bytes handled_one) h j at))
 
 -- a datagram that the slot turns away

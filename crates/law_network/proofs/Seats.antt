@@ -4,6 +4,7 @@ use Rattle.std.proofs.lemmas.Bool.Decides.{nat_tests}
 use Rattle.std.proofs.lemmas.List.Quantifiers.{position-Some}
 use Rattle.std.proofs.lemmas.Option.{get_or_from_slice_get}
 use Rattle.std.specs.List.{slice_get, position}
+use Rattle.enet_codec.specs.declared.address.Addr.{Addr}
 use Rattle.enet_codec.specs.declared.config.Config.{Config}
 use Rattle.enet_peer.specs.declared.parts.PeerState.TheVariants as state
 use Rattle.enet_peer.specs.Peering.{Peering}
@@ -11,8 +12,8 @@ use Rattle.enet_peer.specs.Calls.{is_answering}
 use Rattle.enet_peer.specs.Endings.{freed}
 use Rattle.enet_slot.specs.Slot.{SlotState, with_peer, with_changed, greatest}
 use Rattle.enet_slot.specs.Giving.{Basis, unused_slot, is_vacant, is_available}
-use Rattle.enet_slot.specs.Yielding.{answers_in, yields, age, longest, oldest, readied}
-use Rattle.enet_host.specs.Opening.{available, or_oldest, seat}
+use Rattle.enet_slot.specs.Yielding.{answers_in, yields, age, longest_of, oldest, oldest_of, is_guest_of, guests_of, yields_to, readied}
+use Rattle.enet_host.specs.Opening.{available, is_most, or_oldest, seat}
 use Rattle.law_network.proofs.Lists.{get-within}
 use Rattle.law_network.proofs.Slots.{freed-in}
 
@@ -52,35 +53,39 @@ waiting generations s None e h = absurd (cc)
 waiting generations s (Some p) e h =
     holds_waiting p e (and-left (is_answering p.state) (nat_lt (s.generation + 1) generations) h) (lower (s.generation + 1) generations (and-right (is_answering p.state) (nat_lt (s.generation + 1) generations) h))
 
--- the seat is an available slot, or the oldest that yields
-seat-by : (M : Type 0) (basis : Basis) (slots : List SlotState) (j : ℕ) → seat basis slots ≡ Some j → (available basis.config slots ≡ Some j → M) → (oldest basis.clock basis.config.generations slots ≡ Some j → M) → M
-seat-by M basis slots j at one two = by (available basis.config slots) refl at
+-- the seat is an available slot, or the oldest of those that yield, of all or of its address
+seat-by : (M : Type 0) (basis : Basis) (from : Addr) (slots : List SlotState) (j : ℕ) → seat basis from slots ≡ Some j → (available basis.config slots ≡ Some j → M)
+    → ((waits : SlotState → Bool) → ((s : SlotState) → waits s ≡ true → yields basis.config.generations s ≡ true) → oldest_of waits basis.clock slots ≡ Some j → M) → M
+seat-by M basis from slots j at one two = among (is_most basis.config.of_address (guests_of from.ip slots)) at
   where
     yielding : (b : Bool) → cond b (oldest basis.clock basis.config.generations slots) None ≡ Some j → M
-    yielding true e = two e
+    yielding true e = two (yields basis.config.generations) (λ s h. h) e
     yielding false e = absurd (cc)
 
     by : (o : Option ℕ) → available basis.config slots ≡ o → or_oldest basis slots o ≡ Some j → M
     by None e f = yielding basis.config.gives_way f
     by (Some i) e f = one (e ∙ f)
 
-pub seat-there : (basis : Basis) (slots : List SlotState) (j : ℕ) → seat basis slots ≡ Some j → (s : SlotState) × (slice_get slots j ≡ Some s)
-seat-there basis slots j at =
-    seat-by ((s : SlotState) × (slice_get slots j ≡ Some s)) basis slots j at
-    (λ e. get-within slots j (let p = position-Some (is_available basis.config.generations) slots j unused_slot e in p.0))
-    (λ e. get-within slots j (let p = position-Some (λ (s : SlotState). yields basis.config.generations s && nat_le (longest basis.clock basis.config.generations slots) (age basis.clock s)) slots j unused_slot e in p.0))
+    among : (b : Bool) → cond b (oldest_of (yields_to from.ip basis.config.generations) basis.clock slots) (or_oldest basis slots (available basis.config slots)) ≡ Some j → M
+    among true e = two (yields_to from.ip basis.config.generations) (λ s h. and-right (is_guest_of from.ip s) (yields basis.config.generations s) h) e
+    among false e = by (available basis.config slots) refl e
 
-pub seat-open : (basis : Basis) (slots : List SlotState) (j : ℕ) (s : SlotState) → seat basis slots ≡ Some j → slice_get slots j ≡ Some s → IsOpen basis.config.generations s
-seat-open basis slots j s at there =
-    seat-by (IsOpen basis.config.generations s) basis slots j at
+pub available-there : (c : Config) (slots : List SlotState) (j : ℕ) → available c slots ≡ Some j → (s : SlotState) × (slice_get slots j ≡ Some s)
+available-there c slots j at = get-within slots j (let p = position-Some (is_available c.generations) slots j unused_slot at in p.0)
+
+pub seat-there : (basis : Basis) (from : Addr) (slots : List SlotState) (j : ℕ) → seat basis from slots ≡ Some j → (s : SlotState) × (slice_get slots j ≡ Some s)
+seat-there basis from slots j at =
+    seat-by ((s : SlotState) × (slice_get slots j ≡ Some s)) basis from slots j at
+    (available-there basis.config slots j)
+    (λ waits all e. get-within slots j (let p = position-Some (λ (s : SlotState). waits s && nat_le (longest_of waits basis.clock slots) (age basis.clock s)) slots j unused_slot e in p.0))
+
+pub seat-open : (basis : Basis) (from : Addr) (slots : List SlotState) (j : ℕ) (s : SlotState) → seat basis from slots ≡ Some j → slice_get slots j ≡ Some s → IsOpen basis.config.generations s
+seat-open basis from slots j s at there =
+    seat-by (IsOpen basis.config.generations s) basis from slots j at
     (λ e. let open' = is_open basis.config slots j s e there in holds_none open'.0 open'.1)
-    (λ e. waiting basis.config.generations s s.peer refl
-    (and-left (yields basis.config.generations s) (nat_le (longest basis.clock basis.config.generations slots) (age basis.clock s))
-    (position-passes (λ (x : SlotState). yields basis.config.generations x && nat_le (longest basis.clock basis.config.generations slots) (age basis.clock x)) slots j s e there)))
-
--- an available slot is the seat
-pub seat-of : (basis : Basis) (slots : List SlotState) (j : ℕ) → available basis.config slots ≡ Some j → seat basis slots ≡ Some j
-seat-of basis slots j at = ap (λ (o : Option ℕ). or_oldest basis slots o) at
+    (λ waits all e. waiting basis.config.generations s s.peer refl (all s
+    (and-left (waits s) (nat_le (longest_of waits basis.clock slots) (age basis.clock s))
+    (position-passes (λ (x : SlotState). waits x && nat_le (longest_of waits basis.clock slots) (age basis.clock x)) slots j s e there))))
 
 -- how it is readied
 pub readied-free : (s : SlotState) → s.peer ≡ None → readied s ≡ s

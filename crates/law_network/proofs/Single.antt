@@ -10,7 +10,7 @@ use Rattle.enet_slot.specs.Slot.{SlotState, with_peer}
 use Rattle.enet_host.specs.Host.{Host, with_generation, slot_named}
 use Rattle.enet_slot.specs.Calls.{IsRefusedBy, kept, on_peer_in}
 use Rattle.enet_host.specs.Calls.{put_back, on_slot, on_named}
-use Rattle.enet_host.specs.Opening.{host_basis, seat}
+use Rattle.enet_host.specs.Opening.{available, host_basis, seat}
 use Rattle.law_network.specs.Calls.{Call}
 use Rattle.law_network.specs.Calls as call
 use Rattle.law_network.specs.Common.{Common, common_of}
@@ -19,7 +19,6 @@ use Rattle.law_network.specs.Falling.{Fell, Begins, asks, answers, counted, deed
 use Rattle.law_network.specs.IsolationLaw.{Stays, Fares, untouched, goes_on, having_emitted}
 use Rattle.law_network.proofs.Slots.{counted-same}
 use Rattle.law_network.proofs.Lists.{get-set, get-set_other, same-or}
-use Rattle.law_network.proofs.Seats.{seat-of}
 
 -- what a call makes of each slot, where the slots after it are these
 abbrev pub Each : Call → Host → List SlotState → Type 0
@@ -51,10 +50,15 @@ pub begins-not : (c : Call) (h : Host) (i : ℕ) → may_begin c ≡ false → B
 begins-not c h i e s u (asks address channels info word is some at) = absurd (let x : false ≡ true = sym e ∙ ap may_begin is in cc)
 begins-not c h i e s u (answers from bytes commands header o is read stranger offer taken new at) = absurd (let x : false ≡ true = sym e ∙ ap may_begin is in cc)
 
--- a connection begins in the slot that an offer would get
-pub begins-at : (c : Call) (h : Host) (i : ℕ) (s u : SlotState) → Begins c (common_of h) i s u → seat (host_basis h) h.slots ≡ Some i
-begins-at c h i s u (asks address channels info word is some at) = seat-of (host_basis h) h.slots i at
-begins-at c h i s u (answers from bytes commands header o is read stranger offer taken new at) = at
+-- the slot in which a connection begins by a call, if one does: the one that is free where the user asks, and the seat of an offer
+abbrev pub begins_in : Call → Host → Option ℕ
+begins_in (call.Connect address channels info word answer) h = available h.config h.slots
+begins_in (call.Receive from bytes answer) h = seat (host_basis h) from h.slots
+begins_in c h = None
+
+pub begins-at : (c : Call) (h : Host) (i : ℕ) (s u : SlotState) → Begins c (common_of h) i s u → begins_in c h ≡ Some i
+begins-at c h i s u (asks address channels info word is some at) = ap (λ (d : Call). begins_in d h) is ∙ at
+begins-at c h i s u (answers from bytes commands header o is read stranger offer taken new at) = ap (λ (d : Call). begins_in d h) is ∙ at
 
 -- a call that changes no slot
 pub each-none : (c : Call) (h : Host) (after : List SlotState) → IsQuiet c h → after ≡ h.slots → ((i : ℕ) → StaysAt c h i) → ((i : ℕ) → BeginsNot c h i) → Each c h after

@@ -249,7 +249,7 @@ brought-log : (from old new : Site) (d : Logged) (answer : Received) (x : ℕ) �
 brought-log from old new d answer x b = same-log old new x (ap (λ (s : Site). s.log) b.1)
 
 brought-ends : (R : End → Type 0) (from old new : Site) (d : Logged) (answer : Received) (e : HostEnd) → Brought from.address d answer old new → Has old.ends e → Seen R new e → IsShownAs new e R
-brought-ends R from old new d answer e b h s = seen-same R new e (old.ends ++ begun d.connection old.host new.host) (ap (λ (z : Site). z.ends) b.1) (Has-append_left old.ends (begun d.connection old.host new.host) e h) s
+brought-ends R from old new d answer e b h s = seen-same R new e (old.ends ++ begun d.connection from.address old.host new.host) (ap (λ (z : Site). z.ends) b.1) (Has-append_left old.ends (begun d.connection from.address old.host new.host) e h) s
 
 pub brings : Brings
 brings i answer d from old new x sent named' e own far at shown live l of slot some none = brought-ends R from old new d answer e x.1 at.there (by (there-or old.host e.name k.peer k.shows))
@@ -320,7 +320,7 @@ pub passes-over : PassesOver
 passes-over i answer d from old new x sent named' e own far at shown apart = brought-ends R from old new d answer e x.1 at.there (received-by (Seen R new e) from.address d.text answer old new e own at.few x.1.0 at.shows quiet let-go heard)
   where
     R : End → Type 0
-    R end = (end ≡ own) ⊎ GoesTo old e d own far end
+    R end = (end ≡ own) ⊎ GoesTo from.address old e d own far end
 
     same : KeepsLog old new e.connection
     same = brought-log from old new d answer e.connection x.1
@@ -328,7 +328,7 @@ passes-over i answer d from old new x sent named' e own far at shown apart = bro
     quiet : ShowsPeer new.host e.name at.shows.peer → Seen R new e
     quiet shows = let s = still old new e own far at.shows same shows in (s.0, s.1, inl s.2)
 
-    let-go : (header : Header) (commands : List ℕ) → IsRead d.text header commands → header.peer ≡ no_peer → seat (host_basis old.host) old.host.slots ≡ Some e.name.slot → is_answering at.shows.peer.state ≡ true
+    let-go : (header : Header) (commands : List ℕ) → IsRead d.text header commands → header.peer ≡ no_peer → seat (host_basis old.host) from.address old.host.slots ≡ Some e.name.slot → is_answering at.shows.peer.state ≡ true
         → ShowsPeer new.host e.name (freed at.shows.peer) → Seen R new e
     let-go header commands read stranger seats on shows =
         let one : Happens own far event.GiveWay (with_peer own (freed at.shows.peer)) = (at.shows.peer, at.shows.has, on, refl) in (

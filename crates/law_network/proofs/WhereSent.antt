@@ -73,6 +73,6 @@ sent-goes place w from old new (Delivers n answer) x at k = brought place from o
 pub more-brought : (count : ℕ) (from old new : Site) (k : ℕ) (answer : Received) (f : HostEnd) → Has (more_of count from old new (Delivers k answer)) f → (d : Logged) × (slice_get from.log k ≡ Some d) × (f.connection ≡ d.connection)
 more-brought count from old new k answer f h = by (slice_get from.log k) refl h
   where
-    by : (found : Option Logged) → slice_get from.log k ≡ found → Has (more_in count old new found) f → (d : Logged) × (slice_get from.log k ≡ Some d) × (f.connection ≡ d.connection)
+    by : (found : Option Logged) → slice_get from.log k ≡ found → Has (more_in from.address old new found) f → (d : Logged) × (slice_get from.log k ≡ Some d) × (f.connection ≡ d.connection)
     by None is m = absurd m
-    by (Some d) is m = (let b = begun-is d.connection old.host new.host f m in (d, is, ap (λ (z : HostEnd). z.connection) b.4))
+    by (Some d) is m = (let b = begun-is d.connection from.address old.host new.host f m in (d, is, ap (λ (z : HostEnd). z.connection) b.4))

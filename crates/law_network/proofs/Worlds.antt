@@ -61,7 +61,7 @@ pub record Pair (joined : Bool) (a b : Site) (x : ℕ) : Type 0 where
 abbrev pub BeginsOnce : Site → Site → Site → Happening → Type 0
 BeginsOnce from old new (Calls c) = Unit {0}
 BeginsOnce from old new (Delivers k answer) =
-    (d : Logged) → slice_get from.log k ≡ Some d → (e : HostEnd) → Has old.ends e → e.connection ≡ d.connection → (f : HostEnd) → Has (begun d.connection old.host new.host) f → ⊥
+    (d : Logged) → slice_get from.log k ≡ Some d → (e : HostEnd) → Has old.ends e → e.connection ≡ d.connection → (f : HostEnd) → Has (begun d.connection from.address old.host new.host) f → ⊥
 
 -- what holds of a host where there were so many connections
 pub record IsHost (s : Site) (count : ℕ) : Type 0 where
@@ -164,10 +164,10 @@ begins-by w from old new (Calls (call.Connect address channels info word (Ok nam
 begins-by w from old new (Calls c) x other two happens k ko comes none low there f h of = absurd h
 begins-by w from old new (Delivers i answer) x other two happens k ko comes none low there f h of = by (slice_get from.log i) refl happens h
   where
-    by : (found : Option Logged) → slice_get from.log i ≡ found → BringsOne from found answer old new → Has (more_in w.count old new found) f → Begins two new f
+    by : (found : Option Logged) → slice_get from.log i ≡ found → BringsOne from found answer old new → Has (more_in from.address old new found) f → Begins two new f
     by None is brings y = absurd y
     by (Some d) is brings y =
-        let b = begun-is d.connection old.host new.host f y in
+        let b = begun-is d.connection from.address old.host new.host f y in
         let same : d.connection ≡ x = ap (λ (z : HostEnd). z.connection) (sym b.4) ∙ of in
         let shown : ShowsFar other d.connection two = subst (λ (n : ℕ). ShowsFar other n two) (sym same) (far-shown other w.count x two ko there) in
         answered i answer d from old new k.few brings is (subst (λ (n : ℕ). HasNothingOf n old) (sym same) (nothing-of old w.count x k none)) f y two (subst (λ (s : Site). ShowsFar s d.connection two) (sym (comes d is same)) shown)
@@ -331,8 +331,8 @@ kept-generation c h i s t none (isolation.takes_over p q ds has fell alone gone 
 kept-generation c h i s t none (isolation.begins vacant left b) = begun-generation c h i s t b
 
 -- the name of a guest
-pub fresh-seat : (h : Host) (i : ℕ) (s : SlotState) → h.config.generations ≤ greatest → seat (host_basis h) h.slots ≡ Some i → slice_get h.slots i ≡ Some s → IsFresh h (name_of i (readied s))
-fresh-seat h i s few at there = record {
+pub fresh-seat : (h : Host) (from : Addr) (i : ℕ) (s : SlotState) → h.config.generations ≤ greatest → seat (host_basis h) from h.slots ≡ Some i → slice_get h.slots i ≡ Some s → IsFresh h (name_of i (readied s))
+fresh-seat h from i s few at there = record {
   slot = s;
   there = there;
   left = readied-low h.config.generations s open';
@@ -340,10 +340,10 @@ fresh-seat h i s few at there = record {
 }
   where
     open' : IsOpen h.config.generations s
-    open' = seat-open (host_basis h) h.slots i s at there
+    open' = seat-open (host_basis h) from h.slots i s at there
 
-fresh-begun : (x : ℕ) (old new : Host) (f : HostEnd) → old.config.generations ≤ greatest → Has (begun x old new) f → IsFresh old f.name
-fresh-begun x old new f few h = (let g = guest x old new f h in subst (λ (z : HostEnd). IsFresh old z.name) (sym g.is) (fresh-seat old g.number g.before few g.at g.there))
+fresh-begun : (x : ℕ) (from : Addr) (old new : Host) (f : HostEnd) → old.config.generations ≤ greatest → Has (begun x from old new) f → IsFresh old f.name
+fresh-begun x from old new f few h = (let g = guest x from old new f h in subst (λ (z : HostEnd). IsFresh old z.name) (sym g.is) (fresh-seat old from g.number g.before few g.at g.there))
 
 pub fresh-more : (w : Around) (from old new : Site) (what : Happening) → old.host.config.generations ≤ greatest → HappensAmong w from what old new → (f : HostEnd) → Has (more_of w.count from old new what) f → IsFresh old.host f.name
 fresh-more w from old new (Calls (call.Connect address channels info word (Ok name))) few x f (inl e) =
@@ -352,9 +352,9 @@ fresh-more w from old new (Calls (call.Connect address channels info word (Ok na
 fresh-more w from old new (Calls c) few x f h = absurd h
 fresh-more w from old new (Delivers k answer) few x f h = by (slice_get from.log k) x h
   where
-    by : (found : Option Logged) → BringsOne from found answer old new → Has (more_in w.count old new found) f → IsFresh old.host f.name
+    by : (found : Option Logged) → BringsOne from found answer old new → Has (more_in from.address old new found) f → IsFresh old.host f.name
     by None y m = absurd y
-    by (Some d) y m = fresh-begun d.connection old.host new.host f few m
+    by (Some d) y m = fresh-begun d.connection from.address old.host new.host f few m
 
 pub not-fresh : (h : Host) (e : HostEnd) (name : PeerRef) (p : Peering) → ShowsPeer h e.name p → IsFresh h name → name ≡ e.name → ⊥
 not-fresh h e name p k f same = by (there-or h e.name p k)
@@ -397,10 +397,10 @@ shown-end j s other count e k h p = by p.here
     by (inr none) = absurd (none.0 e h refl)
 
 -- at most one begins
-one-begun : (x : ℕ) (old new : Host) (f g : HostEnd) → Has (begun x old new) f → Has (begun x old new) g → f ≡ g
-one-begun x old new f g h k =
-    let a = begun-is x old new f h in
-    let b = begun-is x old new g k in
+one-begun : (x : ℕ) (from : Addr) (old new : Host) (f g : HostEnd) → Has (begun x from old new) f → Has (begun x from old new) g → f ≡ g
+one-begun x from old new f g h k =
+    let a = begun-is x from old new f h in
+    let b = begun-is x from old new g k in
     let i : a.0 ≡ b.0 = same-some a.0 b.0 (sym a.2 ∙ b.2) in
     let s : a.1 ≡ b.1 = same-some a.1 b.1 (sym a.3 ∙ ap (λ (n : ℕ). slice_get new.slots n) i ∙ b.3) in
     a.4 ∙ (λ j. fresh_end x (name_of (i j) (s j))) ∙ sym b.4
@@ -412,9 +412,9 @@ one-more next from old new (Calls (call.Connect address channels info word (Ok n
 one-more next from old new (Calls c) f g h k = absurd h
 one-more next from old new (Delivers i answer) f g h k = by (slice_get from.log i) h k
   where
-    by : (found : Option Logged) → Has (more_in next old new found) f → Has (more_in next old new found) g → f ≡ g
+    by : (found : Option Logged) → Has (more_in from.address old new found) f → Has (more_in from.address old new found) g → f ≡ g
     by None a b = absurd a
-    by (Some d) a b = one-begun d.connection old.host new.host f g a b
+    by (Some d) a b = one-begun d.connection from.address old.host new.host f g a b
 
 -- what begins is of a connection of which the host had no end
 new-connection : (next : ℕ) (from old new : Site) (what : Happening) → IsHost old next → BeginsOnce from old new what → (f : HostEnd) → Has (more_of next from old new what) f → (e : HostEnd) → Has old.ends e → e.connection ≡ f.connection → ⊥
@@ -424,10 +424,10 @@ new-connection next from old new (Calls (call.Connect address channels info word
 new-connection next from old new (Calls c) k once f is e h same = absurd is
 new-connection next from old new (Delivers i answer) k once f is e h same = by (slice_get from.log i) refl is
   where
-    by : (found : Option Logged) → slice_get from.log i ≡ found → Has (more_in next old new found) f → ⊥
+    by : (found : Option Logged) → slice_get from.log i ≡ found → Has (more_in from.address old new found) f → ⊥
     by None there m = absurd m
     by (Some d) there m =
-        let b = begun-is d.connection old.host new.host f m in
+        let b = begun-is d.connection from.address old.host new.host f m in
         once d there e h (same ∙ ap (λ (z : HostEnd). z.connection) b.4) f m
 
 more-count : (next : ℕ) (from old new : Site) (what : Happening) → IsHost from next → (f : HostEnd) → Has (more_of next from old new what) f → f.connection < count_after next what
@@ -436,10 +436,10 @@ more-count next from old new (Calls (call.Connect address channels info word (Ok
 more-count next from old new (Calls c) ko f is = absurd is
 more-count next from old new (Delivers i answer) ko f is = by (slice_get from.log i) refl is
   where
-    by : (found : Option Logged) → slice_get from.log i ≡ found → Has (more_in next old new found) f → f.connection < next
+    by : (found : Option Logged) → slice_get from.log i ≡ found → Has (more_in from.address old new found) f → f.connection < next
     by None there m = absurd m
     by (Some d) there m =
-        let b = begun-is d.connection old.host new.host f m in
+        let b = begun-is d.connection from.address old.host new.host f m in
         let l = ko.logged d (Has-slice_get from.log i d there) in
         let a : f.connection ≡ d.connection = ap (λ (z : HostEnd). z.connection) b.4 in
         let c : l.0.connection ≡ d.connection = l.2 in

@@ -83,15 +83,15 @@ is_next (Some j) i = j == i
 abbrev pub AgreeOnNext : ℕ → Common → Common → Type 0
 AgreeOnNext i g h = (g.config ≡ h.config) × (g.clock ≡ h.clock) × (is_next g.available i ≡ is_next h.available i)
 
--- or an offer does,
-abbrev pub AgreeOnSeat : ℕ → Common → Common → Type 0
-AgreeOnSeat i g h = (g.config ≡ h.config) × (g.clock ≡ h.clock) × (is_next g.seat i ≡ is_next h.seat i)
+-- or an offer from an address does,
+abbrev pub AgreeOnSeat : Addr → ℕ → Common → Common → Type 0
+AgreeOnSeat from i g h = (g.config ≡ h.config) × (g.clock ≡ h.clock) × (is_next (g.seat from) i ≡ is_next (h.seat from) i)
 
 -- if a datagram is one,
 abbrev pub AgreeOnOffers : Addr → List ℕ → ℕ → Common → Common → Type 0
 AgreeOnOffers from bytes i g h =
     (header : Header) (commands : List ℕ) (o : Offer) → IsRead bytes header commands → header.peer ≡ no_peer → IsOffer commands o
-    → AgreeOnSeat i g h × (g.knows from o.connect_id ≡ h.knows from o.connect_id)
+    → AgreeOnSeat from i g h × (g.knows from o.connect_id ≡ h.knows from o.connect_id)
 
 -- on what a call with its answer looks at where slot i holds this peer: on nothing where the user asks or tells a peer something. Of a
 -- datagram only one that waits for its client asks for more than the clock: whether the host is full, and who gets a slot

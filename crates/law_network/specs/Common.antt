@@ -19,7 +19,7 @@ pub record Common : Type 0 where
   pub config : Config
   pub clock : ℕ
   pub available : Option ℕ  -- the lowest slot that is free and has a generation left
-  pub seat : Option ℕ  -- the slot that an offer gets: that one, or one that gives way
+  pub seat : Addr → Option ℕ  -- the slot that an offer from an address gets: that one, or one that gives way
   pub full : Bool  -- whether as many peers that began by a CONNECT have a client that confirmed as may be there
   pub knows : Addr → ℕ → Bool  -- whether a slot holds the connection of this address and connect id already
   pub turn : ℕ → ℕ  -- how many slots are asked for a datagram before this one
@@ -34,7 +34,7 @@ common_of h = record {
   config = h.config;
   clock = h.clock;
   available = opening.available h.config h.slots;
-  seat = opening.seat (opening.host_basis h) h.slots;
+  seat = λ from. opening.seat (opening.host_basis h) from h.slots;
   full = is_full (listener_of h);
   knows = λ from connect_id. list_any (is_connection from connect_id) h.slots;
   turn = turn_of (length h.slots) h.service_from;

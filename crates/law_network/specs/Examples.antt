@@ -18,7 +18,7 @@ use Rattle.law_network.specs.World.{World, Runs, open_world, joined_world}
 
 -- a host of one slot
 abbrev pub example_config : Config
-example_config = record { peers = 1; channels = 1; mtu = 576; incoming = 0; outgoing = 0; max_packet = 1000; max_waiting = 1000; generations = 1; clock = 0; secret = None; gives_way = false; most = None }
+example_config = record { peers = 1; channels = 1; mtu = 576; incoming = 0; outgoing = 0; max_packet = 1000; max_waiting = 1000; generations = 1; clock = 0; secret = None; gives_way = false; most = None; of_address = None }
 
 -- the first peer of such a host
 abbrev pub first_name : PeerRef

@@ -66,7 +66,7 @@ pub record GetsSeat (i : ℕ) (r : Receipt) (header : Header) (commands : List �
   pub is : IsOffer commands offer
   pub taken : offer_refused offer ≡ None
   pub new : r.host.knows r.from offer.connect_id ≡ false
-  pub seat : r.host.seat ≡ Some i
+  pub seat : r.host.seat r.from ≡ Some i
   pub answered : r.answer ≡ handled_one
 
 -- what of a datagram reaches the peer of slot i, which is s: nothing where it can't be read, doesn't name this slot or the slot
@@ -166,14 +166,14 @@ counted (call.Tick ms) h i s = if h.is_due (clock_after h.clock ms) then 0 else 
 counted c h i s = s.emitted
 
 -- by a call a connection begins in slot i, which is s, and leaves it so. The user asks from the lowest slot that is free and has a generation
--- left; a CONNECT whose connection isn't there yet is answered from that one or, where there is none, from one whose peer gave way
+-- left; a CONNECT whose connection isn't there yet is answered from that one or from one whose peer gave way
 pub data Begins (c : Call) (h : Common) (i : ℕ) (s : SlotState) : SlotState → Type 0 where
   asks : (address : Addr) (channels info word : ℕ) → c ≡ call.Connect address channels info word (Ok (name_of i s)) → channels ≢ 0
       → h.available ≡ Some i
       → Begins c h i s (asking (common_basis h) i s (record { address = address; channels = channels; info = info; word = word }))
   answers : (from : Addr) (bytes commands : List ℕ) (header : Header) (o : Offer) → c ≡ call.Receive from bytes handled_one
       → IsRead bytes header commands → header.peer ≡ no_peer → IsOffer commands o → offer_refused o ≡ None → h.knows from o.connect_id ≡ false
-      → h.seat ≡ Some i → Begins c h i s (answering (common_basis h) i s from o)
+      → h.seat from ≡ Some i → Begins c h i s (answering (common_basis h) i s from o)
 
 -- the deeds by which a list of calls fell to the peer of this name, one call after another; none once the name is spent
 abbrev pub FellAll : PeerRef → (cs : List Call) → Series cs → List Deed → Type 0

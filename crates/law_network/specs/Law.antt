@@ -94,7 +94,7 @@ pub record Begins (far : End) (new : Site) (f : HostEnd) : Type 0 where
 
 abbrev pub Answered : Type 0
 Answered = (k : ℕ) (answer : Received) (d : Logged) (from old new : Site) → old.host.config.generations ≤ greatest → BringsOne from (Some d) answer old new → slice_get from.log k ≡ Some d
-    → HasNothingOf d.connection old → (f : HostEnd) → Has (begun d.connection old.host new.host) f → (far : End) → ShowsFar from d.connection far → Begins far new f
+    → HasNothingOf d.connection old → (f : HostEnd) → Has (begun d.connection from.address old.host new.host) f → (far : End) → ShowsFar from d.connection far → Begins far new f
 
 -- a host shows an end of connection x, or has none of it
 abbrev pub ShowsAt : Site → ℕ → End → Type 0

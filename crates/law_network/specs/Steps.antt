@@ -84,14 +84,14 @@ abbrev pub begun_by : ℕ → Option PeerRef → Host → List HostEnd
 begun_by x None new = []
 begun_by x (Some name) new = end_of_guest x name (named new.slots name)
 
--- the end of connection x that begins where a CONNECT was answered: of the name that the next peer was to get by one
-abbrev pub begun : ℕ → Host → Host → List HostEnd
-begun x old new = begun_by x (guest_name (host_basis old) old.slots) new
+-- the end of connection x that begins where a CONNECT from an address was answered: of the name that the next peer was to get by one
+abbrev pub begun : ℕ → Addr → Host → Host → List HostEnd
+begun x from old new = begun_by x (guest_name (host_basis old) from old.slots) new
 
 -- a datagram of a host at this address comes
 abbrev pub Brought : Addr → Logged → Received → Site → Site → Type 0
 Brought from d answer old new =
-    Acts (call.Receive from d.text answer) old.host new.host × (new ≡ record old { host = new.host; ends = old.ends ++ begun d.connection old.host new.host })
+    Acts (call.Receive from d.text answer) old.host new.host × (new ≡ record old { host = new.host; ends = old.ends ++ begun d.connection from old.host new.host })
 
 -- a datagram is brought that was put out and is refused for no reason
 abbrev pub BringsOne : Site → Option Logged → Received → Site → Site → Type 0

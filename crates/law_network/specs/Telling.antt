@@ -97,13 +97,13 @@ Brings = (k : ℕ) (answer : Received) (d : Logged) (from old new : Site) → Br
     → IsShownAs new e (λ end. AllHeeded (is_full (listener_of old.host)) old.host.clock l.header.sent l.puts own far end)
 
 -- a CONNECT of another connection gets an end's slot: its peer waits for its client, and is let go
-abbrev pub GoesTo : Site → HostEnd → Logged → End → End → End → Type 0
-GoesTo old e d own far new = (d.peer ≡ no_peer) × (seat (host_basis old.host) old.host.slots ≡ Some e.name.slot) × Happens own far GiveWay new
+abbrev pub GoesTo : Addr → Site → HostEnd → Logged → End → End → End → Type 0
+GoesTo from old e d own far new = (d.peer ≡ no_peer) × (seat (host_basis old.host) from old.host.slots ≡ Some e.name.slot) × Happens own far GiveWay new
 
 -- a datagram of another connection is nothing to an end, unless its slot goes to that connection
 abbrev pub PassesOver : Type 0
 PassesOver = (k : ℕ) (answer : Received) (d : Logged) (from old new : Site) → BringsOne from (Some d) answer old new → slice_get from.log k ≡ Some d → AreNamed from.log
-    → (e : HostEnd) (own far : End) → IsEnd old e own → ShowsFar from e.connection far → d.connection ≢ e.connection → IsShownAs new e (λ end. (end ≡ own) ⊎ GoesTo old e d own far end)
+    → (e : HostEnd) (own far : End) → IsEnd old e own → ShowsFar from e.connection far → d.connection ≢ e.connection → IsShownAs new e (λ end. (end ≡ own) ⊎ GoesTo from.address old e d own far end)
 
 abbrev pub Times : Type 0
 Times = (w : Around) (from old new : Site) (ms : ℕ) → CallsAmong w from (call.Tick ms) old new → (e : HostEnd) (own far : End) → IsEnd old e own → IsLive own

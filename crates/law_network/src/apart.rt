@@ -22,25 +22,26 @@ use enet_host::HostCore;
 /// they gave, those that gave nothing too, takes, ticks, settings, throttle limits, each with what it answers, also where it refuses, stops
 /// or wants memory (`Deed`); and where that leaves the peer free, so is the slot, with the next generation, the connection's sessions and
 /// why it ended. Or a connection begins in it, for which the user asks or a CONNECT: the user's in the lowest slot that is free and has a
-/// generation left, that of a CONNECT whose connection isn't there yet in the same one, if there is one. Or such a CONNECT finds none, the
-/// host gives way, and the slot is that of the peer which has waited longest for its client: that one is let go, and the connection begins
-/// in its slot. A refused `set_bandwidth` falls to no peer: the memory that was wanting may have been for another. Each time it is said,
-/// too, how many bytes the slot counts for its next share of bandwidth. Of the host this sees what its connections share alone (`Common`):
-/// settings and clock, the turn order of slots, when the bandwidth is shared out and among how many connected peers, whether the address of
-/// a slot's peer sent too little for another answer, where connections begin, whether as many clients are let in as may be, the test of a
-/// CONNECT's address and connect id, and the limit of what a peer may have queued or unacknowledged. `of_the_host`: of these no connection
-/// changes the settings, the clock, the limit, and when the bandwidth is shared out: `set_bandwidth`, `admit`, `set_send_limit` and `tick`
-/// do, by their arguments and by these alone.
+/// generation left, that of a CONNECT whose connection isn't there yet in the same one, if there is one and fewer peers of its address are
+/// there than may be. Or such a CONNECT gets the slot of the peer which has waited longest for its client: of those of its address where as
+/// many of them are there as may be, and else, where no slot is free and the host gives way, of all. That peer is let go, and the connection
+/// begins in its slot. A refused `set_bandwidth` falls to no peer: the memory that was wanting may have been for another. Each time it is
+/// said, too, how many bytes the slot counts for its next share of bandwidth. Of the host this sees what its connections share alone
+/// (`Common`): settings and clock, the turn order of slots, when the bandwidth is shared out and among how many connected peers, whether the
+/// address of a slot's peer sent too little for another answer, where connections begin, those of an address too, whether as many clients
+/// are let in as may be, the test of a CONNECT's address and connect id, and the limit of what a peer may have queued or unacknowledged.
+/// `of_the_host`: of these no connection changes the settings, the clock, the limit, and when the bandwidth is shared out: `set_bandwidth`,
+/// `admit`, `set_send_limit` and `tick` do, by their arguments and by these alone.
 ///
 /// `one_answer`: a peer alone answers in one way, and goes on in one way, want of memory apart. So whether a submission is refused, by E9
 /// too, goes by that peer and the limit alone. `one_way`: so a slot fares in one way by a call with its answers, whatever else the host
 /// holds. `alike`: so two hosts that hold the same in a slot leave it alike, where they agree on what the call looks at there (`Agree`). Of
 /// a slot with a peer that is nothing where a peer is asked or told something by the user; the clock where a datagram comes, and, only if
-/// the peer waits for its client to confirm, whether the host is full and which slot a CONNECT gets; the clock and whose turn is first
-/// where one is asked for; the turn where an event is; and of a tick the clock, whether its own peer's address sent too little for another
-/// answer, whether the bandwidth is shared out, and then how much among how many. A free slot sees besides what decides whether and how a
-/// connection begins there. So what other slots hold makes no other difference. What is answered of a datagram tells how many of its
-/// commands reached the peer by a count, which stops at 4,294,967,295: for these two it has no more bytes than that.
+/// the peer waits for its client to confirm, whether the host is full and which slot a CONNECT of that address gets; the clock and whose
+/// turn is first where one is asked for; the turn where an event is; and of a tick the clock, whether its own peer's address sent too little
+/// for another answer, whether the bandwidth is shared out, and then how much among how many. A free slot sees besides what decides whether
+/// and how a connection begins there. So what other slots hold makes no other difference. What is answered of a datagram tells how many of
+/// its commands reached the peer by a count, which stops at 4,294,967,295: for these two it has no more bytes than that.
 ///
 /// `keeps`: from its opening on a host holds no peer that is free, whatever is called.
 ///

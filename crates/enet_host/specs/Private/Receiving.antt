@@ -28,15 +28,20 @@ pub data OfferCredits (h : Listener) (from : Addr) (o : Offer) (len : ℕ) : Rec
   repeated : (i : ℕ) (s : SlotState) (credits : List Credit) → offer_refused o ≡ None → slice_get h.slots i ≡ Some s → is_connection from o.connect_id s ≡ true
       → (answer : Received) → OfferCredits h from o len answer credits (with_came credits i len)
   unanswered : (why : Stop) (credits : List Credit) → is_known h.slots from o ≡ false → OfferCredits h from o len (stopped why) credits credits
-  answered : (i : ℕ) (credits : List Credit) → is_known h.slots from o ≡ false → seat h.basis h.slots ≡ Some i
+  answered : (i : ℕ) (credits : List Credit) → is_known h.slots from o ≡ false → seat h.basis from h.slots ≡ Some i
       → OfferCredits h from o len handled_one credits (with_first credits i len)
 
 -- what is found among the slots for an offer from an address with a connect id: the one that holds its connection, else its seat
 abbrev pub IsSeatOf : Basis → Addr → ℕ → List SlotState → Seat → Type 0
 IsSeatOf basis from word slots (Known i) =
     (list_any (is_connection from word) slots ≡ true) × (i < length slots) × ((s : SlotState) → slice_get slots i ≡ Some s → is_connection from word s ≡ true)
-IsSeatOf basis from word slots (At i) = (list_any (is_connection from word) slots ≡ false) × (seat basis slots ≡ Some i) × (i < length slots)
-IsSeatOf basis from word slots Full = (list_any (is_connection from word) slots ≡ false) × (seat basis slots ≡ None)
+IsSeatOf basis from word slots (At i) = (list_any (is_connection from word) slots ≡ false) × (seat basis from slots ≡ Some i) × (i < length slots)
+IsSeatOf basis from word slots Full = (list_any (is_connection from word) slots ≡ false) × (seat basis from slots ≡ None)
+
+-- where an offer of no connection that is there goes, by its seat
+abbrev pub placed : Option ℕ → Seat
+placed None = Full
+placed (Some i) = At i
 
 -- commands that come to a slot whose host is taken to be full or not, as said first, come to it as said last
 abbrev pub ComesAsAt : List ℕ → SlotState → Bool → Bool → Type 0

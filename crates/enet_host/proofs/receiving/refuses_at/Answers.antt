@@ -3,7 +3,7 @@ use Rattle.enet_slot.specs.Slotted.{shown, all_shown}
 use Rattle.enet_slot.proofs.Shown.{get-shown}
 use Rattle.enet_sleepers.proofs.Keeping.{some-same}
 use Rattle.std.proofs.Common.{slice_get, ◌∙◌}
-use Rattle.enet_host.specs.Receiving.{is_most}
+use Rattle.enet_host.specs.Opening.{is_most}
 use Rattle.enet_host.proofs.Receptions.{refuses-then, refuses-else}
 use Rattle.enet_host.proofs.receiving.refuses_at.Goals as goal
 

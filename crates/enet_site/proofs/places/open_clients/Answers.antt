@@ -1,5 +1,6 @@
 use Rattle.std.proofs.Common.{ℕ, ◌+◌, arith}
-use Rattle.enet_site.proofs.Opens.{opened-more}
+use Rattle.enet_codec.specs.Config.{is_in_range}
+use Rattle.enet_site.proofs.Opens.{all-at, opened-more}
 use Rattle.enet_site.proofs.places.open_clients.Goals as goal
 
 pub loop-i-preserved : goal.loop-i-preserved
@@ -10,3 +11,6 @@ loop-i-preserved c = record {
   len = omega arith;
   capacity = omega arith;
 }
+
+pub returns-in-Err-clause-memory : goal.returns-in-Err-clause-memory
+returns-in-Err-clause-memory c = c.in-Err.ensures.in_range (all-at is_in_range c.args.configs.now c.loop-i.i _ c.requires.in_range c.loop-i-test.true)

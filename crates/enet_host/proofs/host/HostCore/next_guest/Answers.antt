@@ -1,50 +1,44 @@
-use Rattle.std.proofs.Common.{◌≡◌, None, Some, Option, List, sym, subst, ◌∙◌}
+use Rattle.std.proofs.Common.{◌≡◌, Some, None, Option, List, sym, subst, arith, ◌∙◌}
 use Rattle.enet_codec.specs.declared.event.PeerRef.{PeerRef}
 use Rattle.enet_slot.specs.declared.slot.Slot.{Slot}
 use Rattle.enet_slot.specs.Giving.{basis_of}
-use Rattle.enet_slot.specs.Slotted.{all_shown}
+use Rattle.enet_slot.specs.Slotted.{shown, all_shown}
+use Rattle.enet_slot.proofs.Shown.{get-shown}
 use Rattle.enet_sleepers.specs.Unproved.{KeepsUnproved}
-use Rattle.enet_host.specs.Foretelling.{guest_name, next_name}
+use Rattle.enet_host.specs.Foretelling.{guest_name}
 use Rattle.enet_host.specs.Host.{Host}
-use Rattle.enet_host.specs.Opening.{host_basis, or_oldest}
-use Rattle.enet_host.specs.Private.Shown.{SlotIsNamed}
-use Rattle.enet_host.proofs.Guests.{guest-free, guest-nowhere, guest-oldest}
+use Rattle.enet_host.specs.Opening.{host_basis, seat}
+use Rattle.enet_host.proofs.Guests.{guest-at, guest-nowhere}
 use Rattle.enet_host.proofs.Holding.{keeps-waiting}
 use Rattle.enet_host.proofs.host.HostCore.next_guest.Goals as goal
 
-pub oldest_seat-requires : goal.oldest_seat-requires
-oldest_seat-requires c =
+pub seat-requires-clause-unproved : goal.seat-requires-clause-unproved
+seat-requires-clause-unproved c =
     let start = c.self.inside.start in
-    subst (λ (xs : List Slot). KeepsUnproved start.clock start.config.generations c.self.inside.unproved (all_shown xs)) (sym c.deref.ensures.value) c.self.invariant.waiting
-
-pub returns-in-Some-clause-guest : goal.returns-in-Some-clause-guest
-returns-in-Some-clause-guest c =
-    let h = c.args.self.now in
-    sym (guest-free (host_basis h) h.slots c.in-Some.name (sym c.next_peer.ensures ∙ c.in-Some.is))
+    subst (λ (xs : List Slot). KeepsUnproved start.clock start.config.generations c.self.inside.unproved (all_shown xs)) (sym c.deref-2.ensures.value) c.self.invariant.waiting
 
 pub returns-in_err-place-clause-guest : goal.returns-in_err-place-clause-guest
 returns-in_err-place-clause-guest c =
     let start = c.self.inside.start in
     let xs = c.self.inside.slots.items in
-    let found : or_oldest (basis_of start) (all_shown xs) None ≡ None =
-    subst (λ (ys : List Slot). or_oldest (basis_of start) (all_shown ys) None ≡ None) c.deref.ensures.value (sym c.oldest_seat.ensures.seat ∙ c.in_err-place.was) in
+    let found : None ≡ seat (basis_of start) c.args.from (all_shown xs) =
+    subst (λ (ys : List Slot). None ≡ seat (basis_of start) c.args.from (all_shown ys)) c.deref-2.ensures.value (sym c.in_err-place.was ∙ c.seat.ensures.seat) in
     c.from_residual.ensures
-    ∙ subst (λ (h : Host). ◌≡◌ {A = Option PeerRef} None (guest_name (host_basis h) h.slots)) c.self.view_is
-    (guest-nowhere (basis_of start) (all_shown xs) (subst (λ (h : Host). next_name h.config h.slots ≡ None) (sym c.self.view_is) (sym c.next_peer.ensures ∙ c.in_default.is)) found)
+    ∙ subst (λ (h : Host). ◌≡◌ {A = Option PeerRef} None (guest_name (host_basis h) c.args.from h.slots)) c.self.view_is (guest-nowhere (basis_of start) c.args.from (all_shown xs) found)
 
 pub returns-clause-guest : goal.returns-clause-guest
 returns-clause-guest c =
     let start = c.self.inside.start in
     let xs = c.self.inside.slots.items in
-    let found : or_oldest (basis_of start) (all_shown xs) None ≡ Some c.in_ok-place.place =
-    subst (λ (ys : List Slot). or_oldest (basis_of start) (all_shown ys) None ≡ Some c.in_ok-place.place) c.deref.ensures.value (sym c.oldest_seat.ensures.seat ∙ c.in_ok-place.was) in
-    subst (λ (h : Host). Some (record c.name_at-name.result { generation = c.saturating_add.result }) ≡ guest_name (host_basis h) h.slots) c.self.view_is
-    (guest-oldest (basis_of start) (all_shown xs) c.in_ok-place.place c.saturating_add.result c.name_at-name.result
-    (subst (λ (h : Host). next_name h.config h.slots ≡ None) (sym c.self.view_is) (sym c.next_peer.ensures ∙ c.in_default.is)) found
-    (subst (λ (ys : List Slot). SlotIsNamed (all_shown ys) c.in_ok-place.place c.name_at-name.result) c.deref-2.ensures.value c.name_at-name.ensures) c.saturating_add.ensures)
+    let place = c.in_ok-place.place in
+    let found : Some place ≡ seat (basis_of start) c.args.from (all_shown xs) =
+    subst (λ (ys : List Slot). Some place ≡ seat (basis_of start) c.args.from (all_shown ys)) c.deref-2.ensures.value (sym c.in_ok-place.was ∙ c.seat.ensures.seat) in
+    subst (λ (h : Host). Some (record { slot = place; generation = c.next_generation.result }) ≡ guest_name (host_basis h) c.args.from h.slots) c.self.view_is
+    (guest-at (basis_of start) c.args.from (all_shown xs) place c.next_generation.result (shown c.index.result.now) found
+    (get-shown xs place c.index.result.now (let within = c.in_ok-place.ensures.within in let len = c.deref-2.ensures.len in omega (arith, within, len)) c.index.ensures) c.next_generation.ensures)
 
 pub invariant_of-self : goal.invariant_of-self
 invariant_of-self c =
     let start = c.self.inside.start in
     keeps-waiting c.self.invariant
-    (subst (λ (xs : List Slot). KeepsUnproved start.clock start.config.generations c.oldest_seat.new.unproved (all_shown xs)) c.deref.ensures.value c.oldest_seat.ensures.kept)
+    (subst (λ (xs : List Slot). KeepsUnproved start.clock start.config.generations c.seat.new.unproved (all_shown xs)) c.deref-2.ensures.value c.seat.ensures.kept)

@@ -1,7 +1,25 @@
+use Rattle.std.proofs.Common.{ap, subst}
+use Rattle.enet_host.specs.declared.totals.Totals.{Totals}
+use Rattle.enet_host.specs.Host.{Host}
+use Rattle.enet_host.specs.Receiving.{Receives}
 use Rattle.enet_slot.specs.Slotted.{all_shown}
 use Rattle.enet_host.proofs.Holding.{keeps-after, arrives-held}
+use Rattle.enet_host.proofs.AddressLimits.{arrives-few}
 use Rattle.enet_host.proofs.Limits.{arrives-limited}
 use Rattle.enet_host.proofs.host.HostCore.receive.Goals as goal
+
+pub returns : goal.returns
+returns c =
+    let inside = c.self.inside in
+    let old : Host = record { config = inside.start.config; clock = inside.start.clock; shared_at = inside.shared_at; service_from = inside.service_from; event_from = inside.event_from; totals = inside.totals; slots = all_shown inside.slots.items; credits = inside.credits.items; send_limit = inside.send_limit } in
+    let new : Host = record old { totals = c.with_datagram_in-self-inside.result; slots = all_shown c.receive.new.slots.items; credits = c.receive.new.credits.items } in
+    let received : Receives old c.args.from c.args.bytes.now c.receive.result new = record {
+      arrives = c.receive.ensures.arrives;
+      credits = c.receive.ensures.credits;
+      rest = ap (λ (t : Totals). record new { totals = t }) c.with_datagram_in-self-inside.ensures;
+      few = arrives-few _ c.args.from c.args.bytes.now c.receive.result (all_shown c.receive.new.slots.items) c.receive.ensures.arrives;
+    } in
+    subst (λ (h : Host). Receives h c.args.from c.args.bytes.now c.receive.result new) c.self.view_is received
 
 pub invariant_of-self : goal.invariant_of-self
 invariant_of-self c =
