@@ -16,7 +16,8 @@
 //! Neither proved nor tested here: that a slot which has nothing falls asleep, and what a call looks at. `wake` takes a step for each
 //! doubling of the slots at most; `advance` that for each slot that is due; `settle` looks at those that are awake alone, `due_in` at these,
 //! too; `first_available` at those that are awake or sleep and are free, up to the one that it finds. A look at a slot, as by `hear`, goes
-//! over all that its peer has unacknowledged on channel 0xFF; `hear` and `rest` have four for each slot between two ticks, on average. An
+//! over all that its peer has unacknowledged on channel 0xFF; at a host with at most 64 slots `hear` and `rest` have four for each of these
+//! between two ticks, on average. An
 //! offer is compared with the eight slots at most that are noted at its place, and with those that found no cell at theirs: at a host with
 //! 4,095 peers there is one in a few hundred hosts, if nobody can foretell places.
 #![tactic(auto)]

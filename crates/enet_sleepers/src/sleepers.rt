@@ -17,8 +17,12 @@ use std::marker::Model;
 /// Where the clock stands from which on it begins anew, in milliseconds; it takes 146 million years to get there.
 const LAST_CLOCK: u64 = 1 << 62;
 
-/// For each slot so many naps begin between two ticks at most.
+/// For each slot of a host with few slots so many naps begin between two ticks at most: at full load its peers stay awake, and a look at
+/// all that are awake takes no more than some naps.
 const NAPS: u32 = 4;
+
+/// A host has few slots if it has no more than this.
+const FEW: usize = 64;
 
 /// Which slots of a host sleep. They are free, or their peer is connected, asks for a connection or for its end, or has answered, and
 /// has nothing to tell and nothing that goes, though what was sent may be unacknowledged; and time brings it something later. Where slots
@@ -55,6 +59,15 @@ fn insert_all(set: &mut Places)
 {
     for place in 0..set.len() {
         set.insert(place);
+    }
+}
+
+/// How many naps begin between two ticks at most, at a host with so many slots.
+const fn naps_of(slots: usize) -> u32 {
+    if slots > FEW {
+        u32::MAX
+    } else {
+        slots as u32 * NAPS
     }
 }
 
@@ -103,8 +116,8 @@ impl Sleepers {
     }
 
     /// Something came to the slot of this number, which may have slept: it sleeps on if it has nothing to do, and when time brings it something
-    /// is noted anew; else it is awake from now on. So it is with a datagram that only acknowledges. Slots sleep on, or fall asleep by
-    /// `rest`, four times each between two ticks at most, on average.
+    /// is noted anew; else it is awake from now on. So it is with a datagram that only acknowledges. At a host with at most 64 slots these
+    /// sleep on, or fall asleep by `rest`, four times each between two ticks at most, on average.
     #[inline(always)]
     pub fn hear(&mut self, slots: &[Slot], number: usize, now: u32)
         requires within { number < length slots.now }
@@ -183,7 +196,7 @@ impl Sleepers {
         ensures { (was : ℕ) (slots : List SlotState) → KeepsSleepers was self.old slots → KeepsSleepers now self.new slots }
     {
         self.go_on(now);
-        self.naps = (self.awake.len() as u32).saturating_mul(NAPS);
+        self.naps = naps_of(self.awake.len());
     }
 
     /// The clock goes on, and those to which that brings something are awake.
@@ -232,8 +245,8 @@ impl Sleepers {
         }
     }
 
-    /// The slot of this number, which is awake and was asked for a datagram, falls asleep if it has nothing to do. Where slots are woken
-    /// and asked again and again without a tick between, they stay awake from their fifth time on, on average.
+    /// The slot of this number, which is awake and was asked for a datagram, falls asleep if it has nothing to do. Where the slots of a host
+    /// with at most 64 are woken and asked again and again without a tick between, they stay awake from their fifth time on, on average.
     #[inline(always)]
     pub fn rest(&mut self, slots: &[Slot], number: usize, now: u32)
         requires kept { KeepsSleepers now self.old (all_shown slots.now) }
