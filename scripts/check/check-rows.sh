@@ -5,12 +5,15 @@
 # unreadable-lines.txt and of unreadable-lines-of-a-fleet.txt, whose escapes are printf's, is the second of a script for a pair or a
 # fleet, and the first that can't be read. Each short script that makes two hosts, without `calm`, and the first of a fleet, is also run by
 # out/probe (build-probe.sh) as one list of events, in one call. The lines that docs/LAB.md shows are a script, too, with their answers, and so
-# are the lessons of docs/lessons, of whose pages each shown line must stand there. Command lines are tried too; those of `demo` take port
+# are the lessons of docs/lessons, of whose pages each shown line must stand there. With `--explain` explained.lab must be told as in
+# explained.out, each listed script and lesson must have the same answers below its lines, and of each line of expected.txt that must be
+# expected which stands behind it. Command lines are tried too; those of `demo` take port
 # 47100, which no other socket may have. The last line is 'N passed, M failed'; the status is 1 where one fails. The program is the one that
 # `rt ci`, or `rt run` in crates/enet_relay, leaves; another can be named as argument.
 cd "$(dirname "$0")/../.." || exit 1
 program=${1:-crates/enet_relay/out/enet_relay}
 lists=out/probe
+lab_options=
 rows=scripts/rows
 . scripts/lib/clients.sh
 . scripts/lib/tally.sh
@@ -19,7 +22,7 @@ rows=scripts/rows
 script() {
     local name=$1 lab=$2 out=$3 err=$4 wanted=$5
     [ -r "$lab" ] && [ -r "$out" ] || { fail "$name" "$lab or $out is missing"; return; }
-    timeout 120 "$program" lab < "$lab" > "$room/out" 2> "$room/err"
+    timeout 120 "$program" lab $lab_options < "$lab" > "$room/out" 2> "$room/err"
     local status=$?
     cmp -s "$out" "$room/out" || { differ "$name" 'standard output' "$out" "$room/out"; return; }
     cmp -s "$err" "$room/err" || { differ "$name" 'standard error' "$err" "$room/err"; return; }
@@ -39,6 +42,7 @@ row() {
     [ -r "$row.status" ] && wanted=$(<"$row.status")
     [ -r "$row.err" ] && err=$row.err
     script "$1" "$row.lab" "$row.out" "$err" "$wanted"
+    answers_below "$1" "$row.lab" "$row.out"
 }
 
 # A script that isn't empty says in its first line what it shows.
@@ -60,10 +64,34 @@ lessons() {
     local lab wrong
     for lab in docs/lessons/*.lab; do
         script "$lab" "$lab" "${lab%.lab}.out" /dev/null 0
+        answers_below "$lab" "$lab" "${lab%.lab}.out"
         grep -v '^#' "$lab" | grep . | paste - "${lab%.lab}.out" > "$room/lesson"
         wrong=$(awk -F '\t' -v shown="${lab%.lab}.md" -f "$rows/lesson.awk" "$room/lesson") && [ -z "$wrong" ] && passed=$((passed + 1)) \
             || fail "${lab%.lab}.md" "not in the script from there on: $wrong"
     done
+}
+
+# A script that is explained, as it is told; and the answers below the lines of another one, which are its answers.
+explained() {
+    lab_options=--explain
+    script explained "$rows/explained.lab" "$rows/explained.out" "$rows/explained.err" 2
+    lab_options=
+}
+
+answers_below() {
+    timeout 120 "$program" lab --explain < "$2" 2> "$room/err" | grep -av '^> \|^  ' > "$room/out"
+    cmp -s "$3" "$room/out" && passed=$((passed + 1)) || differ "$1 explained" 'what is answered' "$3" "$room/out"
+}
+
+# Lines that can't be read, and what was expected: the line before each, the line, whose escapes are printf's, and what was expected.
+expectations() {
+    local before line wanted
+    while IFS=$'\t' read -r before line wanted; do
+        printf "%s\n%b\n" "$before" "$line" > "$room/expected.lab"
+        timeout 120 "$program" lab --explain < "$room/expected.lab" > "$room/out" 2> "$room/err"
+        [ "$(<"$room/err")" = $'E15 BadScript line 2\n'"expected $wanted" ] && passed=$((passed + 1)) \
+            || differ_text "expected of '$line'" 'standard error' $'E15 BadScript line 2\n'"expected $wanted" "$(<"$room/err")"
+    done < "$rows/expected.txt"
 }
 
 # A script as one list of events, without its comments. The row of a fleet stands in the program itself.
@@ -387,6 +415,8 @@ command_lines() {
     grep -q -- '--queue-capacity' "$room/out" && grep -q -- '--threads' "$room/out" && grep -q -- '--no-secret' "$room/out" && grep -q -- '--control' "$room/out" && grep -q -- '--per-address' "$room/out" && grep -q -- '--max-packet' "$room/out" && grep -q -- '--max-waiting' "$room/out" && grep -q -- '--max-unsent' "$room/out" && grep -q -- '--metrics' "$room/out" || fail help-of-serve 'an option is missing'
     command_line input-that-cannot-be-read 1 'input or output failed' / "$room/out" lab
     command_line output-that-cannot-be-written 1 'input or output failed' "$rows/one-reliable-packet.lab" /dev/full lab
+    command_line input-to-explain-that-cannot-be-read 1 'input or output failed' / "$room/out" lab --explain
+    command_line explanation-that-cannot-be-written 1 'input or output failed' "$rows/one-reliable-packet.lab" /dev/full lab --explain
 }
 
 room=$(mktemp -d) || exit 1
@@ -404,6 +434,8 @@ else
     done < "$rows/list.txt"
     shown_lines
     lessons
+    explained
+    expectations
     unreadable_lines 'pair 1' 'turn A' unreadable-lines.txt
     unreadable_lines 'fleet 2 2 2' 'turn S' unreadable-lines-of-a-fleet.txt
     command_lines

@@ -4,14 +4,14 @@ use Rattle.std.specs.Prelude.{ℕ, ◌^◌, nat_eq, nat_le, if◌then◌else◌,
 use Rattle.std.specs.List.{starts_with}
 use Rattle.std.specs.Option.{option_or}
 use Rattle.enet_codec.specs.declared.config.Admission.{Admission}
-use Rattle.enet_codec.specs.declared.config.Admission.TheVariants.{GiveWay, Most}
+use Rattle.enet_codec.specs.declared.config.Admission.TheVariants.{GiveWay, Most, OfAddress}
 use Rattle.enet_codec.specs.declared.event.DisconnectMode.{DisconnectMode}
 use Rattle.enet_codec.specs.declared.event.DisconnectMode.TheVariants.{Now, Ask, Later}
 use Rattle.enet_codec.specs.declared.event.PeerRef.{PeerRef}
 use Rattle.law_network.specs.declared.event.WorldEvent.TheVariants as world
 use Rattle.enet_fleet.specs.declared.event.FleetEvent.TheVariants as fleet
 use Rattle.law_headline.specs.declared.node.Node.TheVariants.{Server, Client}
-use Rattle.enet_text.specs.Words.{words, number_below, peer_of, ip_of, bytes_of, id_of, of_one, of_two, of_three, of_four, of_five, ◌>>=◌}
+use Rattle.enet_text.specs.Words.{line_words, number_below, peer_of, ip_of, bytes_of, id_of, of_one, of_two, of_three, of_four, of_five, ◌>>=◌}
 use Rattle.enet_lab.specs.declared.host.Host.{Host}
 use Rattle.enet_lab.specs.declared.host.Host.TheVariants.{OfWorld, OfFleet}
 use Rattle.enet_lab.specs.declared.line.Line.{Line}
@@ -143,7 +143,7 @@ take_at (OfFleet node) = InFleet (fleet.Take node)
 abbrev pub take_of : List (List ℕ) → Option Line
 take_of others = of_one (λ host. option_map take_at (host_named host)) others
 
--- `give-way <host>` and `most <host> <n>`
+-- `give-way <host>`, `most <host> <n>` and `of-address <host> <n>`
 abbrev pub admit_at : Host → Admission → Line
 admit_at (OfWorld side) what = InWorld (world.Admit side what)
 admit_at (OfFleet node) what = InFleet (fleet.Admit node what)
@@ -156,6 +156,12 @@ most_of others = of_two (λ host peers. do
   host ← host_named host
   peers ← number_below (2 ^ 16) peers
   Some (admit_at host (Most peers))) others
+
+abbrev pub of_address_of : List (List ℕ) → Option Line
+of_address_of others = of_two (λ host peers. do
+  host ← host_named host
+  peers ← number_below (2 ^ 16) peers
+  Some (admit_at host (OfAddress peers))) others
 
 -- `send-limit <host> <bytes> <commands>`
 abbrev pub send_limit_at : Host → ℕ → ℕ → Line
@@ -195,7 +201,8 @@ event_of form others =
     else (if bytes_eq form (codes "give-way") then give_way_of others
     else (if bytes_eq form (codes "most") then most_of others
     else (if bytes_eq form (codes "send-limit") then send_limit_of others
-    else disconnect_of form others)))))))))
+    else (if bytes_eq form (codes "of-address") then of_address_of others
+    else disconnect_of form others))))))))))
 
 -- What a line of these words spells.
 unfoldable pub line_of : List (List ℕ) → Option Line
@@ -208,6 +215,7 @@ line_of (form ∷ others) =
     else (if bytes_eq form (codes "rounds") then rounds_of others
     else event_of form others))))
 
--- What a line spells. One that begins with `#` is passed over, as one without words is.
+-- What a line spells. One that begins with `#` is passed over, as one without words is; one of spaces and then `#` spells nothing, since its
+-- first word begins with that.
 unfoldable pub spells : List ℕ → Option Line
-spells line = if starts_with nat_eq line (codes "#") then Some PassedOver else line_of (words line)
+spells line = if starts_with nat_eq line (codes "#") then Some PassedOver else line_of (line_words line)

@@ -1,4 +1,5 @@
 pub mod Lines
+pub mod Refused
 pub mod Scripts
 pub mod Answers
 pub mod Hosts

@@ -5,7 +5,7 @@ use Rattle.enet_codec.specs.declared.config.Config.{Config}
 use Rattle.enet_codec.specs.declared.refusal.Refusal.{Refusal}
 use Rattle.enet_codec.specs.declared.refusal.Refusal.TheVariants.{Memory, BadConfig}
 use Rattle.enet_codec.specs.declared.config.Admission.{Admission}
-use Rattle.enet_codec.specs.declared.config.Admission.TheVariants.{GiveWay, Most}
+use Rattle.enet_codec.specs.declared.config.Admission.TheVariants.{GiveWay, Most, OfAddress}
 use Rattle.enet_codec.specs.Config.{is_between, is_in_range, standard_config}
 use Rattle.enet_codec.specs.Refusal.{label_of}
 use Rattle.law_network.specs.declared.event.Answer.{Answer}
@@ -143,10 +143,11 @@ abbrev pub is_empty : Stage → Bool
 is_empty Empty = true
 is_empty _ = false
 
--- Whether so many peers may be connected or leaving at a host of so many slots.
+-- Whether so many peers may be connected or leaving, or be of one address, at a host of so many slots.
 abbrev pub may_be : Admission → ℕ → Bool
 may_be GiveWay slots = true
 may_be (Most peers) slots = is_between 1 slots peers
+may_be (OfAddress peers) slots = is_between 1 slots peers
 
 -- Whether what an event sets is in its range; a host that isn't there is refused by the fleet.
 abbrev pub is_in_world : Begun → WorldEvent → Bool

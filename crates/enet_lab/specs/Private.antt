@@ -1,3 +1,2 @@
 -- What only private functions and proofs speak of: no caller is promised anything by it.
 pub mod Scripts
-pub mod Lines

@@ -98,7 +98,7 @@ pub(crate) fn is(word: &[u8], name: &[u8]) -> bool
 }
 
 /// The name of a host. An error where there is no memory for the text.
-pub(crate) fn host_text(alloc: Global, host: Host) -> Result<String, AllocError>
+pub fn host_text(alloc: Global, host: Host) -> Result<String, AllocError>
     ensures { IfOk result (λ text. string_bytes text ≡ host_text host) }
 {
     match host {

@@ -2,14 +2,14 @@
 
 ghost use Rattle.std.specs.Prelude.{◌≡◌, ◌∷◌, IfOk};
 ghost use Rattle.enet_text.specs.Words.{words};
-ghost use Rattle.enet_lab.specs.EnetLines.{mode_named, pair_of, open_of, fleet_of, calm_of, rounds_of, connect_of, submit_of, deliver_of, deliver_side_of, deliver_from_of, stranger_of, turn_of, tick_of, take_of, give_way_of, most_of, send_limit_of, disconnect_of, event_of, line_of, spells};
+ghost use Rattle.enet_lab.specs.EnetLines.{mode_named, pair_of, open_of, fleet_of, calm_of, rounds_of, connect_of, submit_of, deliver_of, deliver_side_of, deliver_from_of, stranger_of, turn_of, tick_of, take_of, give_way_of, most_of, of_address_of, send_limit_of, disconnect_of, event_of, line_of, spells};
 
 use crate::host::{host_named, is, node_named, side_named};
 use enet_codec::{Addr, Admission, DisconnectMode};
 use enet_fleet::FleetEvent;
 use enet_text::{
-    bytes_of, five, four, id_of, ip_of, one, peer_of, three, two, u8_of, u16_of, u32_of, u64_of,
-    word,
+    bytes_of, first_word, five, four, id_of, ip_of, one, peer_of, three, two, u8_of, u16_of,
+    u32_of, u64_of,
 };
 use law_network::WorldEvent;
 use std::alloc::{AllocError, Global};
@@ -20,7 +20,7 @@ const MOST_ROUNDS: u64 = 16_777_216;
 /// What a line spells.
 #[derive(Drop)]
 pub enum Line {
-    /// Nothing: the line is empty, or has spaces alone, or begins with `#`.
+    /// Nothing: the line is empty, or has spaces alone, or begins with `#`. Behind other words `#` begins a comment.
     PassedOver,
     /// Two hosts with so many channels are connected from the start, with one slot each.
     Pair {
@@ -75,7 +75,7 @@ pub fn read_line(alloc: Global, line: &[u8]) -> Result<Option<Line>, AllocError>
     if line.starts_with(b"#") {
         return Ok(Some(Line::PassedOver));
     }
-    match word(line) {
+    match first_word(line) {
         None => Ok(Some(Line::PassedOver)),
         Some((form, rest)) => read_form(alloc, form, rest),
     }
@@ -195,6 +195,9 @@ fn read_event(alloc: Global, form: &[u8], rest: &[u8]) -> Result<Option<Line>, A
     }
     if is(form, b"send-limit") {
         return Ok(send_limit(rest));
+    }
+    if is(form, b"of-address") {
+        return Ok(of_address(rest));
     }
     Ok(disconnect(form, rest))
 }
@@ -336,6 +339,15 @@ fn send_limit(text: &[u8]) -> Option<Line>
     let bytes = u64_of(bytes)?;
     let commands = u64_of(commands)?;
     Some(host.set_send_limit(bytes, commands))
+}
+
+fn of_address(text: &[u8]) -> Option<Line>
+    ensures { result ≡ of_address_of (words text.now) }
+{
+    let (host, peers) = two(text)?;
+    let host = host_named(host)?;
+    let peers = u16_of(peers)?;
+    Some(host.admit(Admission::OfAddress { peers }))
 }
 
 fn disconnect(form: &[u8], text: &[u8]) -> Option<Line>

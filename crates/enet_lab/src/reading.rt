@@ -115,8 +115,8 @@ fn run_script<R: Read, W: Write>(
 /// most 16,777,216, and `rounds <connection> <ms>` tells how many of them are enough. Those of a fleet are the server `S`, which doesn't connect, and
 /// the clients `C0`, `C1` and on; `deliver <host> <from> <k>` brings a host a datagram of another, and
 /// `stranger <host> <ip> <port> <bytes>` one that a stranger sends. Words are separated by spaces, numbers are decimal, a peer is
-/// `slot.generation`, bytes are hex of either case or `-` for none, a connect id is 8 hex digits, an ip four numbers with points between
-/// them. A refusal of the world or the fleet is answered by its number and its name, and the script goes on.
+/// `slot.generation`, bytes are hex of either case, text in quotes, or `-` for none, a connect id is 8 hex digits, an ip four numbers with
+/// points between them. Behind a line's words a word that begins with `#` begins a comment. A refusal of the world or the fleet is answered by its number and its name, and the script goes on.
 ///
 /// BadScript at the first line that can't be read; behind a first line that was refused that is the next one that isn't passed
 /// over. Memory where a growth of the lab itself was refused; Io where a read, a write or the flush failed, and after 16,777,216

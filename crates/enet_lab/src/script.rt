@@ -7,7 +7,7 @@ ghost use Rattle.enet_codec.specs.Config.{standard_config};
 ghost use Rattle.enet_lab.specs.declared.line.Line.TheVariants as spelled;
 ghost use Rattle.enet_lab.specs.declared.stage.Stage.TheVariants as stages;
 ghost use Rattle.enet_lab.specs.Lines.{Begins, Does, MakesFleet, MakesWorld, Opens, RunsLine, can_do, can_read, is_empty};
-ghost use Rattle.enet_lab.specs.Private.Lines.{IsRefused};
+ghost use Rattle.enet_lab.specs.Refused.{IsRefused};
 
 use crate::fault::LabFault;
 use crate::stage::Stage;
@@ -21,14 +21,16 @@ use std::alloc::Global;
 use std::mem::replace;
 
 /// A script that is being run.
-pub(crate) struct Script {
+pub struct Script {
     alloc: Global,
+    /// What the lines so far have made.
     pub stage: Stage,
     /// How many lines there were, those that are passed over among them.
     pub lines: u32,
 }
 
 impl Script {
+    /// A script of which no line was run.
     pub fn new(alloc: Global) -> Script
         ensures stage { result.stage ≡ stages.Empty }
         ensures lines { result.lines ≡ 0 }

@@ -13,13 +13,14 @@ use enet_world::{World, side_of};
 use law_network::{Answer, Side, WorldEvent};
 use std::alloc::{AllocError, Global};
 
-/// Whether so many peers may be connected or leaving at a host of so many slots.
+/// Whether so many peers may be connected or leaving, or be of one address, at a host of so many slots.
 fn may_be(what: Admission, slots: u16) -> bool
     ensures { result ≡ may_be what slots }
 {
     match what {
         Admission::GiveWay => true,
         Admission::Most { peers } => (1..=slots).contains(&peers),
+        Admission::OfAddress { peers } => (1..=slots).contains(&peers),
     }
 }
 

@@ -153,8 +153,12 @@ impl Desk {
         let transit = host.host().in_transit(peer).unwrap_or(0);
         let allowance = host.host().allowance(peer).unwrap_or(0);
         let waiting = host.host().outstanding(peer).map_or(0, |it| it.bytes);
+        let (sent, again) = host
+            .host()
+            .traffic(peer)
+            .map_or((0, 0), |it| (it.sent, it.again));
         format!(in alloc;
-            "peer {slot}.{generation} at {ip}:{port} for {seconds} s round trip {trip} ms throttle {throttle} in transit {transit} bytes allowance {allowance} waiting {waiting} bytes\n"
+            "peer {slot}.{generation} at {ip}:{port} for {seconds} s round trip {trip} ms throttle {throttle} in transit {transit} bytes allowance {allowance} waiting {waiting} bytes sent {sent} resent {again}\n"
         )
     }
 

@@ -6,7 +6,7 @@ use enet_console::Unread;
 use enet_lab::LabFault;
 use enet_serve::Unopened;
 use enet_text::InspectFault;
-use std::alloc::AllocError;
+use std::alloc::{AllocError, AllocFailed};
 use std::io;
 use thiserror::Error;
 
@@ -80,6 +80,12 @@ impl From<Unread> for Failure {
 
 impl From<AllocError> for Failure {
     fn from(_error: AllocError) -> Failure {
+        Failure::Memory
+    }
+}
+
+impl<T: Drop> From<AllocFailed<T>> for Failure {
+    fn from(_error: AllocFailed<T>) -> Failure {
         Failure::Memory
     }
 }

@@ -104,6 +104,8 @@ impl Monitor {
             bytes_in: totals.bytes_in,
             datagrams_out: totals.datagrams_out,
             bytes_out: totals.bytes_out,
+            sends: host.sends(),
+            resends: host.resends(),
             lost: counted.lost,
             passed_over: self.register.passed_over(),
             orders: counted.orders,

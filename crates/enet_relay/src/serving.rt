@@ -24,7 +24,7 @@ pub fn serve<R>(rt: &R, options: ServeOptions) -> Result<(), Failure>
 where
     R: Threads + Wait + Net + Clock + Sync + Print + Eprint + AllocGlobal,
 {
-    let settings = Settings {
+    let mut settings = Settings {
         address: options.address,
         peers: options.peers,
         channels: options.channels,
@@ -34,9 +34,11 @@ where
         max_waiting: options.max_waiting,
         send_limit: options.max_unsent.map(limit_of),
         receive_buffer: options.admission.receive_buffer,
+        of_address: None,
         rules: rules_of(&options.admission),
         secret: secret_for(options.has_secret)?,
     };
+    settings.of_address = address_limit(options.admission.per_address, settings.slots());
     // Where no thread can be made, a join does its parts one after the other: nothing would be relayed until the run is over.
     let wants_thread = options.threads == ServerThreads::Two || options.metrics.is_some();
     if wants_thread && thread::spawn(rt, || ()).is_err() {
@@ -69,10 +71,16 @@ fn secret_for(has_secret: bool) -> Result<Option<Secret>, Failure> {
     }
 }
 
+// How many clients of one address there are at most, at a host of so many slots.
+fn address_limit(per_address: Option<u32>, slots: u16) -> Option<u16> {
+    let most = u16::try_from(per_address?).unwrap_or(slots);
+    Some(most.min(slots))
+}
+
 // Whom it lets in.
 fn rules_of(admission: &Admission) -> Rules {
     Rules {
-        peers_of_address: admission.per_address,
+        peers_of_address: None,
         connects_of_address: admission.connects_per_address,
         connects: admission.connects_per_second,
     }

@@ -1,5 +1,8 @@
 pub mod TextLemmas
 pub mod WordLemmas
+pub mod PieceLemmas
+pub mod QuoteLemmas
+pub mod ReadBack
 pub mod Told
 pub mod Packets
 pub mod Inputs

@@ -1,7 +1,7 @@
--- The first word of a line; numbers and peers, from what the functions below them tell.
+-- Numbers, peers, addresses and bytes, from what the functions below them tell; lines.
 use Rattle.std.proofs.Common.{◌≡◌, ◌<◌, ◌≤◌, ◌^◌, ◌+◌, ◌==◌, ◌&&◌, ℕ, suc, Bool, true, false, not, cond, nat_lt, List, [], ◌∷◌, length, get_or, take, drop, filter, Option, Some, None, Result, Ok, Err, ◌⊎◌, inl, inr, arith, refl, sym, ap, subst, ◌∙◌, unwrap_or, one-add, add-one, add-zero, length-take, length-drop, get_or-drop}
-use Rattle.std.specs.Prelude.{position, option_and_then, bytes_eq, codes}
-use Rattle.std.specs.List.{slice_split, onto_first, position_or_len, list_all, before_first, after_first}
+use Rattle.std.specs.Prelude.{position, option_and_then, bytes_eq, codes, nat_eq}
+use Rattle.std.specs.List.{slice_split, onto_first, position_or_len, list_all, before_first, after_first, starts_with}
 use Rattle.std.specs.Option.{SomeIff}
 use Rattle.std.specs.Result.{OkIff, result_ok}
 use Rattle.std.specs.Char.{is_digit}
@@ -17,46 +17,16 @@ use Rattle.hex.specs.Hex.{decode_of}
 use Rattle.hex.specs.declared.error.FromHexError.{FromHexError}
 use Rattle.hex.specs.declared.error.FromHexError.TheVariants.{OutOfMemory}
 use Rattle.enet_text.specs.Inspected.{lines_of}
-use Rattle.enet_text.specs.Words.{words, parts, number_below, is_number, peer_of, bytes_of}
+use Rattle.enet_text.specs.Words.{letter, unquoted, parts, number_below, is_number, peer_of, bytes_of}
 
-abbrev is_space : ℕ → Bool
-is_space byte = byte == 32
-
-abbrev is_piece : List ℕ → Bool
+abbrev pub is_piece : List ℕ → Bool
 is_piece piece = nat_lt 0 (length piece)
 
--- a space at the front adds no word
-spaced : (byte : ℕ) (rest : List ℕ) → is_space byte ≡ true → words (byte ∷ rest) ≡ words rest
-unfolding words
-spaced byte rest e = ap (filter is_piece) (slice_split-cons_yes is_space byte rest e)
-
-skip_by : (byte : ℕ) (rest : List ℕ) (n : ℕ) (b : Bool) → is_space byte ≡ b → words rest ≡ words (drop n rest)
-    → words (byte ∷ rest) ≡ words (drop (cond (not (not b)) (1 + n) 0) (byte ∷ rest))
-skip_by byte rest n true e h = spaced byte rest e ∙ h ∙ ap (λ k. words (drop k (byte ∷ rest))) (sym (one-add n))
-skip_by byte rest n false e h = refl
-
--- the spaces at the front add none
-skip : (text : List ℕ) → words text ≡ words (drop (position_or_len (λ b. not (is_space b)) text) text)
-skip [] = refl
-skip (byte ∷ rest) = skip_by byte rest (position_or_len (λ b. not (is_space b)) rest) (is_space byte) refl (skip rest)
-
-no_place : (b : Bool) (k : ℕ) → cond b (Some k) None ≡ None → b ≡ false
+pub no_place : (b : Bool) (k : ℕ) → cond b (Some k) None ≡ None → b ≡ false
 no_place true k e = absurd (cc)
 no_place false k e = refl
 
-no_words : words [] ≡ []
-unfolding words
-no_words = refl
-
--- a text of spaces alone has no word
-pub words-spaces : (text : List ℕ) → position (λ b. not (b == 32)) text ≡ None → words text ≡ []
-words-spaces text e =
-    let k : ℕ = position_or_len (λ b. not (is_space b)) text in
-    let far : length text ≤ k = ltb-false k (length text) (no_place _ k e) in
-    let empty : drop k text ≡ [] = grind (arith, common_steps) in
-    skip text ∙ ap words empty ∙ no_words
-
-kept : (piece : List ℕ) (pieces : List (List ℕ)) → 0 < length piece → filter is_piece (piece ∷ pieces) ≡ piece ∷ filter is_piece pieces
+pub kept : (piece : List ℕ) (pieces : List (List ℕ)) → 0 < length piece → filter is_piece (piece ∷ pieces) ≡ piece ∷ filter is_piece pieces
 kept piece pieces h = ap (λ b. cond b (piece ∷ filter is_piece pieces) (filter is_piece pieces)) (lt-ltb 0 (length piece) h)
 
 -- a text without a byte that separates is one piece
@@ -69,60 +39,6 @@ unsplit_by p byte rest false e h far = slice_split-cons_no p byte rest e ∙ ap 
 unsplit : (p : ℕ → Bool) (text : List ℕ) → length text ≤ position_or_len p text → slice_split p text ≡ text ∷ []
 unsplit p [] far = refl
 unsplit p (byte ∷ rest) far = unsplit_by p byte rest (p byte) refl (unsplit p rest) far
-
--- a text that begins with a word: the word ends at the first space
-ends_inside : (text : List ℕ) → is_space (get_or text 0 0) ≡ false → position_or_len is_space text < length text
-    → words text ≡ take (position_or_len is_space text) text ∷ words (drop (position_or_len is_space text) text)
-unfolding words
-ends_inside text starts inside =
-    let n : ℕ = position_or_len is_space text in
-    let here : is_space (get_or text n 0) ≡ true = passes_at_first is_space text 0 inside in
-    let some : n ≡ 0 → ⊥ = λ z. both_ways (is_space (get_or text 0 0)) starts (ap (λ k. is_space (get_or text k 0)) (sym z) ∙ here) in
-    let long : 0 < length (take n text) = omega (arith, some, length-take n text) in
-    ap (filter is_piece) (slice_split_first is_space text 0 inside)
-    ∙ kept (take n text) (slice_split is_space (drop (n + 1) text)) long
-    ∙ ap (λ more. take n text ∷ more) (sym (ap words (drop-cons text n 0 inside) ∙ spaced (get_or text n 0) (drop (suc n) text) here ∙ ap (λ k. words (drop k text)) (sym (add-one n))))
-
--- or at the end of the text
-ends_at_end : (text : List ℕ) → 0 < length text → length text ≤ position_or_len is_space text
-    → words text ≡ take (length text) text ∷ words (drop (length text) text)
-unfolding words
-ends_at_end text some far =
-    ap (filter is_piece) (unsplit is_space text far) ∙ kept text [] some
-    ∙ sym (ap (λ piece. piece ∷ words (drop (length text) text)) (take_all (length text) text (omega arith))
-    ∙ ap (λ left. text ∷ words left) (drop_all (length text) text (omega arith)))
-
-words_end : (text : List ℕ) (b : Bool) → nat_lt (position_or_len is_space text) (length text) ≡ b → 0 < length text → is_space (get_or text 0 0) ≡ false
-    → words text ≡ take (unwrap_or (cond b (Some (position_or_len is_space text)) None) (length text)) text
-    ∷ words (drop (unwrap_or (cond b (Some (position_or_len is_space text)) None) (length text)) text)
-words_end text true e some starts = ends_inside text starts (ltb-true _ _ e)
-words_end text false e some starts = ends_at_end text some (ltb-false _ _ e)
-
--- the first word stands between the first byte that is no space and the next space
-pub words-word : (text : List ℕ) (start : ℕ) → position (λ b. not (b == 32)) text ≡ Some start
-    → words text ≡ take (unwrap_or (position (λ b. b == 32) (drop start text)) (length (drop start text))) (drop start text)
-    ∷ words (drop (unwrap_or (position (λ b. b == 32) (drop start text)) (length (drop start text))) (drop start text))
-words-word text start e =
-    let found : (nat_lt (position_or_len (λ b. not (is_space b)) text) (length text) ≡ true) × (position_or_len (λ b. not (is_space b)) text ≡ start) =
-    cond_some _ _ _ e in
-    let inside : position_or_len (λ b. not (is_space b)) text < length text = ltb-true _ _ found.0 in
-    let first : is_space (get_or text start 0) ≡ false =
-    not-true _ (ap (λ k. not (is_space (get_or text k 0))) (sym found.1) ∙ passes_at_first (λ b. not (is_space b)) text 0 inside) in
-    let front : is_space (get_or (drop start text) 0 0) ≡ false = simp (get_or-drop, add-zero) first in
-    skip text ∙ ap (λ k. words (drop k text)) found.1
-    ∙ words_end (drop start text) _ refl (omega (arith, length-drop start text, found.1)) front
-
--- the same, in the steps that a function takes
-pub words-read : (text rest front back : List ℕ) (start at : ℕ) (place : Option ℕ) → position (λ b. not (b == 32)) text ≡ Some start → rest ≡ drop start text
-    → place ≡ position (λ b. b == 32) rest → at ≡ unwrap_or place (length rest) → front ≡ take at rest → back ≡ drop at rest
-    → words text ≡ front ∷ words back
-words-read text rest front back start at place found cut ends where_ends first others =
-    let whole = words-word text start found in
-    let along : words text ≡ take (unwrap_or (position (λ b. b == 32) rest) (length rest)) rest ∷ words (drop (unwrap_or (position (λ b. b == 32) rest) (length rest)) rest) =
-    subst (λ r. words text ≡ take (unwrap_or (position (λ b. b == 32) r) (length r)) r ∷ words (drop (unwrap_or (position (λ b. b == 32) r) (length r)) r)) (sym cut) whole in
-    let place_is : at ≡ unwrap_or (position (λ b. b == 32) rest) (length rest) = where_ends ∙ ap (λ o. unwrap_or o (length rest)) ends in
-    let here : words text ≡ take at rest ∷ words (drop at rest) = subst (λ n. words text ≡ take n rest ∷ words (drop n rest)) (sym place_is) along in
-    here ∙ ap (λ f. f ∷ words (drop at rest)) (sym first) ∙ ap (λ r. front ∷ words r) (sym others)
 
 -- whether digits are a number is decided
 all_digits : (word : List ℕ) → AllDigits 10 word → list_all (λ byte. is_digit byte 10) word ≡ true
@@ -230,20 +146,34 @@ module _ (word front back : List ℕ) (point : ℕ) (found : position (λ b. b =
       (ap (number_below (2 ^ 16)) (before_is first) ∙ sym s) (ap (number_below (2 ^ 32)) (after_is second) ∙ sym g)
 
 -- the bytes of a word that is no `-`
-pub bytes_of-hex : (word : List ℕ) (decoded : Result (List ℕ) FromHexError) → false ≡ bytes_eq word (codes "-") → decode_of word ≡ decoded
+abbrev is_none : List ℕ → Bool
+is_none word = bytes_eq word (codes "-")
+
+abbrev is_quoted : List ℕ → Bool
+is_quoted word = starts_with nat_eq word (codes "\"")
+
+pub bytes_of-none : (word : List ℕ) → true ≡ is_none word → bytes_of word ≡ Some []
+unfolding bytes_of
+bytes_of-none word same = ap (λ b. cond b (Some []) (cond (is_quoted word) (unquoted letter (drop 1 word)) (result_ok (decode_of word)))) (sym same)
+
+pub bytes_of-text : (word : List ℕ) → false ≡ is_none word → true ≡ is_quoted word → bytes_of word ≡ unquoted letter (drop 1 word)
+unfolding bytes_of
+bytes_of-text word other quoted =
+    ap (λ b. cond b (Some []) (cond (is_quoted word) (unquoted letter (drop 1 word)) (result_ok (decode_of word)))) (sym other)
+    ∙ ap (λ b. cond b (unquoted letter (drop 1 word)) (result_ok (decode_of word))) (sym quoted)
+
+pub bytes_of-hex : (word : List ℕ) (decoded : Result (List ℕ) FromHexError) → false ≡ is_none word → false ≡ is_quoted word → decode_of word ≡ decoded
     → bytes_of word ≡ result_ok decoded
 unfolding bytes_of
-bytes_of-hex word decoded other e = ap (λ b. cond b (Some []) (result_ok (decode_of word))) (sym other) ∙ ap result_ok e
-
-pub bytes_of-none : (word : List ℕ) → true ≡ bytes_eq word (codes "-") → bytes_of word ≡ Some []
-unfolding bytes_of
-bytes_of-none word same = ap (λ b. cond b (Some []) (result_ok (decode_of word))) (sym same)
+bytes_of-hex word decoded other plain e =
+    ap (λ b. cond b (Some []) (cond (is_quoted word) (unquoted letter (drop 1 word)) (result_ok (decode_of word)))) (sym other)
+    ∙ ap (λ b. cond b (unquoted letter (drop 1 word)) (result_ok (decode_of word))) (sym plain) ∙ ap result_ok e
 
 -- what can't be decoded spells no bytes
-pub bytes_of-bad : (word : List ℕ) (error : FromHexError) → false ≡ bytes_eq word (codes "-") → ¬ (error ≡ OutOfMemory)
+pub bytes_of-bad : (word : List ℕ) (error : FromHexError) → false ≡ is_none word → false ≡ is_quoted word → ¬ (error ≡ OutOfMemory)
     → (error ≡ OutOfMemory) ⊎ (decode_of word ≡ Err error) → None ≡ bytes_of word
-bytes_of-bad word error other room (inl memory) = absurd (room memory)
-bytes_of-bad word error other room (inr bad) = sym (bytes_of-hex word (Err error) other bad)
+bytes_of-bad word error other plain room (inl memory) = absurd (room memory)
+bytes_of-bad word error other plain room (inr bad) = sym (bytes_of-hex word (Err error) other plain bad)
 
 -- a word without a point is one part
 pub parts-one : (text : List ℕ) → position is_point text ≡ None → parts text ≡ text ∷ []

@@ -1,17 +1,57 @@
 -- The words of a line, and what each kind of word spells.
-use Rattle.std.specs.Prelude.{◌≡◌, ℕ, ◌^◌, ◌&&◌, ◌==◌, nat_lt, Bool, if◌then◌else◌, List, [], ◌∷◌, length, filter, codes, bytes_eq, Option, Some, None, option_map, option_and_then}
+use Rattle.std.specs.Prelude.{◌≡◌, ℕ, ◌+◌, ◌*◌, ◌^◌, ◌&&◌, ◌==◌, nat_eq, nat_lt, Bool, true, false, if◌then◌else◌, List, [], ◌∷◌, length, drop, filter, codes, bytes_eq, Option, Some, None, option_map, option_and_then}
 use Rattle.std.specs.Borrow.{Bor}
 use Rattle.std.specs.Char.{is_digit}
 use Rattle.std.specs.Int.{from_be_bytes, w32}
-use Rattle.std.specs.List.{slice_split, before_first, after_first, list_all}
+use Rattle.std.specs.List.{slice_split, before_first, after_first, list_all, onto_first, starts_with}
 use Rattle.std.specs.Result.{result_ok}
 use Rattle.std.specs.Str.Parse.{digits_value}
-use Rattle.hex.specs.Hex.{decode_of, decode_sized}
+use Rattle.hex.specs.Hex.{decode_of, decode_sized, hex_digit_value}
 use Rattle.enet_codec.specs.declared.event.PeerRef.{PeerRef}
+use Rattle.enet_text.specs.declared.words.Quoting.{Quoting}
+use Rattle.enet_text.specs.declared.words.Quoting.TheVariants.{Outside, Inside, Escaped}
 
--- The words of a line: what stands between its spaces, without the empty pieces.
+-- Where the byte behind this one stands, by where this one does: a quote begins what stands in quotes and ends it, but not behind a
+-- backslash.
+abbrev pub after : Quoting → ℕ → Quoting
+after Outside byte = if byte == 34 then Inside else Outside
+after Inside byte = if byte == 34 then Outside else (if byte == 92 then Escaped else Inside)
+after Escaped byte = Inside
+
+-- Whether a byte that stands there separates words: a space that is not in quotes.
+abbrev pub separates : Quoting → ℕ → Bool
+separates Outside byte = byte == 32
+separates Inside byte = false
+separates Escaped byte = false
+
+-- What stands between the spaces outside quotes, of bytes of which the first stands there.
+abbrev pub pieces : Quoting → List ℕ → List (List ℕ)
+pieces quoting [] = [] ∷ []
+pieces quoting (byte ∷ rest) = if separates quoting byte then [] ∷ pieces Outside rest else onto_first byte (pieces (after quoting byte) rest)
+
+-- That without the empty pieces.
+unfoldable pub spaced : List ℕ → List (List ℕ)
+spaced text = filter (λ piece. nat_lt 0 (length piece)) (pieces Outside text)
+
+-- A word that begins with `#` begins a comment.
+abbrev pub begins_comment : List ℕ → Bool
+begins_comment word = starts_with nat_eq word (codes "#")
+
+abbrev pub before_comment : List (List ℕ) → List (List ℕ)
+before_comment [] = []
+before_comment (word ∷ others) = if begins_comment word then [] else word ∷ before_comment others
+
+-- The words of a text: what stands between its spaces outside quotes, up to a comment.
 unfoldable pub words : List ℕ → List (List ℕ)
-words line = filter (λ piece. nat_lt 0 (length piece)) (slice_split (λ byte. byte == 32) line)
+words text = before_comment (spaced text)
+
+-- Those of a line, of which the first is one also where it begins with `#`.
+abbrev pub behind_first : List (List ℕ) → List (List ℕ)
+behind_first [] = []
+behind_first (word ∷ others) = word ∷ before_comment others
+
+unfoldable pub line_words : List ℕ → List (List ℕ)
+line_words line = behind_first (spaced line)
 
 -- Decimal digits, one at least.
 abbrev pub is_number : List ℕ → Bool
@@ -67,9 +107,43 @@ ip_of word = of_four (λ a b c d. do
   d ← number_below (2 ^ 8) d
   Some (from_be_bytes w32 (a ∷ b ∷ c ∷ d ∷ []))) (parts word)
 
--- The bytes that hex of either case spells; `-` spells none.
+-- The byte that a letter stands for behind a backslash, but for the `x` before two hex digits.
+abbrev pub escape_of : ℕ → Option ℕ
+escape_of letter =
+    if letter == 116 then Some 9 else (if letter == 110 then Some 10 else (if letter == 114 then Some 13 else (if letter == 48 then Some 0
+    else (if letter == 34 then Some 34 else (if letter == 92 then Some 92 else None)))))
+
+-- What comes next in quotes: a letter, what stands behind a backslash, or the first or the second digit behind `\x`.
+pub data Next : Type 0 where
+  letter : Next
+  escape : Next
+  high : Next
+  low : ℕ → Next
+
+-- The byte that was read, before those that are read behind it.
+abbrev pub onto : Option ℕ → Option (List ℕ) → Option (List ℕ)
+onto byte behind = option_and_then (λ b. option_map (λ bytes. b ∷ bytes) behind) byte
+
+-- The quote that ends a text is the last byte.
+abbrev pub at_end : List ℕ → Option (List ℕ)
+at_end [] = Some []
+at_end (byte ∷ rest) = None
+
+-- The bytes that stand in quotes, from such a place on, up to the quote that ends them. A byte below 32 can't stand there.
+unfoldable pub unquoted : Next → List ℕ → Option (List ℕ)
+unquoted next [] = None
+unquoted letter (c ∷ rest) =
+    if c == 34 then at_end rest
+    else (if c == 92 then unquoted escape rest else (if nat_lt c 32 then None else onto (Some c) (unquoted letter rest)))
+unquoted escape (c ∷ rest) = if c == 120 then unquoted high rest else onto (escape_of c) (unquoted letter rest)
+unquoted high (c ∷ rest) = option_and_then (λ digit. unquoted (low digit) rest) (hex_digit_value c)
+unquoted (low digit) (c ∷ rest) = onto (option_map (λ other. 16 * digit + other) (hex_digit_value c)) (unquoted letter rest)
+
+-- The bytes that hex of either case spells, or a text in quotes; `-` spells none.
 unfoldable pub bytes_of : List ℕ → Option (List ℕ)
-bytes_of word = if bytes_eq word (codes "-") then Some [] else result_ok (decode_of word)
+bytes_of word =
+    if bytes_eq word (codes "-") then Some []
+    else (if starts_with nat_eq word (codes "\"") then unquoted letter (drop 1 word) else result_ok (decode_of word))
 
 -- The number that eight hex digits of either case spell.
 unfoldable pub id_of : List ℕ → Option ℕ

@@ -1,12 +1,13 @@
 //! The bytes of a packet, put behind the text that is there.
 
-ghost use Rattle.std.specs.Prelude.{◌≡◌, ◌++◌, ◌<◌, OnOk};
+ghost use Rattle.std.specs.Prelude.{◌≡◌, ◌++◌, ◌<◌, Some, IfOk, OnOk};
 ghost use Rattle.std.specs.List.{flat_map, list_all};
 ghost use Rattle.std.specs.String.{string_bytes};
 ghost use Rattle.enet_text.specs.Bodies.{are_letters, body_text, escaped, is_letter, is_text, more_text, plain, quoted, told_in, told_text, without_zero};
+ghost use Rattle.enet_text.specs.Words.{bytes_of};
 
 use crate::pushing::push_bytes;
-use std::alloc::AllocError;
+use std::alloc::{AllocError, Global};
 
 /// How many bytes of a packet are told.
 #[derive(Clone, Copy)]
@@ -19,6 +20,17 @@ pub enum Bodies {
 
 /// So many are told of each packet, where not all are.
 const FEW: usize = 32;
+
+/// The bytes of a packet as a text: in quotes if they are letters, else in hex; with points behind them where not all are told. Where all
+/// are, `bytes_of` reads them of it. An error where there is no memory for it.
+pub fn body_text(alloc: Global, bodies: Bodies, body: &[u8]) -> Result<String, AllocError>
+    ensures told { IfOk result (λ text. string_bytes text ≡ body_text bodies body.now) }
+    ensures read_back { bodies ≡ Bodies.Whole → IfOk result (λ text. bytes_of (string_bytes text) ≡ Some body.now) }
+{
+    let mut text = String::new(alloc);
+    push_body(&mut text, bodies, body)?;
+    Ok(text)
+}
 
 /// The bytes of a packet: in quotes if they are text, else in hex; with points behind them where not all are told. An error where there is no
 /// memory for them.

@@ -3,7 +3,7 @@
 ghost use Rattle.std.specs.Prelude.{◌≡◌, IfOk};
 ghost use Rattle.enet_text.specs.Lines.{line_of};
 
-use crate::{bytes_of, end, word};
+use crate::{bytes_of, end, first_word};
 use bytes::Bytes;
 use std::alloc::{AllocError, Global};
 
@@ -25,7 +25,7 @@ pub fn read_line(alloc: Global, text: &[u8]) -> Result<Option<Line>, AllocError>
     if text.starts_with(b"#") {
         return Ok(Some(Line::PassedOver));
     }
-    let Some((only, rest)) = word(text) else {
+    let Some((only, rest)) = first_word(text) else {
         return Ok(Some(Line::PassedOver));
     };
     if end(rest).is_none() {

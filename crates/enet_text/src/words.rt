@@ -1,17 +1,23 @@
 //! The words of a line, and what they spell. Functions named for a kind of word take what is left of a line and give what
 //! its first word spells, with what is left behind it, or None.
 
-ghost use Rattle.std.specs.Prelude.{◌≡◌, ◌≢◌, ◌==◌, ◌<◌, ◌^◌, ◌↔◌, ◌∷◌, [], length, not, position, MatchOption, IfOk, IsSome};
+ghost use Rattle.std.specs.Prelude.{◌≡◌, ◌≢◌, ◌==◌, ◌<◌, ◌≤◌, ◌^◌, ◌↔◌, ◌∷◌, [], length, not, position, MatchOption, IfOk, IsSome};
 ghost use Rattle.std.specs.Option.{SomeIff};
 ghost use Rattle.std.specs.Str.Parse.{IsNumeral, digits_value};
-ghost use Rattle.enet_text.specs.Words.{words, parts, number_below, peer_of, ip_of, bytes_of, id_of, Reads};
+ghost use Rattle.enet_text.specs.Words.{after, separates, spaced, words, line_words, parts, number_below, peer_of, ip_of, bytes_of, id_of, Reads};
+ghost use Rattle.enet_text.specs.Private.Pieces.{piece_end};
 
+use crate::quotes::unquoted;
 use bytes::Bytes;
 use enet_codec::PeerRef;
 use hex::{FromHex, FromHexError};
 use std::alloc::{AllocError, Global};
 
 const SPACE: u8 = b' ';
+
+const QUOTE: u8 = b'"';
+
+const BACKSLASH: u8 = b'\\';
 
 // Where the first byte stands that is no space.
 fn word_start(text: &[u8]) -> Option<usize>
@@ -20,20 +26,81 @@ fn word_start(text: &[u8]) -> Option<usize>
     text.iter().position(|byte| *byte != SPACE)
 }
 
-// Where the first space stands.
-fn word_end(text: &[u8]) -> Option<usize>
-    ensures { result ≡ position (λ byte. byte == 32) text.now }
+/// Where a byte of a line stands.
+#[derive(Clone, Copy)]
+pub(crate) enum Quoting {
+    /// Not in quotes.
+    Outside,
+    /// In quotes.
+    Inside,
+    /// In quotes, behind a backslash.
+    Escaped,
+}
+
+// Where the byte behind one stands.
+fn after(quoting: Quoting, byte: u8) -> Quoting
+    ensures { result ≡ after quoting byte }
 {
-    text.iter().position(|byte| *byte == SPACE)
+    match quoting {
+        Quoting::Outside if byte == QUOTE => Quoting::Inside,
+        Quoting::Outside => Quoting::Outside,
+        Quoting::Inside if byte == QUOTE => Quoting::Outside,
+        Quoting::Inside if byte == BACKSLASH => Quoting::Escaped,
+        Quoting::Inside | Quoting::Escaped => Quoting::Inside,
+    }
+}
+
+// A byte that stands there is a space which separates words.
+fn separates(quoting: Quoting, byte: u8) -> bool
+    ensures { result ≡ separates quoting byte }
+{
+    match quoting {
+        Quoting::Outside => byte == SPACE,
+        Quoting::Inside | Quoting::Escaped => false,
+    }
+}
+
+// Where the word ends that a text begins with: at a space that is not in quotes, or at its end.
+fn word_end(text: &[u8]) -> usize
+    ensures end { result ≡ piece_end Quoting.Outside text.now }
+    ensures bound { result ≤ length text.now }
+{
+    let mut quoting = Quoting::Outside;
+    'bytes: for i in 0..text.len() {
+        let byte = text[i];
+        if separates(quoting, byte) {
+            return i;
+        }
+        quoting = after(quoting, byte);
+    }
+    text.len()
+}
+
+// What stands before the first space outside quotes, but for spaces at the front, and what is left behind it.
+fn piece(text: &[u8]) -> Option<(&[u8], &[u8])>
+    ensures { MatchOption result (spaced text.now ≡ []) (λ read. spaced text.now ≡ read.0.now ∷ spaced read.1.now) }
+{
+    let text = &text[word_start(text)?..];
+    Some(text.split_at(word_end(text)))
+}
+
+/// The first word of a line, also one that begins with `#`, and what is left behind it.
+pub fn first_word(line: &[u8]) -> Option<(&[u8], &[u8])>
+    ensures { MatchOption result (line_words line.now ≡ []) (λ read. line_words line.now ≡ read.0.now ∷ words read.1.now) }
+{
+    piece(line)
 }
 
 /// The first word and what is left behind it. Words are separated by one or more spaces, which may also stand before the
-/// first and after the last.
+/// first and after the last; a space in quotes separates none. A word that begins with `#` is none: there a comment begins, up to the end.
 pub fn word(text: &[u8]) -> Option<(&[u8], &[u8])>
     ensures { MatchOption result (words text.now ≡ []) (λ read. words text.now ≡ read.0.now ∷ words read.1.now) }
 {
-    let text = &text[word_start(text)?..];
-    Some(text.split_at(word_end(text).unwrap_or(text.len())))
+    let (first, rest) = piece(text)?;
+    if first.starts_with(b"#") {
+        return None;
+    }
+    Some((first, rest))
 }
 
 /// No word is left.
@@ -190,12 +257,16 @@ pub fn ip_of(word: &[u8]) -> Option<u32>
     Some(u32::from_be_bytes([first, second, third, fourth]))
 }
 
-/// The bytes that a word spells: hex of either case, or `-` for none. An error where there is no memory for them.
+/// The bytes that a word spells: hex of either case, a text in quotes (`quotes.rt`), or `-` for none. An error where there is no memory for
+/// them.
 pub fn bytes_of(alloc: Global, word: &[u8]) -> Result<Option<Bytes>, AllocError>
     ensures { IfOk result (λ read. read ≡ bytes_of word.now) }
 {
     if word == b"-".as_slice() {
         return Ok(Some(Bytes::from_static(&[])));
+    }
+    if word.starts_with(b"\"") {
+        return unquoted(alloc, &word[1..]);
     }
     match hex::decode(alloc, word) {
         Ok(bytes) => Ok(Some(Bytes::from_vec(bytes)?)),

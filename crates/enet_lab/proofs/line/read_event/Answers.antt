@@ -47,6 +47,10 @@ pub returns-then-is-10 : goal.returns-then-is-10
 unfolding event_of
 returns-then-is-10 c = search rules
 
+pub returns-then-is-11 : goal.returns-then-is-11
+unfolding event_of
+returns-then-is-11 c = search rules
+
 pub returns : goal.returns
 unfolding event_of
 returns c = search rules

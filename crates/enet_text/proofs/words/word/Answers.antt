@@ -1,16 +1,12 @@
-use Rattle.std.proofs.Common.{◌≡◌, ◌-◌, ◌==◌, not, length, take, drop, Some, sym, ◌∙◌, arith, length-drop}
-use Rattle.std.specs.Prelude.{position}
-use Rattle.std.proofs.lemmas.List.{take_all}
-use Rattle.enet_text.proofs.WordLemmas.{words-spaces, words-read}
+use Rattle.std.proofs.Common.{sym}
+use Rattle.enet_text.proofs.PieceLemmas.{words-none, words-comment, words-word}
 use Rattle.enet_text.proofs.words.word.Goals as goal
 
-pub returns-in_err-text : goal.returns-in_err-text
-returns-in_err-text c = rw c.from_residual.ensures (words-spaces c.args.text.now (sym c.word_start.ensures ∙ c.in_err-text.was))
+pub returns-in_err-first : goal.returns-in_err-first
+returns-in_err-first c = rw c.from_residual.ensures (words-none c.args.text.now c.in_err-first.ensures)
+
+pub returns-then-starts_with : goal.returns-then-starts_with
+returns-then-starts_with c = words-comment c.args.text.now _ _ c.in_ok-first.ensures (sym c.if-starts_with.ensures.value)
 
 pub returns : goal.returns
-returns c =
-    let start : position (λ b. not (b == 32)) c.args.text.now ≡ Some c.in_ok-text.field-0 = sym c.word_start.ensures ∙ c.in_ok-text.was in
-    let rest : take (length c.args.text.now - c.in_ok-text.field-0) (drop c.in_ok-text.field-0 c.args.text.now) ≡ drop c.in_ok-text.field-0 c.args.text.now =
-    take_all _ _ (omega (arith, length-drop c.in_ok-text.field-0 c.args.text.now)) in
-    words-read c.args.text.now _ _ _ c.in_ok-text.field-0 c.unwrap_or.result c.word_end.result start rest
-    c.word_end.ensures c.unwrap_or.ensures c.split_at.ensures.front c.split_at.ensures.back
+returns c = words-word c.args.text.now _ _ c.in_ok-first.ensures (sym c.if-starts_with.ensures.value)

@@ -1,4 +1,4 @@
--- What a line of a script does to what the lines so far have made.
+-- Why a line of a script was not run.
 use Rattle.std.specs.Prelude.{◌≡◌, ℕ, Bool, false, ⊤}
 use Rattle.enet_lab.specs.declared.fault.LabFault.{LabFault}
 use Rattle.enet_lab.specs.declared.fault.LabFault.TheVariants as faults
