@@ -16,6 +16,8 @@ uint32_t gofnjerta_core_stage(gofnjerta_host *host, const void *body, size_t len
 uint32_t gofnjerta_core_submit_staged(gofnjerta_host *host, const gofnjerta_peer *peer, uint8_t channel, uint8_t flags);
 uint32_t gofnjerta_core_broadcast(gofnjerta_host *host, const gofnjerta_peer *peers, size_t count, uint8_t channel, uint8_t flags,
                                   const void *body, size_t length);
+uint32_t gofnjerta_core_broadcast_each(gofnjerta_host *host, const gofnjerta_peer *peers, size_t count, uint8_t channel, uint8_t flags,
+                                       const void *body, size_t length, uint32_t *answers, size_t room);
 gofnjerta_received gofnjerta_core_receive(gofnjerta_host *host, const gofnjerta_address *from, const void *datagram, size_t length);
 uint32_t gofnjerta_core_service(gofnjerta_host *host, void *buffer, size_t room, gofnjerta_datagram *datagram);
 uint32_t gofnjerta_core_tick(gofnjerta_host *host, uint32_t ms);
@@ -35,6 +37,7 @@ uint32_t gofnjerta_core_set_ping_interval(gofnjerta_host *host, const gofnjerta_
 uint32_t gofnjerta_core_set_timeout(gofnjerta_host *host, const gofnjerta_peer *peer, uint32_t limit, uint32_t minimum, uint32_t maximum);
 uint32_t gofnjerta_core_peer(gofnjerta_host *host, const gofnjerta_peer *peer, gofnjerta_reading *reading);
 uint32_t gofnjerta_core_line(gofnjerta_host *host, const gofnjerta_peer *peer, gofnjerta_line *line);
+uint32_t gofnjerta_core_traffic(gofnjerta_host *host, const gofnjerta_peer *peer, gofnjerta_traffic *traffic);
 uint32_t gofnjerta_core_ending(gofnjerta_host *host, const gofnjerta_peer *peer, uint32_t *why);
 uint32_t gofnjerta_core_allowance(gofnjerta_host *host, const gofnjerta_peer *peer, uint32_t *bytes);
 uint32_t gofnjerta_core_totals_of(gofnjerta_host *host, gofnjerta_totals *totals);

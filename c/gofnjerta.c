@@ -204,30 +204,65 @@ uint32_t gofnjerta_submit_staged(gofnjerta_host *host, gofnjerta_peer peer, uint
     return noted(host, number, RECORD_SUBMIT_STAGED, &peer, WORDS(channel, flags));
 }
 
+/* A packet to several peers. */
+typedef struct {
+    const gofnjerta_peer *peers;
+    size_t count;
+    uint8_t channel, flags;
+    const void *body;
+    size_t length;
+} Broadcast;
+
+/* What refuses a broadcast before the proved functions see it: 0 if nothing does. Its pointers aren't NULL then. */
+static uint32_t checked(Broadcast *packet) {
+    static const gofnjerta_peer nobody;
+    if (packet->count == 0 && !packet->peers) packet->peers = &nobody;
+    packet->body = bytes_at(packet->body, packet->length);
+    if (!packet->peers || !packet->body) return GOFNJERTA_NULL;
+    if (packet->length > GOFNJERTA_MAX_PACKET || packet->count > PTRDIFF_MAX / sizeof *packet->peers) return GOFNJERTA_TOO_LARGE;
+    return GOFNJERTA_OK;
+}
+
+/* The entry of a broadcast, with what was answered as so many bytes. */
+__attribute__((cold, noinline))
+static void note_broadcast(Recorder *recorder, uint8_t kind, const Broadcast *packet, size_t bytes, uint64_t answer) {
+    RecordNumbers numbers = {0};
+    record_put(&numbers, 8, packet->count);
+    record_put(&numbers, 1, packet->channel);
+    record_put(&numbers, 1, packet->flags);
+    record_put(&numbers, bytes, answer);
+    record_put(&numbers, 8, packet->length);
+    begin_entry(recorder, kind, &numbers);
+    for (size_t i = 0; i < packet->count; i++) {
+        numbers.length = 0;
+        record_put_peer(&numbers, packet->peers[i]);
+        write_bytes(recorder, numbers.bytes, numbers.length);
+    }
+    write_bytes(recorder, packet->body, packet->length);
+    end_entry(recorder);
+}
+
 uint32_t gofnjerta_broadcast(gofnjerta_host *host, const gofnjerta_peer *peers, size_t count, uint8_t channel, uint8_t flags,
                              const void *body, size_t length) {
-    static const gofnjerta_peer nobody;
-    if (!peers && count == 0) peers = &nobody;
-    body = bytes_at(body, length);
-    if (!host || !peers || !body) return GOFNJERTA_NULL;
-    if (length > GOFNJERTA_MAX_PACKET || count > PTRDIFF_MAX / sizeof *peers) return GOFNJERTA_TOO_LARGE;
-    uint32_t number = gofnjerta_core_broadcast(core_of(host), peers, count, channel, flags, body, length);
-    if (is_recorded(host)) {
-        RecordNumbers numbers = {0};
-        record_put(&numbers, 8, count);
-        record_put(&numbers, 1, channel);
-        record_put(&numbers, 1, flags);
-        record_put(&numbers, 4, number);
-        record_put(&numbers, 8, length);
-        begin_entry(host->at, RECORD_BROADCAST, &numbers);
-        for (size_t i = 0; i < count; i++) {
-            numbers.length = 0;
-            record_put_peer(&numbers, peers[i]);
-            write_bytes(host->at, numbers.bytes, numbers.length);
-        }
-        write_bytes(host->at, body, length);
-        end_entry(host->at);
-    }
+    Broadcast packet = {peers, count, channel, flags, body, length};
+    if (!host) return GOFNJERTA_NULL;
+    uint32_t number = checked(&packet);
+    if (number != GOFNJERTA_OK) return number;
+    number = gofnjerta_core_broadcast(core_of(host), packet.peers, count, channel, flags, packet.body, length);
+    if (is_recorded(host)) note_broadcast(host->at, RECORD_BROADCAST, &packet, 4, number);
+    return number;
+}
+
+uint32_t gofnjerta_broadcast_each(gofnjerta_host *host, const gofnjerta_peer *peers, size_t count, uint8_t channel, uint8_t flags,
+                                  const void *body, size_t length, uint32_t *answers) {
+    static uint32_t none;
+    Broadcast packet = {peers, count, channel, flags, body, length};
+    if (!answers && count == 0) answers = &none;
+    if (!host || !answers) return GOFNJERTA_NULL;
+    uint32_t number = checked(&packet);
+    if (number != GOFNJERTA_OK) return number;
+    number = gofnjerta_core_broadcast_each(core_of(host), packet.peers, count, channel, flags, packet.body, length, answers, count);
+    if (is_noted(host, number)) note_broadcast(host->at, RECORD_BROADCAST_EACH, &packet, 8, record_hash_words(answers, count));
     return number;
 }
 
@@ -367,6 +402,11 @@ uint32_t gofnjerta_read_peer(gofnjerta_host *host, gofnjerta_peer peer, gofnjert
 uint32_t gofnjerta_read_line(gofnjerta_host *host, gofnjerta_peer peer, gofnjerta_line *line) {
     if (!host || !line) return GOFNJERTA_NULL;
     return gofnjerta_core_line(core_of(host), &peer, line);
+}
+
+uint32_t gofnjerta_read_traffic(gofnjerta_host *host, gofnjerta_peer peer, gofnjerta_traffic *traffic) {
+    if (!host || !traffic) return GOFNJERTA_NULL;
+    return gofnjerta_core_traffic(core_of(host), &peer, traffic);
 }
 
 uint32_t gofnjerta_ending(gofnjerta_host *host, gofnjerta_peer peer, uint32_t *why) {

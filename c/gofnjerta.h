@@ -173,6 +173,14 @@ typedef struct gofnjerta_line {
     uint64_t commands, bytes;       /* queued, or sent and not acknowledged, as gofnjerta_set_send_limit counts them */
 } gofnjerta_line;
 
+/* How many commands went to a peer since it began: those with data that ask for an acknowledgement, which are reliable packets, or the
+ * pieces of long ones. Each number wraps at 2^64. */
+typedef struct gofnjerta_traffic {
+    uint64_t sent;         /* each time that one went */
+    uint64_t again;        /* those times that it had gone before */
+    uint64_t acknowledged; /* commands, each once */
+} gofnjerta_traffic;
+
 /* Why a connection ended. */
 enum {
     GOFNJERTA_NO_ENDING = 0,      /* it hasn't ended, or ended without a DISCONNECT, or that was too long ago */
@@ -254,11 +262,16 @@ uint32_t gofnjerta_submit(gofnjerta_host *host, gofnjerta_peer peer, uint8_t cha
 
 /* Submits a packet to each of `count` peers: a copy of `length` bytes at `body`, which they share. Peers that have gone or aren't
  * connected are skipped. If one peer refuses it for another reason, the others still get it, and the first such reason is returned:
- * NO_SUCH_CHANNEL, TOO_LARGE, FULL, MEMORY. Who refuses it as FULL must be read before, by gofnjerta_read_line: afterwards a peer that took
- * it and is full by it looks the same, so don't submit it again to all that look full. No peer gets it if there is no memory for the copy
- * (MEMORY), or if length is above GOFNJERTA_MAX_PACKET or `count` peers are larger than any object (TOO_LARGE). */
+ * NO_SUCH_CHANNEL, TOO_LARGE, FULL, MEMORY. Which peers those are, gofnjerta_broadcast_each tells. No peer gets it if there is no memory for
+ * the copy (MEMORY), or if length is above GOFNJERTA_MAX_PACKET or `count` peers are larger than any object (TOO_LARGE). */
 uint32_t gofnjerta_broadcast(gofnjerta_host *host, const gofnjerta_peer *peers, size_t count, uint8_t channel, uint8_t flags,
                              const void *body, size_t length);
+
+/* The same, and writes to `answers` what each peer's submission returned, in their order: 0 if it took the packet, otherwise what
+ * gofnjerta_submit returns, NO_SUCH_PEER and NOT_CONNECTED too. Returns 0 once the answers are there, whatever they are. Before any
+ * submission, and with nothing written: MEMORY if there is none for the copy, TOO_LARGE as above. */
+uint32_t gofnjerta_broadcast_each(gofnjerta_host *host, const gofnjerta_peer *peers, size_t count, uint8_t channel, uint8_t flags,
+                                  const void *body, size_t length, uint32_t *answers);
 
 /* A packet to many peers, one call each: gofnjerta_stage copies its body once, in place of the one before, and each
  * gofnjerta_submit_staged shares it, until the next one is staged or the host is closed. TOO_LARGE above GOFNJERTA_MAX_PACKET, MEMORY;
@@ -341,6 +354,10 @@ uint32_t gofnjerta_read_peer(gofnjerta_host *host, gofnjerta_peer peer, gofnjert
 
 /* Reads how the line to a peer is. NO_SUCH_PEER. */
 uint32_t gofnjerta_read_line(gofnjerta_host *host, gofnjerta_peer peer, gofnjerta_line *line);
+
+/* Reads how many commands went to a peer, and how many were acknowledged. The share of `again` in `sent`, between two readings, grows if the
+ * line loses more, or if its round trips vary more. NO_SUCH_PEER. */
+uint32_t gofnjerta_read_traffic(gofnjerta_host *host, gofnjerta_peer peer, gofnjerta_traffic *traffic);
 
 /* Reads why a peer's connection ended (GOFNJERTA_ASKED_HERE ..), before and after its DISCONNECT is taken, until the next peer of that
  * slot, connected or not, is gone: ask when you take the DISCONNECT. */

@@ -91,6 +91,11 @@ GOFNJERTA_FIELD(gofnjerta_line, in_transit, 24, 4);
 GOFNJERTA_FIELD(gofnjerta_line, commands, 32, 8);
 GOFNJERTA_FIELD(gofnjerta_line, bytes, 40, 8);
 
+GOFNJERTA_STRUCT(gofnjerta_traffic, 24, 8);
+GOFNJERTA_FIELD(gofnjerta_traffic, sent, 0, 8);
+GOFNJERTA_FIELD(gofnjerta_traffic, again, 8, 8);
+GOFNJERTA_FIELD(gofnjerta_traffic, acknowledged, 16, 8);
+
 GOFNJERTA_STRUCT(gofnjerta_totals, 32, 8);
 GOFNJERTA_FIELD(gofnjerta_totals, datagrams_in, 0, 8);
 GOFNJERTA_FIELD(gofnjerta_totals, bytes_in, 8, 8);

@@ -4,10 +4,10 @@
  * Numbers are little-endian. A record begins with the 8 bytes "gofnjrec", the number of this form (4 bytes) and the version of the library
  * (4). Then there is an entry for each call that changed the host, in their order:
  * - its kind (1 byte, below) and the numbers of that kind: those that were passed, and those that came out;
- * - of RECORD_BROADCAST the names (slot 2, generation 4);
+ * - of RECORD_BROADCAST and RECORD_BROADCAST_EACH the names (slot 2, generation 4);
  * - of a kind with a length, so many bytes;
  * - the hash of all bytes of the record before it (8).
- * A hash is FNV-1a of 64 bits. A call that was refused changes nothing and has no entry, except for a broadcast. Calls that read have none,
+ * A hash is FNV-1a of 64 bits. A call that was refused changes nothing and has no entry, except for gofnjerta_broadcast. Calls that read have none,
  * except for RECORD_BODY, which shows the bytes of a packet that came. */
 #ifndef GOFNJERTA_RECORD_H
 #define GOFNJERTA_RECORD_H
@@ -41,7 +41,8 @@ enum { RECORD_FORM = 1, RECORD_HEAD = 16, RECORD_LONGEST = 64 };
     KIND(SET_SEND_LIMIT, "set_send_limit", 16)    /* bytes 8, commands 8 */ \
     KIND(THROTTLE_CONFIGURE, "throttle_configure", 18) /* peer, interval 4, acceleration 4, deceleration 4 */ \
     KIND(SET_PING_INTERVAL, "set_ping_interval", 10) /* peer, ms 4 */ \
-    KIND(SET_TIMEOUT, "set_timeout", 18)          /* peer, limit 4, minimum 4, maximum 4 */
+    KIND(SET_TIMEOUT, "set_timeout", 18)          /* peer, limit 4, minimum 4, maximum 4 */ \
+    KIND(BROADCAST_EACH, "broadcast_each", 26)    /* as BROADCAST, with the hash of the answers 8 in place of the answer */
 
 /* The kinds by their numbers, from 1 on. */
 #define RECORD_NUMBER(kind, name, bytes) RECORD_##kind,
@@ -53,6 +54,16 @@ enum { RECORD_NOTHING, RECORD_KINDS(RECORD_NUMBER) RECORD_COUNT };
 static inline uint64_t record_hash(uint64_t hash, const void *bytes, size_t length) {
     const uint8_t *at = bytes;
     for (size_t i = 0; i < length; i++) hash = (hash ^ at[i]) * 0x100000001B3u;
+    return hash;
+}
+
+/* The hash of numbers of 4 bytes. */
+static inline uint64_t record_hash_words(const uint32_t *words, size_t count) {
+    uint64_t hash = RECORD_EMPTY;
+    for (size_t i = 0; i < count; i++) {
+        const uint8_t bytes[] = {(uint8_t)words[i], (uint8_t)(words[i] >> 8), (uint8_t)(words[i] >> 16), (uint8_t)(words[i] >> 24)};
+        hash = record_hash(hash, bytes, sizeof bytes);
+    }
     return hash;
 }
 

@@ -104,7 +104,8 @@ static gofnjerta_address take_address(Entry *entry) {
 static size_t passed_of(uint8_t kind) {
     switch (kind) {
     case RECORD_CONNECT: return 15;
-    case RECORD_BROADCAST: return 10;
+    case RECORD_BROADCAST:
+    case RECORD_BROADCAST_EACH: return 10;
     case RECORD_RECEIVE: return 6;
     case RECORD_SERVICE:
     case RECORD_NEXT_EVENT:
@@ -124,6 +125,7 @@ static void tell(const char *when, Entry entry) {
         break;
     }
     case RECORD_BROADCAST: printf("%s\n", gofnjerta_error_name(take_word(&entry))); break;
+    case RECORD_BROADCAST_EACH: printf("answers with the hash %016" PRIX64 "\n", take(&entry, 8)); break;
     case RECORD_RECEIVE: {
         uint32_t handled = take_word(&entry);
         printf("%" PRIu32 " commands taken, stop %s\n", handled, gofnjerta_stop_name(take_word(&entry)));
@@ -198,23 +200,37 @@ static bool play_connect(Replay *replay, Entry *entry) {
     return compare(replay, entry, &results);
 }
 
-static bool play_broadcast(Replay *replay, Entry *entry, uint64_t count, uint64_t length) {
-    uint8_t channel = (uint8_t)(take(entry, 8), take(entry, 1)), flags = (uint8_t)take(entry, 1);
-    gofnjerta_peer *peers = calloc(count + 1, sizeof *peers);
-    RecordNumbers results = {0};
-    if (!peers) {
+/* So many fields, all 0, of `size` bytes each, and one more. */
+static void *make_list(const Replay *replay, uint64_t count, size_t size) {
+    void *list = calloc(count + 1, size);
+    if (!list) {
         fprintf(stderr, "%s: no memory\n", replay->name);
         exit(2);
     }
+    return list;
+}
+
+static bool play_broadcast(Replay *replay, Entry *entry, uint64_t count, uint64_t length) {
+    uint8_t channel = (uint8_t)(take(entry, 8), take(entry, 1)), flags = (uint8_t)take(entry, 1);
+    const uint8_t *body = replay->room + 6 * count;
+    gofnjerta_peer *peers = make_list(replay, count, sizeof *peers);
+    uint32_t *answers = make_list(replay, count, sizeof *answers), number;
+    RecordNumbers results = {0};
     for (size_t i = 0; i < count; i++) {
         Entry name = {0};
         memcpy(name.numbers.bytes, replay->room + 6 * i, 6);
         peers[i] = take_peer(&name);
     }
-    uint32_t number = gofnjerta_broadcast(&replay->host, peers, count, channel, flags, replay->room + 6 * count, length);
+    if (entry->kind == RECORD_BROADCAST) {
+        record_put(&results, 4, gofnjerta_broadcast(&replay->host, peers, count, channel, flags, body, length));
+        number = GOFNJERTA_OK;
+    } else {
+        number = gofnjerta_broadcast_each(&replay->host, peers, count, channel, flags, body, length, answers);
+        record_put(&results, 8, record_hash_words(answers, count));
+    }
     free(peers);
-    record_put(&results, 4, number);
-    return compare(replay, entry, &results);
+    free(answers);
+    return done(replay, entry, number) && compare(replay, entry, &results);
 }
 
 static bool play_receive(Replay *replay, Entry *entry, uint64_t length) {
@@ -290,7 +306,8 @@ static bool play(Replay *replay, Entry *entry, uint64_t count, uint64_t length) 
     case RECORD_CLOSE: return done(replay, entry, gofnjerta_close(host));
     case RECORD_CONNECT: return play_connect(replay, entry);
     case RECORD_STAGE: return done(replay, entry, gofnjerta_stage(host, replay->room, length));
-    case RECORD_BROADCAST: return play_broadcast(replay, entry, count, length);
+    case RECORD_BROADCAST:
+    case RECORD_BROADCAST_EACH: return play_broadcast(replay, entry, count, length);
     case RECORD_RECEIVE: return play_receive(replay, entry, length);
     case RECORD_SERVICE: return play_service(replay, entry);
     case RECORD_TICK:
@@ -312,9 +329,12 @@ static bool play(Replay *replay, Entry *entry, uint64_t count, uint64_t length) 
     }
 }
 
+/* Whether an entry has names behind its numbers, of which the first is their count. */
+static bool has_names(uint8_t kind) { return kind == RECORD_BROADCAST || kind == RECORD_BROADCAST_EACH; }
+
 /* Whether an entry has bytes behind its numbers, of which the last is their length. */
 static bool has_bytes(uint8_t kind) {
-    return kind == RECORD_SUBMIT || kind == RECORD_STAGE || kind == RECORD_BROADCAST || kind == RECORD_RECEIVE;
+    return kind == RECORD_SUBMIT || kind == RECORD_STAGE || kind == RECORD_RECEIVE || has_names(kind);
 }
 
 /* A number of 8 bytes among an entry's numbers. */
@@ -331,7 +351,7 @@ static bool read_entry(Replay *replay, uint8_t kind) {
     if (kind == RECORD_NOTHING || kind >= RECORD_COUNT) return fails(replay, CHANGED);
     entry.numbers.length = sizes[kind];
     if (!read_bytes(replay, entry.numbers.bytes, sizes[kind])) return false;
-    if (kind == RECORD_BROADCAST) {
+    if (has_names(kind)) {
         count = long_at(&entry, 0);
         if (count > PTRDIFF_MAX / 64) return fails(replay, CHANGED);
     }

@@ -1,7 +1,8 @@
 // tally PORT CLIENTS SECONDS: so many clients of the reference library talk through the relay at PORT of 127.0.0.1 and count what they send and
 // take. The first asks for one channel, the others for two. Once all are connected it writes `talking`; then each sends a reliable packet on
 // channel 0 every half second, and the second 20 packets in all on channel 1, which the relay can't pass on to the first. After so many seconds they
-// leave, and each takes what still comes. Then it prints the datagrams that went, their bytes, those that came, and their bytes.
+// leave, and each takes what still comes. Then it prints the datagrams that went, their bytes, those that came, and their bytes, and how many
+// packets came on channel 0.
 #include <enet/enet.h>
 
 #include "common.h"
@@ -12,7 +13,7 @@ static const double PAUSE = 0.5, LIMIT = 20, AFTERWARDS = 1.5;
 
 static ENetHost *hosts[MOST];
 static ENetPeer *peers[MOST];
-static int many, connected, left;
+static int many, connected, left, taken;
 
 static void hear_all(double seconds)
 {
@@ -22,8 +23,10 @@ static void hear_all(double seconds)
             while (enet_host_service(hosts[i], &event, 0) > 0) {
                 connected += event.type == ENET_EVENT_TYPE_CONNECT;
                 left += event.type == ENET_EVENT_TYPE_DISCONNECT;
-                if (event.type == ENET_EVENT_TYPE_RECEIVE)
-                    enet_packet_destroy(event.packet);
+                if (event.type != ENET_EVENT_TYPE_RECEIVE)
+                    continue;
+                taken += event.channelID == 0;
+                enet_packet_destroy(event.packet);
             }
         nanosleep(&(struct timespec){ .tv_nsec = 1000000 }, NULL);
     }
@@ -78,7 +81,7 @@ int main(int count, char **words)
         totals[2] += hosts[i]->totalReceivedPackets;
         totals[3] += hosts[i]->totalReceivedData;
     }
-    printf("%llu %llu %llu %llu\n", (unsigned long long)totals[0], (unsigned long long)totals[1], (unsigned long long)totals[2],
-        (unsigned long long)totals[3]);
+    printf("%llu %llu %llu %llu %d\n", (unsigned long long)totals[0], (unsigned long long)totals[1], (unsigned long long)totals[2],
+        (unsigned long long)totals[3], taken);
     return 0;
 }

@@ -259,6 +259,7 @@ struct Received {
 // Readings are the C library's structures, with their comments in gofnjerta.h.
 using Reading = gofnjerta_reading;
 using LineReading = gofnjerta_line;
+using Traffic = gofnjerta_traffic;
 using Totals = gofnjerta_totals;
 using Held = gofnjerta_held;
 using Slots = gofnjerta_slots;
@@ -370,15 +371,23 @@ public:
     }
 
     // Submits a packet to each of `count` peers, which share one copy. Peers that are gone or aren't connected are skipped. If one refuses it
-    // for another reason, the others still get it, and the first such reason is returned: E4, E5, E9, E1. Who is full (E9) must be read
-    // before, by `read_line`: afterwards a peer that took it and is full by it looks the same, so don't submit it again to all that look
-    // full. Nobody gets it if there is no memory for the copy.
+    // for another reason, the others still get it, and the first such reason is returned: E4, E5, E9, E1. Which peers those are,
+    // `broadcast_each` tells. Nobody gets it if there is no memory for the copy.
     Result<void> broadcast(const Peer *peers, std::size_t count, std::uint8_t channel, Bytes data,
                            Delivery delivery = Delivery::Reliable) noexcept {
         // A Peer lies as a gofnjerta_peer does, by the assertions above; the bytes between its fields don't matter.
         const auto *names = reinterpret_cast<const gofnjerta_peer *>(peers);
         const auto flags = static_cast<std::uint8_t>(delivery);
         return done(gofnjerta_broadcast(&handle_, names, count, channel, flags, data.data(), data.size()));
+    }
+
+    // The same, and writes what each peer's submission answered to `answers`, in their order: 0, or the number of what `submit` returns, E2
+    // and E3 too. Before any submission, and with nothing written: E1 if there is no memory for the copy, E5 above MAX_PACKET bytes.
+    Result<void> broadcast_each(const Peer *peers, std::size_t count, std::uint8_t channel, Bytes data, std::uint32_t *answers,
+                                Delivery delivery = Delivery::Reliable) noexcept {
+        const auto *names = reinterpret_cast<const gofnjerta_peer *>(peers);
+        const auto flags = static_cast<std::uint8_t>(delivery);
+        return done(gofnjerta_broadcast_each(&handle_, names, count, channel, flags, data.data(), data.size(), answers));
     }
 
     // Asks the host at this address for a connection. `info` is a number for its user. `word` names the connection: draw it from the system,
@@ -446,6 +455,12 @@ public:
         LineReading line{};
         if (std::uint32_t number = gofnjerta_read_line(&handle_, c(peer), &line)) return Error(number);
         return line;
+    }
+    // Reads how many commands went to a peer, first and again, and how many were acknowledged. E2.
+    Result<Traffic> read_traffic(Peer peer) noexcept {
+        Traffic traffic{};
+        if (std::uint32_t number = gofnjerta_read_traffic(&handle_, c(peer), &traffic)) return Error(number);
+        return traffic;
     }
     // Reads why a peer's connection ended, before and after its Disconnect, until the next peer of that slot, connected or not, is gone:
     // ask when you take the Disconnect.
@@ -603,6 +618,10 @@ public:
     Result<void> broadcast(const Peer *peers, std::size_t count, std::uint8_t channel, Bytes data,
                            Delivery delivery = Delivery::Reliable) noexcept {
         return host_.broadcast(peers, count, channel, data, delivery);
+    }
+    Result<void> broadcast_each(const Peer *peers, std::size_t count, std::uint8_t channel, Bytes data, std::uint32_t *answers,
+                                Delivery delivery = Delivery::Reliable) noexcept {
+        return host_.broadcast_each(peers, count, channel, data, answers, delivery);
     }
     Result<void> disconnect(Peer peer, std::uint32_t info = 0) noexcept { return host_.disconnect(peer, info); }
     Result<void> disconnect_now(Peer peer, std::uint32_t info = 0) noexcept { return host_.disconnect_now(peer, info); }

@@ -1,7 +1,6 @@
 /* Hosts: how they are made, what may be set, and their end. */
 #include "layer.h"
 #include <fcntl.h>
-#include <netinet/udp.h>
 #include <string.h>
 #include <sys/random.h>
 #include <unistd.h>
@@ -66,7 +65,7 @@ ENetHost *enet_host_create(const ENetAddress *address, size_t peers, size_t chan
     if (peers > ENET_PROTOCOL_MAXIMUM_PEER_ID) return NULL;
     Layer *layer = calloc(1, sizeof *layer);
     if (!layer) return NULL;
-    layer->host.socket = ENET_SOCKET_NULL;
+    layer->host.socket = layer->asked = ENET_SOCKET_NULL;
     gofnjerta_config config = gofnjerta_standard((uint16_t)ENET_MAX(peers, 1), ENET_PROTOCOL_MAXIMUM_CHANNEL_COUNT);
     config.mtu = ENET_HOST_DEFAULT_MTU;
     config.incoming = incoming;
@@ -78,8 +77,6 @@ ENetHost *enet_host_create(const ENetAddress *address, size_t peers, size_t chan
         enet_host_destroy(&layer->host);
         return NULL;
     }
-    int none = 0;
-    layer->has_trains = setsockopt(layer->host.socket, IPPROTO_UDP, UDP_SEGMENT, &none, sizeof none) == 0;
     layer->config = config;
     show_host(&layer->host, address, &config);
     layer->host.peerCount = peers;

@@ -13,7 +13,7 @@ enum { DATAGRAM = 4096, BATCH = 256, REFRESH_MS = 100 };
 
 /* How many datagrams are gathered before they are sent, in how many bytes; and how many of them, of how many bytes in all, one call of
  * the system's takes at most. */
-enum { GATHERED = 256, GATHERED_BYTES = 1 << 18, TRAIN = 64, TRAIN_BYTES = 65000 };
+enum { GATHERED = 1024, GATHERED_BYTES = 1 << 20, TRAIN = 64, TRAIN_BYTES = 65000 };
 
 #ifndef UDP_SEGMENT
 #define UDP_SEGMENT 103
@@ -75,7 +75,7 @@ typedef struct {
     bool sends;          /* some of its datagrams are gathered, up to the parcel `last` */
     bool is_in_line;     /* it stands in line for its kept events, before the slot `behind` where it isn't the last */
     bool is_counted, is_limited; /* in the host's numbers of connected and of limited peers */
-    bool goes_alone;     /* the system refused a train to its last peer */
+    uint16_t cut_below;  /* trains to its last peer are of datagrams shorter than this; the system refused a longer one */
     Kept *first, *newest; /* its events that were passed over */
     gofnjerta_address at;
     uint32_t connect_id; /* as it stands on the wire */
@@ -118,7 +118,8 @@ typedef struct {
     uint16_t line_first, line_last;
     size_t ended, lingering;   /* how many slots' peers have ended so, and linger */
     Arrival arrival;
-    bool has_trains;           /* the system cuts a train into datagrams (UDP_SEGMENT) */
+    ENetSocket asked;          /* the socket of which `has_trains` was found; another one may stand in its place since */
+    bool has_trains;           /* the system cuts what this socket sends into datagrams (UDP_SEGMENT) */
     uint64_t opens_at[OPENED]; /* a place for each compressed datagram of a second that names no slot: when it may be used again, by `clock` */
     size_t next_place;         /* the one that was used first */
     size_t parcel_count, gathered_bytes;

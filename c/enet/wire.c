@@ -1,4 +1,4 @@
-/* Datagrams: those that the core gives are gathered and sent in rows that the system cuts, and those that came go to the core. */
+/* Datagrams: those that the core gives are gathered and sent in trains that the system cuts, and those that came go to the core. */
 #include "layer.h"
 #include <errno.h>
 #include <netinet/udp.h>
@@ -22,7 +22,7 @@ static void see(Layer *layer, Slot *slot, const gofnjerta_datagram *gave, const 
     }
     slot->seen = gave->peer;
     slot->at = gave->to;
-    slot->goes_alone = false;
+    slot->cut_below = UINT16_MAX;
     slot->connect_id = gofnjerta_read_peer(&layer->core, gave->peer, &read) ? 0 : htonl(read.connect_id);
     slot->incoming = slot->outgoing = 0;
     if (slot->highest) memset(slot->highest, 0, NUMBERED * sizeof *slot->highest);
@@ -164,15 +164,28 @@ static bool send_parts(const Layer *layer, gofnjerta_address to, struct iovec *p
 
 /* Whether the parcel may follow so many others of so many bytes in a train that this one leads. */
 static bool may_follow(const Layer *layer, const Parcel *lead, const Parcel *next, size_t count, size_t bytes) {
-    return layer->has_trains && !layer->slots[lead->slot].goes_alone && count < TRAIN && bytes + next->length <= TRAIN_BYTES &&
+    return layer->has_trains && lead->length < layer->slots[lead->slot].cut_below && count < TRAIN && bytes + next->length <= TRAIN_BYTES &&
            next->length <= lead->length && next->to.ip == lead->to.ip && next->to.port == lead->to.port;
 }
 
-/* The system refused a train. One that has none isn't asked for one again. EINVAL is of the destination: its port is 0, or the way to it takes
- * no datagram of this length whole. So no train goes to this slot's peer any more, and to others as before. Any other error is the moment's. */
-static void note_refused_train(Layer *layer, Slot *slot, int error) {
-    if (error == EIO || error == EOPNOTSUPP || error == ENOPROTOOPT) layer->has_trains = false;
-    if (error == EINVAL) slot->goes_alone = true;
+/* Asks once of each socket that the program has in the host whether the system cuts trains. One that doesn't know of them (Linux before
+ * 4.18) would send a train as one long datagram. */
+static void ask_for_trains(Layer *layer) {
+    int length;
+    socklen_t size = sizeof length;
+    if (layer->asked == layer->host.socket) return;
+    layer->asked = layer->host.socket;
+    layer->has_trains = getsockopt(layer->asked, IPPROTO_UDP, UDP_SEGMENT, &length, &size) == 0;
+}
+
+/* The system refused the train that this parcel leads. One that has none isn't asked for one again. Three errors are of the destination, and
+ * others get their trains as before: the way there takes no datagram of this length whole (EMSGSIZE; EINVAL of older systems, and for port
+ * 0), or no train at all (EIO). Any other error is the moment's. */
+static void note_refused_train(Layer *layer, const Parcel *lead, int error) {
+    Slot *slot = &layer->slots[lead->slot];
+    if (error == EOPNOTSUPP || error == ENOPROTOOPT) layer->has_trains = false;
+    if (error == EMSGSIZE || error == EINVAL) slot->cut_below = (uint16_t)lead->length;
+    if (error == EIO) slot->cut_below = 0;
 }
 
 /* Sends a train, from this parcel on, and tells which parcel of its slot comes after it, 0 where none does. Where the system refuses a train,
@@ -181,6 +194,7 @@ __attribute__((noinline)) static size_t send_train(Layer *layer, size_t first) {
     struct iovec parts[TRAIN];
     const Parcel *lead = &layer->parcels[first], *next = lead;
     size_t count = 0, bytes = 0, i;
+    ask_for_trains(layer);
     do {
         parts[count++] = (struct iovec){layer->gathered + next->at, next->length};
         bytes += next->length;
@@ -190,7 +204,7 @@ __attribute__((noinline)) static size_t send_train(Layer *layer, size_t first) {
     } while (i && may_follow(layer, lead, next, count, bytes));
     if (count == 1) send_one(layer, lead);
     if (count == 1 || send_parts(layer, lead->to, parts, count)) return i;
-    note_refused_train(layer, &layer->slots[lead->slot], errno);
+    note_refused_train(layer, lead, errno);
     size_t alone = first;
     do send_one(layer, &layer->parcels[alone]);
     while ((alone = layer->parcels[alone].next) != i);

@@ -1,4 +1,4 @@
-/* The header against the library: where fields lie, and numbers; and what a call answers that is used badly. */
+/* The header against the library: where fields lie, and numbers; and what a call got that is used badly. */
 #include "../core.h"
 #include "../gofnjerta_layout.h"
 #include "check.h"
@@ -222,10 +222,19 @@ static void several(gofnjerta_host *a, gofnjerta_host *b, gofnjerta_peer from_b)
     ANSWERS(GOFNJERTA_TOO_LARGE, gofnjerta_broadcast(b, names, 3, 0, GOFNJERTA_RELIABLE, large, (size_t)GOFNJERTA_MAX_PACKET + 1));
     ANSWERS(GOFNJERTA_TOO_LARGE, gofnjerta_broadcast(b, names, SIZE_MAX, 0, GOFNJERTA_RELIABLE, "abc", 3));
     ANSWERS(GOFNJERTA_OK, gofnjerta_broadcast(b, names + 1, 1, 0, GOFNJERTA_RELIABLE, NULL, 0));
+    uint32_t got[] = {9, 9, 9};
+    ANSWERS(GOFNJERTA_OK, gofnjerta_broadcast_each(b, names, 3, 0, GOFNJERTA_RELIABLE, "abc", 3, got));
+    CHECK(got[0] == GOFNJERTA_NO_SUCH_PEER && got[1] == GOFNJERTA_OK && got[2] == GOFNJERTA_NO_SUCH_PEER);
+    ANSWERS(GOFNJERTA_OK, gofnjerta_broadcast_each(b, NULL, 0, 0, GOFNJERTA_RELIABLE, "none", 4, NULL));
+    ANSWERS(GOFNJERTA_OK, gofnjerta_broadcast_each(b, names, 3, 2, GOFNJERTA_RELIABLE, "abc", 3, got));
+    CHECK(got[0] == GOFNJERTA_NO_SUCH_PEER && got[1] == GOFNJERTA_NO_SUCH_CHANNEL && got[2] == GOFNJERTA_NO_SUCH_PEER);
+    ANSWERS(GOFNJERTA_TOO_LARGE, gofnjerta_broadcast_each(b, names, 3, 0, GOFNJERTA_RELIABLE, large, (size_t)GOFNJERTA_MAX_PACKET + 1, got));
+    ANSWERS(GOFNJERTA_TOO_LARGE, gofnjerta_broadcast_each(b, names, SIZE_MAX, 0, GOFNJERTA_RELIABLE, "abc", 3, got));
+    CHECK(got[1] == GOFNJERTA_NO_SUCH_CHANNEL);
     settle(a, b);
     int packets = 0, empty = 0;
     for (; gofnjerta_next_event(a, &event) == GOFNJERTA_OK && event.kind == GOFNJERTA_RECEIVE; packets++) empty += event.length == 0;
-    CHECK(packets == 2 && empty == 1);
+    CHECK(packets == 3 && empty == 1);
 }
 
 /* Lengths over the limits, channels and peers that aren't there. */
@@ -425,10 +434,11 @@ static void nothing(void) {
     gofnjerta_received got = {9, 9, 9};
     gofnjerta_reading read = {.mtu = 9};
     gofnjerta_line line = {.bytes = 9};
+    gofnjerta_traffic traffic = {.again = 9};
     gofnjerta_totals totals = {.bytes_in = 9};
     gofnjerta_held held = {.bytes = 9};
     gofnjerta_slots slots = {.free = 9};
-    uint32_t ms = 9;
+    uint32_t ms = 9, answer = 9;
     uint64_t commands = 9;
     uint8_t buffer[GOFNJERTA_ROOM], key[32] = {7};
 #define BOTH(call, ...) (ANSWERS(GOFNJERTA_CLOSED, gofnjerta_##call(&host, ##__VA_ARGS__)), ANSWERS(GOFNJERTA_NULL, gofnjerta_##call(NULL, ##__VA_ARGS__)))
@@ -437,6 +447,7 @@ static void nothing(void) {
     BOTH(stage, "x", 1);
     BOTH(submit_staged, peer, 0, 0);
     BOTH(broadcast, &peer, 1, 0, 0, "x", 1);
+    BOTH(broadcast_each, &peer, 1, 0, 0, "x", 1, &answer);
     BOTH(receive, at_a, "x", 1, &got);
     BOTH(service, buffer, sizeof buffer, &gave);
     BOTH(tick, 1);
@@ -455,6 +466,7 @@ static void nothing(void) {
     BOTH(set_timeout, peer, 1, 2, 3);
     BOTH(read_peer, peer, &read);
     BOTH(read_line, peer, &line);
+    BOTH(read_traffic, peer, &traffic);
     BOTH(ending, peer, &ms);
     BOTH(read_allowance, peer, &ms);
     BOTH(read_totals, &totals);
@@ -462,8 +474,8 @@ static void nothing(void) {
     BOTH(read_slots, &slots);
     BOTH(read_sent_again, &commands);
     BOTH(due_in, &ms);
-    CHECK(held.bytes == 9 && slots.free == 9 && commands == 9 && line.bytes == 9);
-    CHECK(peer.slot == 1 && peer.generation == 2 && got.stop == 9 && read.mtu == 9 && totals.bytes_in == 9 && ms == 9);
+    CHECK(held.bytes == 9 && slots.free == 9 && commands == 9 && line.bytes == 9 && traffic.again == 9);
+    CHECK(peer.slot == 1 && peer.generation == 2 && got.stop == 9 && read.mtu == 9 && totals.bytes_in == 9 && ms == 9 && answer == 9);
     CHECK(event.kind == GOFNJERTA_NONE && gave.length == 0 && !host.is_open && !host.at);
     ANSWERS(GOFNJERTA_NULL, gofnjerta_close(NULL));
     ANSWERS(GOFNJERTA_NULL, gofnjerta_open(NULL, &config));
@@ -474,6 +486,9 @@ static void nothing(void) {
     ANSWERS(GOFNJERTA_NULL, gofnjerta_stage(&host, NULL, 1));
     ANSWERS(GOFNJERTA_NULL, gofnjerta_broadcast(&host, NULL, 1, 0, 0, "x", 1));
     ANSWERS(GOFNJERTA_NULL, gofnjerta_broadcast(&host, &peer, 1, 0, 0, NULL, 1));
+    ANSWERS(GOFNJERTA_NULL, gofnjerta_broadcast_each(&host, NULL, 1, 0, 0, "x", 1, &answer));
+    ANSWERS(GOFNJERTA_NULL, gofnjerta_broadcast_each(&host, &peer, 1, 0, 0, NULL, 1, &answer));
+    ANSWERS(GOFNJERTA_NULL, gofnjerta_broadcast_each(&host, &peer, 1, 0, 0, "x", 1, NULL));
     ANSWERS(GOFNJERTA_NULL, gofnjerta_receive(&host, at_a, NULL, 1, NULL));
     ANSWERS(GOFNJERTA_NULL, gofnjerta_service(&host, NULL, sizeof buffer, &gave));
     ANSWERS(GOFNJERTA_NULL, gofnjerta_service(&host, buffer, sizeof buffer, NULL));
@@ -481,6 +496,7 @@ static void nothing(void) {
     ANSWERS(GOFNJERTA_NULL, gofnjerta_body(&host, NULL, 1));
     ANSWERS(GOFNJERTA_NULL, gofnjerta_read_peer(&host, peer, NULL));
     ANSWERS(GOFNJERTA_NULL, gofnjerta_read_line(&host, peer, NULL));
+    ANSWERS(GOFNJERTA_NULL, gofnjerta_read_traffic(&host, peer, NULL));
     ANSWERS(GOFNJERTA_NULL, gofnjerta_ending(&host, peer, NULL));
     ANSWERS(GOFNJERTA_NULL, gofnjerta_read_allowance(&host, peer, NULL));
     ANSWERS(GOFNJERTA_NULL, gofnjerta_read_totals(&host, NULL));

@@ -71,7 +71,24 @@ static int write_nowhere(void *context, const void *bytes, size_t length) {
     return 0;
 }
 
-/* One packet in fragments and two that share a body, where the allocation of this number fails. One of the two hosts is recorded. */
+/* A packet to two peers, of which the first is gone. Without memory for its copy no answer is written; a peer for which there was none gets
+ * it once more. */
+static void send_each(gofnjerta_host *host, gofnjerta_peer peer, const uint8_t *body) {
+    gofnjerta_peer peers[] = {{peer.slot, peer.generation + 1}, peer};
+    uint32_t told[] = {99, 99}, number = gofnjerta_broadcast_each(host, peers, 2, 1, GOFNJERTA_RELIABLE, body, 100, told);
+    if (number == GOFNJERTA_MEMORY) {
+        CHECK(told[0] == 99 && told[1] == 99);
+        refused++;
+        number = gofnjerta_broadcast_each(host, peers, 2, 1, GOFNJERTA_RELIABLE, body, 100, told);
+    }
+    ANSWERS(GOFNJERTA_OK, number);
+    CHECK(told[0] == GOFNJERTA_NO_SUCH_PEER);
+    if (told[1] == GOFNJERTA_MEMORY) refused++, told[1] = gofnjerta_submit(host, peer, 1, GOFNJERTA_RELIABLE, body, 100);
+    ANSWERS(GOFNJERTA_OK, told[1]);
+}
+
+/* One packet in fragments and three short ones, of which two share a body, where the allocation of this number fails. One of the two hosts
+ * is recorded. */
 static void run(long number, const uint8_t *body) {
     static uint8_t got[5000];
     gofnjerta_host a = {0}, b = {0};
@@ -87,6 +104,7 @@ static void run(long number, const uint8_t *body) {
     AGAIN(gofnjerta_stage(&b, body, 100));
     AGAIN(gofnjerta_submit_staged(&b, peer, 0, GOFNJERTA_RELIABLE));
     AGAIN(gofnjerta_submit_staged(&b, peer, 1, GOFNJERTA_RELIABLE));
+    send_each(&b, peer, body);
     settle(&a, &b);
     left = -1;
     int packets = 0;
@@ -98,7 +116,7 @@ static void run(long number, const uint8_t *body) {
             packets++;
             bytes += event.length;
         }
-    CHECK(packets == 3 && bytes == 5200);
+    CHECK(packets == 4 && bytes == 5300);
     gofnjerta_close(&a);
     gofnjerta_close(&b);
     CHECK(live == 0);

@@ -20,7 +20,7 @@
 enum { FIRST = 1000, SOCKETS = 16, FLYING = 1024, BROUGHT = 256, PORT = 30000, SPINS = 100 };
 
 typedef struct {
-    bool is_open;
+    bool is_open, cuts; /* it cuts trains */
     uint16_t port;
     NetDatagram brought[BROUGHT];
     size_t count;
@@ -29,7 +29,7 @@ typedef struct {
 static Socket sockets[SOCKETS];
 static NetDatagram flying[FLYING];
 static size_t flying_count;
-static uint64_t clock_ms, sent, drawn, trains_sent;
+static uint64_t clock_ms, sent, drawn, calls_sent, trains_sent, trains_refused;
 static bool trains;
 static unsigned spins; /* how often a host was woken in a row, and neither took nor sent anything */
 static struct {
@@ -47,6 +47,7 @@ int net_socket(int family, int type, int protocol);
 int net_close(int fd);
 int net_bind(int fd, const struct sockaddr *at, socklen_t length);
 int net_getsockname(int fd, struct sockaddr *at, socklen_t *length);
+int net_getsockopt(int fd, int level, int name, void *value, socklen_t *length);
 int net_setsockopt(int fd, int level, int name, const void *value, socklen_t length);
 int net_ioctl(int fd, unsigned long request, ...);
 ssize_t net_recvfrom(int fd, void *bytes, size_t room, int flags, struct sockaddr *from, socklen_t *size);
@@ -55,6 +56,7 @@ ssize_t net_sendmsg(int fd, const struct msghdr *message, int flags);
 int net_poll(struct pollfd *asked, nfds_t count, int ms);
 int net_clock_gettime(clockid_t which, struct timespec *t);
 ssize_t net_getrandom(void *bytes, size_t length, unsigned flags);
+int net_getentropy(void *bytes, size_t length);
 void *net_malloc(size_t size);
 void *net_calloc(size_t count, size_t size);
 void *net_realloc(void *block, size_t size);
@@ -82,7 +84,7 @@ void net_begin(uint64_t clock, bool has_trains) {
     }
     clock_ms = clock;
     trains = has_trains;
-    sent = drawn = trains_sent = spins = 0;
+    sent = drawn = calls_sent = trains_sent = trains_refused = spins = 0;
     memset(faults, 0, sizeof faults);
     net_fail_to(0, 0, 0);
     net_fail_memory(0, 0);
@@ -92,6 +94,9 @@ void net_go_on(uint64_t ms) { clock_ms += ms; }
 uint64_t net_clock(void) { return clock_ms; }
 uint64_t net_moment(void) { return sent; }
 uint64_t net_trains(void) { return trains_sent; }
+uint64_t net_refused(void) { return trains_refused; }
+uint64_t net_calls(void) { return calls_sent; }
+void net_have_trains(bool has_trains) { trains = has_trains; }
 size_t net_flying(void) { return flying_count; }
 NetDatagram *net_flight(size_t i) { return &flying[i]; }
 void net_drop(size_t i) { forget(flying, &flying_count, i); }
@@ -152,7 +157,7 @@ int net_socket(int family, int type, int protocol) {
     (void)family, (void)type, (void)protocol;
     for (int i = 0; i < SOCKETS; i++) {
         if (sockets[i].is_open) continue;
-        sockets[i] = (Socket){.is_open = true, .port = (uint16_t)(PORT + i)};
+        sockets[i] = (Socket){.is_open = true, .cuts = trains, .port = (uint16_t)(PORT + i)};
         return FIRST + i;
     }
     errno = EMFILE;
@@ -185,10 +190,22 @@ int net_getsockname(int fd, struct sockaddr *at, socklen_t *length) {
     return 0;
 }
 
+int net_getsockopt(int fd, int level, int name, void *value, socklen_t *length) {
+    const Socket *own = socket_of(fd);
+    if (*length < sizeof(int)) abort();
+    if (level == IPPROTO_UDP && name == UDP_SEGMENT && !own->cuts) {
+        errno = ENOPROTOOPT;
+        return -1;
+    }
+    *(int *)value = 0;
+    *length = sizeof(int);
+    return 0;
+}
+
 int net_setsockopt(int fd, int level, int name, const void *value, socklen_t length) {
-    (void)value, (void)length;
+    (void)level, (void)name, (void)value, (void)length;
     socket_of(fd);
-    return level == IPPROTO_UDP && name == UDP_SEGMENT && !trains ? -1 : 0;
+    return 0;
 }
 
 int net_ioctl(int fd, unsigned long request, ...) {
@@ -227,14 +244,31 @@ ssize_t net_sendto(int fd, const void *bytes, size_t length, int flags, const st
     if (size < sizeof(struct sockaddr_in)) abort();
     if (fails(NET_SEND) || fails_to((const struct sockaddr_in *)to, unreachable.one)) return -1;
     fly(socket_of(fd)->port, (const struct sockaddr_in *)to, bytes, length);
+    calls_sent++;
     return (ssize_t)length;
+}
+
+/* The parts as one datagram. */
+static ssize_t send_whole(int fd, const struct msghdr *message, int flags) {
+    static uint8_t whole[1 << 16];
+    size_t length = 0;
+    for (size_t i = 0; i < message->msg_iovlen; i++) {
+        const struct iovec *part = &message->msg_iov[i];
+        if (part->iov_len > sizeof whole - length) abort();
+        memcpy(whole + length, part->iov_base, part->iov_len);
+        length += part->iov_len;
+    }
+    return net_sendto(fd, whole, length, flags, message->msg_name, message->msg_namelen);
 }
 
 /* A train of parts of one length but for the last, as the system takes it. */
 ssize_t net_sendmsg(int fd, const struct msghdr *message, int flags) {
     ssize_t whole = 0;
-    (void)flags;
-    if (fails(NET_TRAIN) || fails_to(message->msg_name, unreachable.train)) return -1;
+    if (!socket_of(fd)->cuts) return send_whole(fd, message, flags);
+    if (fails(NET_TRAIN) || fails_to(message->msg_name, unreachable.train)) {
+        trains_refused++;
+        return -1;
+    }
     const struct cmsghdr *head = CMSG_FIRSTHDR(message);
     uint16_t length;
     if (!head || head->cmsg_type != UDP_SEGMENT || !message->msg_iovlen || message->msg_iovlen > 64) abort();
@@ -247,6 +281,7 @@ ssize_t net_sendmsg(int fd, const struct msghdr *message, int flags) {
     }
     if (whole > 65507) abort();
     trains_sent++;
+    calls_sent++;
     return whole;
 }
 
@@ -266,11 +301,21 @@ int net_clock_gettime(clockid_t which, struct timespec *t) {
     return 0;
 }
 
+/* Bytes that are the same in each run. */
+static void draw(uint8_t *bytes, size_t length) {
+    for (size_t i = 0; i < length; i++) bytes[i] = (uint8_t)(++drawn * 0x9E3779B97F4A7C15u >> 40);
+}
+
 ssize_t net_getrandom(void *bytes, size_t length, unsigned flags) {
     (void)flags;
     if (fails(NET_DRAW)) return -1;
-    for (size_t i = 0; i < length; i++) ((uint8_t *)bytes)[i] = (uint8_t)(++drawn * 0x9E3779B97F4A7C15u >> 40);
+    draw(bytes, length);
     return (ssize_t)length;
+}
+
+int net_getentropy(void *bytes, size_t length) {
+    draw(bytes, length);
+    return 0;
 }
 
 static bool is_refused(void) {
@@ -302,17 +347,7 @@ int gettimeofday(struct timeval *restrict t, void *restrict zone) {
     return 0;
 }
 
-ssize_t sendmsg(int fd, const struct msghdr *message, int flags) {
-    static uint8_t whole[1 << 16];
-    size_t length = 0;
-    for (size_t i = 0; i < message->msg_iovlen; i++) {
-        const struct iovec *part = &message->msg_iov[i];
-        if (part->iov_len > sizeof whole - length) abort();
-        memcpy(whole + length, part->iov_base, part->iov_len);
-        length += part->iov_len;
-    }
-    return net_sendto(fd, whole, length, flags, message->msg_name, message->msg_namelen);
-}
+ssize_t sendmsg(int fd, const struct msghdr *message, int flags) { return send_whole(fd, message, flags); }
 
 ssize_t recvmsg(int fd, struct msghdr *message, int flags) {
     socklen_t size = message->msg_namelen;

@@ -20,7 +20,10 @@ typedef struct {
 /* What fails: so many of the next calls, of sending, of receiving, of waiting, of drawing; with this number of the system's. */
 typedef enum { NET_SEND, NET_TRAIN, NET_RECEIVE, NET_WAIT, NET_DRAW, NET_FAULTS } NetFault;
 
-void net_begin(uint64_t clock, bool has_trains); /* nothing is open or in flight; the clock is at so many milliseconds */
+/* Nothing is open or in flight; the clock is at so many milliseconds. A system without trains doesn't know of them, and would send one whole, as
+ * one datagram. */
+void net_begin(uint64_t clock, bool has_trains);
+void net_have_trains(bool has_trains); /* the same, for sockets that are opened from now on */
 void net_go_on(uint64_t ms);
 uint64_t net_clock(void);
 void net_fail(NetFault what, unsigned calls, int number);
@@ -28,6 +31,8 @@ void net_fail_to(uint16_t port, int one, int train); /* what goes to this port f
 void net_fail_memory(long after, long calls); /* after so many more requests so many are refused */
 uint64_t net_moment(void);                    /* how many datagrams were sent */
 uint64_t net_trains(void);                    /* how many trains were sent */
+uint64_t net_refused(void);                   /* how many were refused */
+uint64_t net_calls(void);                     /* how many calls sent something, a datagram or a train */
 
 size_t net_flying(void);            /* how many are in flight */
 NetDatagram *net_flight(size_t i);  /* one of them */

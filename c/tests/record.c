@@ -217,10 +217,11 @@ static void call(int side) {
     static uint8_t body[60000];
     gofnjerta_host *host = &hosts[side];
     gofnjerta_peer peer = others[side], peers[] = {peer, {1, 0}, {9, 9}};
+    uint32_t answers[3];
     uint8_t channel = (uint8_t)dice(3), flags = (uint8_t)(dice(2) ? 1 : dice(16));
     size_t length = dice(20) ? dice(400) : dice(sizeof body);
     for (size_t i = 0; i < length; i++) body[i] = (uint8_t)dice(256);
-    switch (dice(60)) {
+    switch (dice(61)) {
     case 0: gofnjerta_stage(host, body, length); break;
     case 1: gofnjerta_submit_staged(host, peer, channel, flags); break;
     case 2: gofnjerta_broadcast(host, peers, dice(4), channel, flags, body, length); break;
@@ -244,6 +245,7 @@ static void call(int side) {
     case 14: /* a stranger's */
         gofnjerta_receive(host, (gofnjerta_address){dice(5), (uint16_t)dice(5)}, body, length < 4096 ? length : 4096, NULL);
         break;
+    case 15: gofnjerta_broadcast_each(host, peers, dice(4), channel, flags, body, length, answers); break;
     default: gofnjerta_submit(host, peer, channel, flags, body, length);
     }
 }
@@ -284,7 +286,7 @@ static bool find_entry(const Tape *tape, uint64_t entry, size_t *at, size_t *len
         Entry read = {.kind = tape->bytes[place]};
         if (read.kind == 0 || read.kind >= RECORD_COUNT || tape->length - place < 9 + sizes[read.kind]) return false;
         memcpy(read.numbers.bytes, tape->bytes + place + 1, sizes[read.kind]);
-        uint64_t count = read.kind == RECORD_BROADCAST ? long_at(&read, 0) : 0;
+        uint64_t count = has_names(read.kind) ? long_at(&read, 0) : 0;
         uint64_t bytes = has_bytes(read.kind) ? long_at(&read, sizes[read.kind] - 8) : 0;
         if (count > tape->length || bytes > tape->length || 9 + sizes[read.kind] + 6 * count + bytes > tape->length - place) return false;
         *at = place;
@@ -354,7 +356,8 @@ static void changed(void) {
 
 /* What came out is compared: with another number there, and right hashes, the entry is named. */
 static void other_results(void) {
-    static const uint8_t kinds[] = {RECORD_CONNECT, RECORD_BROADCAST, RECORD_RECEIVE, RECORD_SERVICE, RECORD_NEXT_EVENT, RECORD_BODY};
+    static const uint8_t kinds[] = {RECORD_CONNECT, RECORD_BROADCAST, RECORD_BROADCAST_EACH, RECORD_RECEIVE, RECORD_SERVICE,
+                                    RECORD_NEXT_EVENT, RECORD_BODY};
     for (size_t k = 0; k < sizeof kinds; k++) {
         size_t at, length, last = 0;
         uint64_t entry = 1, tried = 0;

@@ -1,7 +1,6 @@
 /* What strangers' datagrams and the errors of one destination do to a host of the layer, over a network and a clock in memory (memory_net.h):
  * - what comes from port 0 isn't taken in;
  * - an error of one destination loses what goes there alone; only by one of the socket's own enet_host_service answers -1;
- * - a train that one destination can't have doesn't keep others from theirs, and a system that has none isn't asked again;
  * - a compressed datagram that names no slot is opened into 64 bytes at most, and 1,000 of them in a second; one that names a slot only with
  *   that slot's address and session, whatever came before it;
  * - a callback that asks for the host to be flushed in the middle of a datagram disturbs none;
@@ -155,39 +154,6 @@ static void failures(void) {
     net_fail(NET_SEND, 1, ENOTSOCK);
     serve(server, -1);
     CHECK(refused == 2);
-    finish();
-}
-
-/* How many trains go where both clients are sent four datagrams of one length each, which all come. */
-static unsigned trains_of_both(void) {
-    uint64_t trains = net_trains();
-    unsigned before = heard[0] + heard[1];
-    for (int i = 0; i < CLIENTS; i++)
-        for (int n = 0; n < 4; n++) give(guests[i], 1300);
-    serve(server, -1);
-    unsigned count = (unsigned)(net_trains() - trains);
-    pump(4);
-    CHECK(heard[0] + heard[1] == before + 8 && refused == 0);
-    return count;
-}
-
-static void trains(void) {
-    begin(NULL);
-    CHECK(trains_of_both() == 2);
-    net_fail_to(guests[0]->address.port, 0, EINVAL);
-    CHECK(trains_of_both() == 1);
-    net_fail_to(0, 0, 0);
-    CHECK(trains_of_both() == 1);
-    enet_peer_disconnect_now(&clients[0]->peers[0], 0);
-    pump(4);
-    join(0);
-    CHECK(trains_of_both() == 2);
-    net_fail_to(guests[0]->address.port, 0, ENOBUFS);
-    CHECK(trains_of_both() == 1);
-    net_fail_to(guests[1]->address.port, 0, EOPNOTSUPP);
-    CHECK(trains_of_both() <= 1); /* the other one's may go before */
-    net_fail_to(0, 0, 0);
-    CHECK(trains_of_both() == 0);
     finish();
 }
 
@@ -421,7 +387,6 @@ static void ids(void) {
 int main(void) {
     port_zero();
     failures();
-    trains();
     offers();
     thousand();
     slots();

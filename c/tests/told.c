@@ -1,5 +1,6 @@
-/* What a host tells of its peers beside events: when one is full (gofnjerta_set_send_limit), how the line to it is (gofnjerta_read_line), and
- * why its connection ended (gofnjerta_ending). The numbers are worked by hand, by docs/PROTOCOL.md. */
+/* What a host tells of its peers beside events: when one is full (gofnjerta_set_send_limit), what each got to a packet for several
+ * (gofnjerta_broadcast_each), how the line to it is (gofnjerta_read_line), how many commands went to it (gofnjerta_read_traffic), and why
+ * its connection ended (gofnjerta_ending). The numbers are worked by hand, by docs/PROTOCOL.md. */
 #include "../gofnjerta.h"
 #include "check.h"
 #include <string.h>
@@ -135,26 +136,34 @@ static void again(void) {
     CHECK(counts(102, 105));
 }
 
-/* Of several peers those that are full don't get a packet, which is told, and the others do. The limit holds for peers that come later. */
-static void several(void) {
-    gofnjerta_host c = {0};
-    gofnjerta_config config = gofnjerta_standard(1, 2);
-    gofnjerta_peer names[2], from_c;
+/* Brings what A puts out for a host at this port to it; the rest is lost. */
+static void bring(uint16_t port, gofnjerta_host *to) {
+    uint8_t buffer[GOFNJERTA_ROOM];
+    gofnjerta_datagram gave;
+    while (gofnjerta_service(&a, buffer, sizeof buffer, &gave) == GOFNJERTA_OK && gave.length)
+        if (gave.to.port == port) ANSWERS(GOFNJERTA_OK, gofnjerta_receive(to, at_a, buffer, gave.length, NULL));
+}
+
+/* Two fresh hosts, and C that is connected to A, too, with as many channels: the names are A's. */
+static void begin_three(gofnjerta_host *c, uint8_t channels, gofnjerta_peer names[2]) {
+    gofnjerta_config config = gofnjerta_standard(1, channels);
+    gofnjerta_peer from_c;
     begin();
-    ANSWERS(GOFNJERTA_OK, gofnjerta_set_send_limit(&a, 3, 100));
-    ANSWERS(GOFNJERTA_OK, gofnjerta_open(&c, &config));
-    ANSWERS(GOFNJERTA_OK, gofnjerta_connect(&c, at_a, 2, 0, 5, &from_c));
+    ANSWERS(GOFNJERTA_OK, gofnjerta_open(c, &config));
+    ANSWERS(GOFNJERTA_OK, gofnjerta_connect(c, at_a, channels, 0, 5, &from_c));
     static const gofnjerta_address at_c = {0x0A000003, 7002};
-    for (int i = 0; i < 4; i++) {
-        uint8_t buffer[GOFNJERTA_ROOM];
-        gofnjerta_datagram gave;
-        carry(&c, at_c, &a);
-        while (gofnjerta_service(&a, buffer, sizeof buffer, &gave) == GOFNJERTA_OK && gave.length)
-            if (gave.to.port == at_c.port) gofnjerta_receive(&c, at_a, buffer, gave.length, NULL);
-    }
+    for (int i = 0; i < 4; i++) carry(c, at_c, &a), bring(at_c.port, c);
     gofnjerta_event event = next(&a);
     CHECK(event.kind == GOFNJERTA_CONNECT && event.peer.slot == 1);
     names[0] = from_a, names[1] = event.peer;
+}
+
+/* Of several peers those that are full don't get a packet, which is told, and the others do. The limit holds for peers that come later. */
+static void several(void) {
+    gofnjerta_host c = {0};
+    gofnjerta_peer names[2];
+    begin_three(&c, 2, names);
+    ANSWERS(GOFNJERTA_OK, gofnjerta_set_send_limit(&a, 3, 100));
     ANSWERS(GOFNJERTA_OK, gofnjerta_submit(&a, from_a, 0, GOFNJERTA_RELIABLE, "abc", 3));
     ANSWERS(GOFNJERTA_FULL, gofnjerta_broadcast(&a, names, 2, 0, GOFNJERTA_RELIABLE, "wxyz", 4));
     gofnjerta_line first, second;
@@ -163,6 +172,104 @@ static void several(void) {
     CHECK(first.commands == 1 && first.bytes == 3 && second.commands == 1 && second.bytes == 4);
     ANSWERS(GOFNJERTA_FULL, gofnjerta_submit(&a, names[1], 0, GOFNJERTA_RELIABLE, "", 0));
     gofnjerta_close(&c);
+}
+
+/* Which peers a packet for several doesn't go to, and why: one that is full, one that has gone, one with fewer channels. If one stands
+ * among them twice, the packet is submitted to it twice. */
+static void each(void) {
+    static const uint8_t large[5001];
+    gofnjerta_host c = {0};
+    gofnjerta_peer names[2];
+    begin_three(&c, 1, names);
+    gofnjerta_peer all[] = {names[0], {0, names[0].generation + 1}, names[1], {7, 0}, names[1]};
+    uint32_t got[6] = {99, 99, 99, 99, 99, 99};
+    ANSWERS(GOFNJERTA_OK, gofnjerta_set_send_limit(&a, 3, 100));
+    ANSWERS(GOFNJERTA_OK, gofnjerta_submit(&a, names[0], 0, GOFNJERTA_RELIABLE, "abc", 3));
+    ANSWERS(GOFNJERTA_OK, gofnjerta_broadcast_each(&a, all, 5, 0, GOFNJERTA_RELIABLE, "wxyz", 4, got));
+    CHECK(got[0] == GOFNJERTA_FULL && got[1] == GOFNJERTA_NO_SUCH_PEER && got[2] == GOFNJERTA_OK);
+    CHECK(got[3] == GOFNJERTA_NO_SUCH_PEER && got[4] == GOFNJERTA_FULL && got[5] == 99);
+    gofnjerta_line first, second;
+    ANSWERS(GOFNJERTA_OK, gofnjerta_read_line(&a, names[0], &first));
+    ANSWERS(GOFNJERTA_OK, gofnjerta_read_line(&a, names[1], &second));
+    CHECK(first.commands == 1 && first.bytes == 3 && second.commands == 1 && second.bytes == 4);
+    ANSWERS(GOFNJERTA_OK, gofnjerta_set_send_limit(&a, UINT64_MAX, UINT64_MAX));
+    ANSWERS(GOFNJERTA_OK, gofnjerta_broadcast_each(&a, names, 2, 1, GOFNJERTA_RELIABLE, NULL, 0, got));
+    CHECK(got[0] == GOFNJERTA_OK && got[1] == GOFNJERTA_NO_SUCH_CHANNEL && got[2] == GOFNJERTA_OK);
+    ANSWERS(GOFNJERTA_OK, gofnjerta_broadcast_each(&a, names, 2, 0, GOFNJERTA_RELIABLE, large, sizeof large, got));
+    CHECK(got[0] == GOFNJERTA_TOO_LARGE && got[1] == GOFNJERTA_TOO_LARGE);
+    ANSWERS(GOFNJERTA_OK, gofnjerta_disconnect(&a, names[1], 0));
+    ANSWERS(GOFNJERTA_OK, gofnjerta_broadcast_each(&a, names + 1, 1, 0, GOFNJERTA_RELIABLE, "x", 1, got));
+    CHECK(got[0] == GOFNJERTA_NOT_CONNECTED && got[1] == GOFNJERTA_TOO_LARGE);
+    bring(at_b.port, &b);
+    int packets = 0;
+    for (gofnjerta_event event; (event = next(&b)).kind != GOFNJERTA_NONE; packets++) CHECK(event.kind == GOFNJERTA_RECEIVE);
+    CHECK(packets == 2); /* what was submitted before, and the one on channel 1 */
+    gofnjerta_close(&c);
+}
+
+/* So many commands went from B to A, so many of these times again, and so many were acknowledged. */
+static bool went(uint64_t sent, uint64_t again, uint64_t acknowledged) {
+    gofnjerta_traffic read;
+    memset(&read, 0xFF, sizeof read);
+    ANSWERS(GOFNJERTA_OK, gofnjerta_read_traffic(&b, from_b, &read));
+    return read.sent == sent && read.again == again && read.acknowledged == acknowledged;
+}
+
+/* What B puts out is lost. */
+static void lose(void) {
+    uint8_t buffer[GOFNJERTA_ROOM];
+    gofnjerta_datagram gave;
+    while (gofnjerta_service(&b, buffer, sizeof buffer, &gave) == GOFNJERTA_OK && gave.length) {}
+}
+
+/* A packet that is lost goes again after 500 ms, the first mean of the round trip, and then after 1,000. What asks for no acknowledgement
+ * doesn't count, nor what has no data: CONNECT, the ping after 500 ms of silence, DISCONNECT. Each piece of a long packet counts. */
+static void traffic(void) {
+    static const uint8_t long_one[1365];
+    gofnjerta_traffic read = {9, 9, 9};
+    begin();
+    CHECK(went(0, 0, 0));
+    ANSWERS(GOFNJERTA_OK, submit(GOFNJERTA_RELIABLE, 0, "hello"));
+    CHECK(went(0, 0, 0));
+    lose();
+    CHECK(went(1, 0, 0));
+    pass(499), lose();
+    CHECK(went(1, 0, 0));
+    pass(1), lose();
+    CHECK(went(2, 1, 0));
+    pass(999), lose();
+    CHECK(went(2, 1, 0));
+    pass(1);
+    CHECK(carry(&b, at_b, &a) == 1);
+    CHECK(went(3, 2, 0));
+    settle();
+    CHECK(went(3, 2, 1));
+    ANSWERS(GOFNJERTA_OK, submit(0, 0, "once"));
+    ANSWERS(GOFNJERTA_OK, submit(GOFNJERTA_UNSEQUENCED, 1, "once"));
+    settle();
+    CHECK(went(3, 2, 1));
+    ANSWERS(GOFNJERTA_OK, gofnjerta_submit(&b, from_b, 1, GOFNJERTA_UNRELIABLE_FRAGMENT, long_one, sizeof long_one));
+    settle();
+    CHECK(went(3, 2, 1));
+    ANSWERS(GOFNJERTA_OK, gofnjerta_submit(&b, from_b, 1, 0, long_one, sizeof long_one));
+    settle();
+    CHECK(went(5, 2, 3));
+    pass(500);
+    CHECK(carry(&b, at_b, &a) == 1);
+    settle();
+    CHECK(went(5, 2, 3));
+    ANSWERS(GOFNJERTA_OK, gofnjerta_read_traffic(&a, from_a, &read));
+    CHECK(read.sent == 0 && read.again == 0 && read.acknowledged == 0);
+    read.sent = 9;
+    ANSWERS(GOFNJERTA_NO_SUCH_PEER, gofnjerta_read_traffic(&b, (gofnjerta_peer){0, 1}, &read));
+    ANSWERS(GOFNJERTA_NO_SUCH_PEER, gofnjerta_read_traffic(&b, (gofnjerta_peer){2, 0}, &read));
+    CHECK(read.sent == 9);
+    /* The next connection begins anew. */
+    ANSWERS(GOFNJERTA_OK, gofnjerta_disconnect(&b, from_b, 0));
+    settle();
+    while (next(&a).kind != GOFNJERTA_NONE || next(&b).kind != GOFNJERTA_NONE) {}
+    join();
+    CHECK(went(0, 0, 0));
 }
 
 /* B sends a packet, which is acknowledged after so many milliseconds. The line as B reads it then. */
@@ -280,7 +387,9 @@ int main(void) {
     by_commands();
     again();
     several();
+    each();
     line();
+    traffic();
     endings();
     bad_answer();
     gofnjerta_close(&a), gofnjerta_close(&b);

@@ -12,8 +12,9 @@
 #   bytes (packets), with ten thousand calls drawn from a seed, of which all ways to end (calls), where packets are taken peer by peer
 #   (waiting), and with what programs read and write beside their calls (alike, also as it is built for the reference library); the range
 #   coder's codes are the reference library's, and no others are opened (coder); a handle and a host go from thread to thread (threads, also
-#   with ThreadSanitizer); a million datagrams of strangers disturb nobody at a host with callbacks around each datagram, or the range coder
-#   (storm); the fields that programs read are the reference library's but for those that c/tests/fields.differ names (fields);
+#   with ThreadSanitizer); a packet of 20,000 bytes leaves by two calls of the system's at most, and comes (trains_sent); a million
+#   datagrams of strangers disturb nobody at a host with callbacks around each datagram, or the range coder (storm); the fields that
+#   programs read are the reference library's but for those that c/tests/fields.differ names (fields);
 # - conversations of the programs in clients/ that use no more than what is offered, compiled unchanged against c/enet/enet.h, with the
 #   reference library at the other end, both ways round, straight and through clients/proxy.c; one runs a program that was built for
 #   libenet on our shared library;
@@ -27,7 +28,8 @@
 # - over a network and a clock in memory (c/tests/memory_net.h): the fuzzer's inputs, those of c/tests/fuzz.corpus and drawn ones, with
 #   sanitizers (fuzz); how long a dead peer takes to be noticed, by settings, beside the reference library (patience); bad lines with
 #   both ends ours, on which no connection is lost (lines); datagrams from port 0, sends that fail to one destination, compressed datagrams
-#   of strangers and connect ids (strangers); and who gets a slot beside strangers' CONNECTs (newcomers);
+#   of strangers and connect ids (strangers); who gets a slot beside strangers' CONNECTs (newcomers); and datagrams that leave by one call of
+#   the system's go once and in order, a packet of 20,000 bytes by two calls at most (trains);
 # - installed below a prefix, it is found by pkg-config under libenet's name, and each header stands alone; and it is taken away.
 # Prints what failed, and as last line 'N passed, M failed'; the status is 1 where one failed or nothing was tried. It ends within 4
 # minutes. As root it installs what is missing of gcc, g++, libenet-dev, valgrind, python3-enet and pkg-config.
@@ -140,6 +142,7 @@ build_memory_tests() {
         build_in_memory "$room/patience" patience cc "$made" && build_in_memory "$room/lines" lines cc "$made" &&
         build_in_memory "$room/strangers" strangers cc "$made" && build_in_memory "$room/strangers-checked" strangers cc "$made" "${checked[@]}" &&
         build_in_memory "$room/newcomers" newcomers cc "$made" && build_in_memory "$room/newcomers-checked" newcomers cc "$made" "${checked[@]}" &&
+        build_in_memory "$room/trains" trains cc "$made" && build_in_memory "$room/trains-checked" trains cc "$made" "${checked[@]}" &&
         cc -std=gnu11 -O1 -Wall -Wextra -DREFERENCE c/tests/patience.c c/tests/memory_net.c -rdynamic -o "$room/patience-theirs" -lenet
 }
 
@@ -340,7 +343,7 @@ install_tools() {
     [ ${#missing[@]} -eq 0 ] || install_packages "${missing[@]}"
 }
 
-layer_tests=(refusals packets calls waiting alike coder)
+layer_tests=(refusals packets calls waiting alike coder trains_sent)
 compared=(packets calls waiting coder fields alike)
 room=$(mktemp -d) || exit 1
 trap 'kill $(jobs -p) 2> /dev/null; wait; rm -rf "$room"' EXIT
@@ -372,7 +375,7 @@ else
     "$room/fuzz" draw 1 300 > "$room/drawn"
     try fuzz "$room/fuzz" play c/tests/fuzz.corpus
     try fuzz-drawn "$room/fuzz" play "$room/drawn"
-    for name in patience patience-checked patience-theirs lines strangers strangers-checked newcomers newcomers-checked; do
+    for name in patience patience-checked patience-theirs lines strangers strangers-checked newcomers newcomers-checked trains trains-checked; do
         try "$name" "$room/$name"
     done
     try fields "$room/fields"

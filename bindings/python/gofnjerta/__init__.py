@@ -27,6 +27,7 @@ from .host import (
     Slots,
     State,
     Totals,
+    Traffic,
     Why,
 )
 from .host import version as version
@@ -59,6 +60,7 @@ __all__ = [
     "Slots",
     "State",
     "Totals",
+    "Traffic",
     "Why",
     "version",
 ]

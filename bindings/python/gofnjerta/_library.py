@@ -90,6 +90,14 @@ class CLine(ctypes.Structure):
     ]
 
 
+class CTraffic(ctypes.Structure):
+    _fields_ = [
+        ("sent", ctypes.c_uint64),
+        ("again", ctypes.c_uint64),
+        ("acknowledged", ctypes.c_uint64),
+    ]
+
+
 class CTotals(ctypes.Structure):
     _fields_ = [
         ("datagrams_in", ctypes.c_uint64),
@@ -134,6 +142,7 @@ STRUCTURES: List[Tuple[str, Type[ctypes.Structure]]] = [
     ("gofnjerta_event", CEvent),
     ("gofnjerta_reading", CReading),
     ("gofnjerta_line", CLine),
+    ("gofnjerta_traffic", CTraffic),
     ("gofnjerta_totals", CTotals),
     ("gofnjerta_held", CHeld),
     ("gofnjerta_slots", CSlots),
@@ -169,6 +178,7 @@ _CALLS: Dict[str, List[Any]] = {
     "connect": [CAddress, _u8, _u32, _u32, _at],
     "submit": [CPeer, _u8, _u8, _bytes, _size],
     "broadcast": [_at, _size, _u8, _u8, _bytes, _size],
+    "broadcast_each": [_at, _size, _u8, _u8, _bytes, _size, _at],
     "receive": [CAddress, _bytes, _size, _at],
     "service": [_at, _size, _at],
     "tick": [_u32],
@@ -188,6 +198,7 @@ _CALLS: Dict[str, List[Any]] = {
     "set_timeout": [CPeer, _u32, _u32, _u32],
     "read_peer": [CPeer, _at],
     "read_line": [CPeer, _at],
+    "read_traffic": [CPeer, _at],
     "ending": [CPeer, _at],
     "read_allowance": [CPeer, _at],
     "read_totals": [_at],

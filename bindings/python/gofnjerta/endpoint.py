@@ -108,6 +108,12 @@ class Endpoint:
         """Submits a packet to each of these peers (`Host.broadcast`)."""
         self.host.broadcast(peers, channel, data, delivery)
 
+    def broadcast_each(
+        self, peers: Iterable[Peer], channel: int, data: bytes, delivery: Delivery = Delivery.RELIABLE
+    ) -> List[int]:
+        """Submits a packet to each of these peers, and returns what each answered (`Host.broadcast_each`)."""
+        return self.host.broadcast_each(peers, channel, data, delivery)
+
     def disconnect(self, peer: Peer, info: int = 0) -> None:
         """Disconnects a peer (`Host.disconnect`)."""
         self.host.disconnect(peer, info)

@@ -7,7 +7,7 @@ import dataclasses
 import enum
 import functools
 import socket
-from typing import Any, BinaryIO, Dict, Iterable, Iterator, NamedTuple, Optional, Tuple, Type, Union
+from typing import Any, BinaryIO, Dict, Iterable, Iterator, List, NamedTuple, Optional, Tuple, Type, Union
 
 from ._library import (
     CAddress,
@@ -22,6 +22,7 @@ from ._library import (
     CReceived,
     CSlots,
     CTotals,
+    CTraffic,
     CWriter,
     lib,
 )
@@ -261,6 +262,17 @@ class LineReading(NamedTuple):
     bytes: int
 
 
+class Traffic(NamedTuple):
+    """How many commands went to a peer since it began: those with data that ask for an acknowledgement, which are reliable packets, or the
+    pieces of long ones. Each number wraps at 2^64."""
+
+    #: Each time that one went, and those times that it had gone before.
+    sent: int
+    again: int
+    #: Commands that were acknowledged, each once.
+    acknowledged: int
+
+
 class Totals(NamedTuple):
     """How much went through a host, stopped datagrams included."""
 
@@ -493,14 +505,25 @@ class Host:
 
     def broadcast(self, peers: Iterable[Peer], channel: int, data: bytes, delivery: Delivery = Delivery.RELIABLE) -> None:
         """Submits a packet to each of these peers, which share one copy. Peers that are gone or aren't connected are skipped. If one
-        refuses it for another reason, the others still get it, and the first such reason is raised: E4, E5, E9, E1. Who is full (E9) must
-        be read before, by `read_line`: afterwards a peer that took it and is full by it looks the same, so don't submit it again to all
-        that look full. Nobody gets it if there is no memory for the copy."""
+        refuses it for another reason, the others still get it, and the first such reason is raised: E4, E5, E9, E1. Which peers those
+        are, `broadcast_each` tells. Nobody gets it if there is no memory for the copy."""
         if not 0 <= channel <= 255:
             raise Error(Why.NO_SUCH_CHANNEL)
         names = [CPeer(*peer) for peer in peers]
         array = (CPeer * len(names))(*names)
         _check(lib.gofnjerta_broadcast(self._ref, array, len(names), channel, delivery, bytes(data), len(data)))
+
+    def broadcast_each(
+        self, peers: Iterable[Peer], channel: int, data: bytes, delivery: Delivery = Delivery.RELIABLE
+    ) -> List[int]:
+        """The same, and returns what each peer's submission answered, in their order: 0, or the number of what `submit` raises (`Why`), E2
+        and E3 too. It raises only E1, if there is no memory for the copy, and E5 above `MAX_PACKET` bytes: then nobody gets it."""
+        names = [CPeer(*peer) for peer in peers]
+        if not 0 <= channel <= 255:
+            return [int(Why.NO_SUCH_CHANNEL)] * len(names)
+        array, answers = (CPeer * len(names))(*names), (ctypes.c_uint32 * len(names))()
+        _check(lib.gofnjerta_broadcast_each(self._ref, array, len(names), channel, delivery, bytes(data), len(data), answers))
+        return list(answers)
 
     # Connections.
 
@@ -603,6 +626,12 @@ class Host:
         _check(lib.gofnjerta_read_line(self._ref, CPeer(*peer), ctypes.byref(c)))
         trips = (c.round_trip, c.variance, c.lowest, c.lowest_before)
         return LineReading(*trips, c.throttle, c.allowance, c.in_transit, c.commands, c.bytes)
+
+    def read_traffic(self, peer: Peer) -> Traffic:
+        """Reads how many commands went to a peer, first and again, and how many were acknowledged. E2."""
+        c = CTraffic()
+        _check(lib.gofnjerta_read_traffic(self._ref, CPeer(*peer), ctypes.byref(c)))
+        return Traffic(c.sent, c.again, c.acknowledged)
 
     def ending(self, peer: Peer) -> Ending:
         """Reads why a peer's connection ended, before and after its Disconnect, until the next peer of that slot, connected or not, is

@@ -51,10 +51,14 @@ def talk(left: Host, right: Host, here: Peer, there: Peer) -> None:
         sure(reading)
     sure(lambda: left.read_peer(here))
     sure(lambda: left.read_allowance(here))
+    sure(lambda: left.read_traffic(here))
     for length in (0, 1, 1364, 5000, 70000):
         body = bytes(i * 7 % 256 for i in range(length))
         sure(lambda: left.submit(here, 0, body))
-        sure(lambda: right.broadcast([there], 1, body))
+        answers = sure(lambda: right.broadcast_each([there, Peer(3, 9)], 1, body))
+        assert answers[1] == Why.NO_SUCH_PEER
+        if answers[0] == Why.MEMORY:
+            sure(lambda: right.broadcast([there], 1, body))
         event = next_of(right, left, right)
         assert isinstance(event, Receive) and event.data == body and event.address == LEFT, length
         event = next_of(left, left, right)

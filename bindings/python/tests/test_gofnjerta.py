@@ -18,7 +18,7 @@ from typing import Callable, Dict, List, Optional, Tuple
 
 import gofnjerta
 from gofnjerta import Address, Config, Connect, Delivery, Disconnect, Ending, Endpoint, Error, Event, Host, Line, Network, Peer, Receive, State
-from gofnjerta import ENDLESS, Why
+from gofnjerta import ENDLESS, Traffic, Why
 from gofnjerta._library import _CALLS, layout
 from gofnjerta.network import _Drawn, _Way
 
@@ -114,14 +114,24 @@ class Hosts(unittest.TestCase):
         with self.assertRaises(Error) as raised:
             client.submit(here, 0, b"")
         self.assertEqual((raised.exception.number, raised.exception.name), (Why.FULL, "E9 Full"))
+        self.assertEqual(client.broadcast_each([here, Peer(0, 7)], 0, b""), [Why.FULL, Why.NO_SUCH_PEER])
+        self.assertEqual(client.broadcast_each([here], 256, b""), [Why.NO_SUCH_CHANNEL])
+        self.assertEqual(client.broadcast_each([], 0, b""), [])
+        with self.assertRaises(Error) as raised:
+            client.broadcast_each([here], 0, bytes(gofnjerta.MAX_PACKET + 1))
+        self.assertEqual(raised.exception.number, Why.TOO_LARGE)
+        self.assertEqual(client.read_traffic(here), Traffic(0, 0, 0))
         line = client.read_line(here)
         self.assertEqual((line.commands, line.bytes, line.in_transit, line.throttle), (1, 5, 0, 32))
         self.assertEqual(line.allowance, client.read_allowance(here))
         self.assertEqual((line.round_trip, line.variance), (client.read_peer(here).round_trip, client.read_peer(here).variance))
         self.assertTrue(0 < line.lowest_before <= 500 and line.lowest <= line.round_trip, line)
         self.assertRaises(Error, lambda: client.read_line(Peer(0, 7)))
+        self.assertRaises(Error, lambda: client.read_traffic(Peer(0, 7)))
         self.assertRaises(ValueError, lambda: client.set_send_limit(-1, 1))
         self.assertEqual((client.ending(here), server.ending(there)), (Ending.NONE, Ending.NONE))
+        net.pass_(300)  # a round trip is shorter, and the mean of 500 ms hasn't passed
+        self.assertEqual(client.read_traffic(here), Traffic(1, 0, 1))
         client.disconnect(here)
         net.pass_(10_000)
         self.assertEqual((client.ending(here), server.ending(there)), (Ending.ASKED_HERE, Ending.ASKED_THERE))

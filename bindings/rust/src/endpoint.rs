@@ -288,6 +288,18 @@ impl Endpoint {
         self.host.broadcast(peers, channel, data, delivery)
     }
 
+    /// As [`Host::broadcast_each`].
+    pub fn broadcast_each(
+        &mut self,
+        peers: &[Peer],
+        channel: u8,
+        data: &[u8],
+        delivery: Delivery,
+        answers: &mut Vec<Result<(), Error>>,
+    ) -> Result<(), Error> {
+        self.host.broadcast_each(peers, channel, data, delivery, answers)
+    }
+
     /// As [`Host::disconnect`].
     pub fn disconnect(&mut self, peer: Peer, info: u32) -> Result<(), Error> {
         self.host.disconnect(peer, info)

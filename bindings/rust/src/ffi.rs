@@ -129,6 +129,19 @@ pub struct LineReading {
     pub bytes: u64,
 }
 
+/// How many commands went to a peer since it began: those with data that ask for an acknowledgement, which are reliable packets, or the
+/// pieces of long ones. Each number wraps at 2^64.
+#[repr(C)]
+#[derive(Clone, Copy, Debug, Default, PartialEq, Eq)]
+pub struct Traffic {
+    /// Each time that one went.
+    pub sent: u64,
+    /// Those times that it had gone before.
+    pub again: u64,
+    /// Commands that were acknowledged, each once.
+    pub acknowledged: u64,
+}
+
 /// The library's bytes of an address.
 #[repr(C)]
 #[derive(Clone, Copy)]
@@ -246,6 +259,16 @@ extern "C" {
         body: *const c_void,
         length: usize,
     ) -> u32;
+    fn gofnjerta_broadcast_each(
+        host: *mut RawHost,
+        peers: *const Peer,
+        count: usize,
+        channel: u8,
+        flags: u8,
+        body: *const c_void,
+        length: usize,
+        answers: *mut u32,
+    ) -> u32;
     fn gofnjerta_receive(host: *mut RawHost, from: RawAddress, datagram: *const c_void, length: usize, received: *mut RawReceived) -> u32;
     fn gofnjerta_service(host: *mut RawHost, buffer: *mut c_void, room: usize, datagram: *mut RawDatagram) -> u32;
     fn gofnjerta_tick(host: *mut RawHost, ms: u32) -> u32;
@@ -270,6 +293,7 @@ extern "C" {
     fn gofnjerta_read_sent_again(host: *mut RawHost, commands: *mut u64) -> u32;
     fn gofnjerta_set_send_limit(host: *mut RawHost, bytes: u64, commands: u64) -> u32;
     fn gofnjerta_read_line(host: *mut RawHost, peer: Peer, line: *mut LineReading) -> u32;
+    fn gofnjerta_read_traffic(host: *mut RawHost, peer: Peer, traffic: *mut Traffic) -> u32;
     fn gofnjerta_ending(host: *mut RawHost, peer: Peer, why: *mut u32) -> u32;
     fn gofnjerta_record(host: *mut RawHost, config: *const Config, write: RawWriter, context: *mut c_void) -> u32;
 }
@@ -292,7 +316,7 @@ extern "C" fn write_record(context: *mut c_void, bytes: *const c_void, length: u
 
 /// What a number that a call returned means.
 #[inline]
-fn answer(number: u32) -> Result<(), Error> {
+pub(crate) fn answer(number: u32) -> Result<(), Error> {
     match number {
         0 => Ok(()),
         _ => Err(Error::numbered(number)),
@@ -388,6 +412,16 @@ impl Handle {
     pub(crate) fn broadcast(&mut self, peers: &[Peer], channel: u8, flags: u8, body: &[u8]) -> Result<(), Error> {
         // SAFETY: the handle is open, and as many peers and bytes can be read as are named.
         answer(unsafe { gofnjerta_broadcast(self.raw(), peers.as_ptr(), peers.len(), channel, flags, body.as_ptr().cast(), body.len()) })
+    }
+
+    /// Writes to `numbers`, which has one for each peer, what its submission answered.
+    pub(crate) fn broadcast_each(&mut self, peers: &[Peer], channel: u8, flags: u8, body: &[u8], numbers: &mut [u32]) -> Result<(), Error> {
+        assert_eq!(peers.len(), numbers.len());
+        let (at, length) = (body.as_ptr().cast(), body.len());
+        // SAFETY: the handle is open, as many peers and bytes can be read as are named, and a number can be written for each peer.
+        answer(unsafe {
+            gofnjerta_broadcast_each(self.raw(), peers.as_ptr(), peers.len(), channel, flags, at, length, numbers.as_mut_ptr())
+        })
     }
 
     #[inline]
@@ -569,6 +603,13 @@ impl Handle {
         Ok(line)
     }
 
+    pub(crate) fn read_traffic(&self, peer: Peer) -> Result<Traffic, Error> {
+        let mut traffic = Traffic::default();
+        // SAFETY: the handle is open, and `traffic` is a value of its type.
+        answer(unsafe { gofnjerta_read_traffic(self.raw(), peer, &mut traffic) })?;
+        Ok(traffic)
+    }
+
     pub(crate) fn ending(&self, peer: Peer) -> Result<u32, Error> {
         let mut why = 0;
         // SAFETY: the handle is open, and `why` is a value of its type.
@@ -685,6 +726,7 @@ mod tests {
             commands,
             bytes
         );
+        lines!(lines, "gofnjerta_traffic", Traffic, sent, again, acknowledged);
         lines!(lines, "gofnjerta_totals", Totals, datagrams_in, bytes_in, datagrams_out, bytes_out);
         lines!(lines, "gofnjerta_held", Held, channels, senders, packets, undispatched, bytes, acknowledgements, memory, most_memory);
         lines!(lines, "gofnjerta_slots", Slots, free, spent, connecting, answering, connected, leaving);

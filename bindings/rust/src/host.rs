@@ -1,7 +1,7 @@
 //! A host without a socket and a clock.
 
 use crate::error::{Error, Stop};
-use crate::ffi::{self, Config, Handle, Held, LineReading, Peer, RawEvent, RawReading, Slots, Totals, ROOM};
+use crate::ffi::{self, Config, Handle, Held, LineReading, Peer, RawEvent, RawReading, Slots, Totals, Traffic, ROOM};
 use std::fmt;
 use std::io::Write;
 use std::net::{Ipv4Addr, SocketAddrV4};
@@ -264,6 +264,8 @@ pub struct Host {
     addresses: Vec<Option<(u32, SocketAddrV4)>>,
     /// The event that the library told and that wasn't returned yet.
     told: RawEvent,
+    /// What the peers of the last broadcast answered.
+    numbers: Vec<u32>,
 }
 
 impl fmt::Debug for Host {
@@ -282,7 +284,7 @@ impl Host {
         let mut addresses = Vec::new();
         addresses.try_reserve_exact(slots).map_err(|_| Error::Memory)?;
         addresses.resize(slots, None);
-        Ok(Host { handle: Handle::open(config)?, room, addresses, told: RawEvent::NONE })
+        Ok(Host { handle: Handle::open(config)?, room, addresses, told: RawEvent::NONE, numbers: Vec::new() })
     }
 
     /// Asks the host at an address for a connection with 1 to 255 channels, from the lowest free slot. `info` is a number for its user. A
@@ -305,11 +307,49 @@ impl Host {
 
     /// Submits a packet to each of these peers; they share one copy of its bytes. Peers that have gone or aren't connected are skipped. If
     /// one peer refuses it for another reason, the others still get it, and the first such reason is returned: `NoSuchChannel`, `TooLarge`,
-    /// `Full`, `Memory`. Who is full must be read before, by [`read_line`](Host::read_line): afterwards a peer that took it and is full by
-    /// it looks the same, so don't submit it again to all that look full. No peer gets it if there is no memory for the copy.
+    /// `Full`, `Memory`. Which peers those are, [`broadcast_each`](Host::broadcast_each) tells. No peer gets it if there is no memory for
+    /// the copy.
     #[inline]
     pub fn broadcast(&mut self, peers: &[Peer], channel: u8, data: &[u8], delivery: Delivery) -> Result<(), Error> {
         self.handle.broadcast(peers, channel, delivery.flags(), data)
+    }
+
+    /// As [`broadcast`](Host::broadcast), and writes to `answers`, in place of what was there, what each peer's submission answered, in the
+    /// order of `peers`: what [`submit`](Host::submit) returns, `NoSuchPeer` and `NotConnected` too. Pass the same `Vec` each time. Before
+    /// any submission, and with no answer: `TooLarge` above 33,554,432 bytes; `Memory` if there is none for the copy or the answers, after
+    /// which the call may be repeated.
+    ///
+    /// ```
+    /// # fn main() -> Result<(), gofnjerta::Error> {
+    /// # use gofnjerta::{Config, Delivery, Error, Host, Peer};
+    /// # let mut host = Host::open(&Config::standard(1, 1))?;
+    /// # let peers: Vec<Peer> = Vec::new();
+    /// let mut answers = Vec::new();
+    /// host.broadcast_each(&peers, 0, b"round 7", Delivery::Reliable, &mut answers)?;
+    /// for (peer, answer) in peers.iter().zip(&answers) {
+    ///     if *answer == Err(Error::Full) {
+    ///         host.disconnect(*peer, 1)?; // it lacks this packet, so the next ones are no use to it
+    ///     }
+    /// }
+    /// # Ok(())
+    /// # }
+    /// ```
+    pub fn broadcast_each(
+        &mut self,
+        peers: &[Peer],
+        channel: u8,
+        data: &[u8],
+        delivery: Delivery,
+        answers: &mut Vec<Result<(), Error>>,
+    ) -> Result<(), Error> {
+        answers.clear();
+        answers.try_reserve(peers.len()).map_err(|_| Error::Memory)?;
+        self.numbers.clear();
+        self.numbers.try_reserve(peers.len()).map_err(|_| Error::Memory)?;
+        self.numbers.resize(peers.len(), 0);
+        self.handle.broadcast_each(peers, channel, delivery.flags(), data, &mut self.numbers)?;
+        answers.extend(self.numbers.iter().map(|number| ffi::answer(*number)));
+        Ok(())
     }
 
     /// Takes in a datagram that came from an address. Pass over what comes from port 0, to which nothing can be sent.
@@ -545,6 +585,12 @@ impl Host {
     /// Reads how the line to a peer is, and what is queued or unacknowledged for it. `NoSuchPeer`.
     pub fn read_line(&self, peer: Peer) -> Result<LineReading, Error> {
         self.handle.read_line(peer)
+    }
+
+    /// Reads how many commands went to a peer, and how many were acknowledged. The share of `again` in `sent`, between two readings, grows
+    /// if the line loses more, or if its round trips vary more. `NoSuchPeer`.
+    pub fn read_traffic(&self, peer: Peer) -> Result<Traffic, Error> {
+        self.handle.read_traffic(peer)
     }
 
     /// Reads why a peer's connection ended, before and after its `Disconnect`, until the next peer of that slot, connected or not, is gone:

@@ -52,7 +52,7 @@ mod pcap;
 pub use draw::random;
 pub use endpoint::Endpoint;
 pub use error::{EndpointError, Error, Stop};
-pub use ffi::{Config, Held, LineReading, Peer, Slots, Totals};
+pub use ffi::{Config, Held, LineReading, Peer, Slots, Totals, Traffic};
 pub use host::{version, Datagram, Delivery, Ending, Event, Host, Reading, Received, State, ENDLESS, FULL};
 pub use line::Line;
 pub use network::{Network, Node};

@@ -81,7 +81,13 @@ fn two_hosts(count: &mut Count, body: &[u8]) {
     settle(count, &mut a, &mut b);
     count.again(|| b.submit(peer, 0, body, Delivery::Reliable));
     count.again(|| b.submit(peer, 1, &body[..50], Delivery::Reliable));
-    count.again(|| b.broadcast(&[peer], 0, &body[..100], Delivery::Reliable));
+    let (gone, mut answers) = (Peer { slot: 0, generation: 9 }, Vec::new());
+    count.again(|| b.broadcast_each(&[gone, peer], 0, &body[..100], Delivery::Reliable, &mut answers));
+    assert!(answers[0] == Err(Error::NoSuchPeer));
+    if answers[1] == Err(Error::Memory) {
+        count.0 += 1;
+        count.again(|| b.broadcast(&[peer], 0, &body[..100], Delivery::Reliable));
+    }
     count.again(|| b.set_bandwidth(0, 0));
     count.again(|| b.throttle_configure(peer, 5000, 2, 2));
     count.again(|| b.set_ping_interval(peer, 0));
@@ -89,6 +95,7 @@ fn two_hosts(count: &mut Count, body: &[u8]) {
     settle(count, &mut a, &mut b);
     count.again(|| b.read_peer(peer));
     count.again(|| b.read_allowance(peer));
+    count.again(|| b.read_traffic(peer));
     count.again(|| b.read_totals());
     count.again(|| a.read_held());
     count.again(|| a.read_slots());

@@ -1,7 +1,7 @@
 //! When a peer is full, how the line to it is, why its connection ended, and records: two hosts without a network between, and two
 //! endpoints.
 
-use gofnjerta::{Config, Delivery, Ending, Endpoint, EndpointError, Error, Event, Host, Peer, ENDLESS};
+use gofnjerta::{Config, Delivery, Ending, Endpoint, EndpointError, Error, Event, Host, Peer, Traffic, ENDLESS};
 use std::fs::File;
 use std::io::{self, BufWriter, Write};
 use std::net::{Ipv4Addr, SocketAddrV4};
@@ -74,14 +74,29 @@ fn a_full_peer_takes_no_packet_and_the_line_shows_why() -> Result<(), Error> {
     hosts[0].submit(peer, 0, b"hello", Delivery::Reliable)?;
     assert_eq!(hosts[0].submit(peer, 0, b"", Delivery::Reliable), Err(Error::Full));
     assert_eq!(hosts[0].broadcast(&[peer], 0, b"", Delivery::Unreliable), Err(Error::Full));
+    let mut answers = vec![Ok(()); 5];
+    let gone = Peer { slot: 0, generation: 1 };
+    hosts[0].broadcast_each(&[gone, peer], 0, b"", Delivery::Unreliable, &mut answers)?;
+    assert_eq!(answers, [Err(Error::NoSuchPeer), Err(Error::Full)]);
     assert_eq!((Error::Full.number(), Error::Full.name()), (9, "E9 Full"));
+    assert_eq!(hosts[0].read_traffic(peer)?, Traffic { sent: 0, again: 0, acknowledged: 0 });
     let line = hosts[0].read_line(peer)?;
     assert_eq!((line.round_trip, line.variance, line.lowest, line.lowest_before), (500, 0, 500, 500));
     assert_eq!((line.throttle, line.allowance, line.in_transit, line.commands, line.bytes), (32, 65536, 0, 1, 5));
-    assert_eq!(hosts[0].read_line(Peer { slot: 0, generation: 1 }), Err(Error::NoSuchPeer));
+    assert_eq!(hosts[0].read_line(gone), Err(Error::NoSuchPeer));
+    assert_eq!(hosts[0].read_traffic(gone), Err(Error::NoSuchPeer));
     pass(&mut hosts, 1)?;
     let line = hosts[0].read_line(peer)?;
     assert_eq!((line.commands, line.bytes), (0, 0));
+    assert_eq!(hosts[0].read_traffic(peer)?, Traffic { sent: 1, again: 0, acknowledged: 1 });
+    hosts[0].broadcast_each(&[peer, gone], 0, b"to all", Delivery::Reliable, &mut answers)?;
+    assert_eq!(answers, [Ok(()), Err(Error::NoSuchPeer)]);
+    while hosts[0].transmit()?.is_some() {}
+    hosts[0].tick(500)?; // this was lost, and goes again after the first mean of a round trip
+    pass(&mut hosts, 1)?;
+    assert_eq!(hosts[0].read_traffic(peer)?, Traffic { sent: 3, again: 1, acknowledged: 2 });
+    assert_eq!(hosts[0].broadcast_each(&[peer], 0, &vec![0; 33_554_433], Delivery::Reliable, &mut answers), Err(Error::TooLarge));
+    assert_eq!(answers, []);
     hosts[0].submit(peer, 0, b"", Delivery::Reliable)
 }
 

@@ -27,7 +27,7 @@ use Rattle.enet_host.specs.Opening.{host_basis, Opens, Connects, opened}
 use Rattle.enet_host.specs.Receiving.{Receives}
 use Rattle.enet_host.specs.Serving.{Serves}
 use Rattle.enet_c.specs.Numbers.{answered_by}
-use Rattle.enet_c.specs.Shapes.{name_shown, received_shown, no_datagram, datagram_shown, event_shown, reading_named, allowance_named, line_named}
+use Rattle.enet_c.specs.Shapes.{name_shown, received_shown, no_datagram, datagram_shown, event_shown, reading_named, allowance_named, line_named, traffic_named}
 use Rattle.enet_c.specs.declared.held.Held.{Held}
 use Rattle.enet_c.specs.declared.shapes.CoreDatagram.{CoreDatagram}
 use Rattle.enet_c.specs.declared.shapes.CoreEvent.{CoreEvent}
@@ -35,6 +35,7 @@ use Rattle.enet_c.specs.declared.shapes.CoreLine.{CoreLine}
 use Rattle.enet_c.specs.declared.shapes.CorePeer.{CorePeer}
 use Rattle.enet_c.specs.declared.shapes.CoreReading.{CoreReading}
 use Rattle.enet_c.specs.declared.shapes.CoreReceived.{CoreReceived}
+use Rattle.enet_c.specs.declared.shapes.CoreTraffic.{CoreTraffic}
 
 -- what the border itself answers: a handle without a host, one that has a host already, a short buffer, no staged body, no
 -- packet told
@@ -99,6 +100,9 @@ ReadsAllowance name old new c = IsReading (allowance_named c.before.host.slots n
 abbrev pub ReadsLine : PeerRef → CoreLine → CoreLine → Crossing → Type 0
 ReadsLine name old new c = IsReading (line_named c.before.host.slots name) old new c.number × (c.after ≡ c.before)
 
+abbrev pub ReadsTraffic : PeerRef → CoreTraffic → CoreTraffic → Crossing → Type 0
+ReadsTraffic name old new c = IsReading (traffic_named c.before.host.slots name) old new c.number × (c.after ≡ c.before)
+
 -- a packet is submitted to the peer of this name, by the host's limit on what is queued or unacknowledged
 abbrev pub SubmitsTo : PeerRef → ℕ → Packet → Crossing → Type 0
 SubmitsTo name channel q c =
@@ -126,6 +130,28 @@ pub record SubmitsToEach (names : List PeerRef) (packet : Outward) (c : Crossing
 
 abbrev pub Broadcasts : List PeerRef → Outward → Crossing → Type 0
 Broadcasts names packet c = SubmitsToEach names packet c ⊎ ((c.number ≡ 1) × (c.after ≡ c.before))
+
+-- a packet is submitted to these peers, one after another, and each number is what that submission answered
+abbrev pub SubmitsInTurn : ℕ → Packet → List PeerRef → List ℕ → Held → Held → Type 0
+SubmitsInTurn channel q [] [] before after = after ≡ before
+SubmitsInTurn channel q (name ∷ names) (number ∷ numbers) before after =
+    (between : Held) × SubmitsTo name channel q (record { before = before; number = number; after = between }) × SubmitsInTurn channel q names numbers between after
+SubmitsInTurn channel q [] (number ∷ numbers) before after = ⊥
+SubmitsInTurn channel q (name ∷ names) [] before after = ⊥
+
+-- they go to the front of a buffer. Nothing is submitted where that is too short for them, or memory for the packet's copy is refused
+pub record AnswersEach (names : List PeerRef) (channel : ℕ) (q : Packet) (old new : List ℕ) (c : Crossing) : Type 0 where
+  pub numbers : List ℕ
+  pub submits : SubmitsInTurn channel q names numbers c.before c.after
+  pub room : length names ≤ length old
+  pub written : new ≡ numbers ++ drop (length names) old
+  pub done : c.number ≡ 0
+
+abbrev pub AnswersNone : List PeerRef → List ℕ → List ℕ → Crossing → Type 0
+AnswersNone names old new c = ((c.number ≡ 1) ⊎ ((length old < length names) × (c.number ≡ short_buffer))) × (new ≡ old) × (c.after ≡ c.before)
+
+abbrev pub BroadcastsEach : List PeerRef → ℕ → Packet → List ℕ → List ℕ → Crossing → Type 0
+BroadcastsEach names channel q old new c = AnswersEach names channel q old new c ⊎ AnswersNone names old new c
 
 -- new bandwidths, or 1 where a peer that must be told wants memory for it
 abbrev pub SetsBandwidth : ℕ → ℕ → Crossing → Type 0

@@ -36,6 +36,7 @@ use Rattle.enet_c.specs.declared.shapes.CoreReceived.{CoreReceived}
 use Rattle.enet_c.specs.declared.shapes.CoreSecret.{CoreSecret}
 use Rattle.enet_c.specs.declared.shapes.CoreSlots.{CoreSlots}
 use Rattle.enet_c.specs.declared.shapes.CoreTotals.{CoreTotals}
+use Rattle.enet_c.specs.declared.shapes.CoreTraffic.{CoreTraffic}
 
 abbrev pub config_shown : Config → CoreConfig
 config_shown c = record {
@@ -65,6 +66,7 @@ config_meant c = record {
   secret = None;
   gives_way = false;
   most = None;
+  of_address = None;
 }
 
 abbrev pub secret_meant : CoreSecret → Secret
@@ -172,6 +174,13 @@ line_of p = record {
 
 abbrev pub line_named : List SlotState → PeerRef → Option CoreLine
 line_named slots name = option_map line_of (named slots name)
+
+-- what went to a peer and was acknowledged
+abbrev pub traffic_of : Peering → CoreTraffic
+traffic_of p = record { sent = p.outbox.traffic.sent; again = p.outbox.traffic.again; acknowledged = p.outbox.traffic.acknowledged }
+
+abbrev pub traffic_named : List SlotState → PeerRef → Option CoreTraffic
+traffic_named slots name = option_map traffic_of (named slots name)
 
 -- why the connection of a peer ended, 0 where nothing is known of it
 abbrev pub ending_number : Option Ending → ℕ

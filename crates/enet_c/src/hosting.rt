@@ -1,15 +1,16 @@
 //! The host's calls on what a handle holds, with numbers in place of refusals.
 
-ghost use Rattle.std.specs.Prelude.{◌≡◌, None, map};
+ghost use Rattle.std.specs.Prelude.{◌≡◌, ◌≤◌, None, length, map};
 ghost use Rattle.enet_codec.specs.Outward.{errands};
 ghost use Rattle.enet_host.specs.Broadcast.{SubmitsEach};
-ghost use Rattle.enet_c.specs.Border.{Asks, Broadcasts, Copies, PutsOut, SubmitsStaged, SubmitsTo, Tells};
-ghost use Rattle.enet_c.specs.Shapes.{name_meant, reading_named, line_named};
+ghost use Rattle.enet_c.specs.Border.{AnswersEach, Asks, Broadcasts, BroadcastsEach, Copies, PutsOut, SubmitsStaged, SubmitsTo, Tells};
+ghost use Rattle.enet_c.specs.Shapes.{name_meant, reading_named, line_named, traffic_named};
 
 use crate::held::Held;
 use crate::numbers::{OK, SHORT, UNSTAGED, UNTOLD, answer, number_of};
 use crate::shapes::{
-    CoreAddress, CoreDatagram, CoreEvent, CoreLine, CorePeer, CoreReading, state_number,
+    CoreAddress, CoreDatagram, CoreEvent, CoreLine, CorePeer, CoreReading, CoreTraffic,
+    state_number,
 };
 use bytes::Bytes;
 use enet_host::{Addr, Event, Outward, PeerRef, Refusal};
@@ -125,6 +126,59 @@ impl Held {
         told
     }
 
+    /// Submits a packet, whose body is copied once, to each of these peers, and writes what each submission answered to the front of a
+    /// buffer.
+    pub(crate) fn broadcast_each(
+        &mut self,
+        alloc: Global,
+        peers: &[CorePeer],
+        channel: u8,
+        flags: u8,
+        body: &[u8],
+        answers: &mut [u32],
+    ) -> u32
+        ensures { BroadcastsEach (map name_meant peers.now) channel (record { flags = flags; body = body.now }) answers.old answers.new (record { before = self.old; number = result; after = self.new }) }
+    {
+        if answers.len() < peers.len() {
+            return SHORT;
+        }
+        let Ok(body) = Bytes::copy_from_slice(alloc, body) else {
+            return number_of(Refusal::Memory);
+        };
+        self.submit_in_turn(peers, channel, flags, &body, answers);
+        OK
+    }
+
+    /// Submits a packet with this body to each of these peers, and writes what each submission answered to the front of a buffer.
+    fn submit_in_turn(
+        &mut self,
+        peers: &[CorePeer],
+        channel: u8,
+        flags: u8,
+        body: &Bytes,
+        answers: &mut [u32],
+    )
+        requires { length peers.now ≤ length answers.old }
+        ensures { AnswersEach (map name_meant peers.now) channel (record { flags = flags; body = body.now }) answers.old answers.new (record { before = self.old; number = 0; after = self.new }) }
+    {
+        for place in 0..peers.len() {
+            answers[place] = self.submit_shared(peers[place].into_name(), channel, flags, body);
+        }
+    }
+
+    /// Submits a packet with this body, which is shared and not copied.
+    fn submit_shared(&mut self, name: PeerRef, channel: u8, flags: u8, shared: &Bytes) -> u32
+        ensures { SubmitsTo name channel (record { flags = flags; body = shared.now }) (record { before = self.old; number = result; after = self.new }) }
+    {
+        if let Ok(body) = shared.clone() {
+            return self.give(name, channel, flags, body);
+        }
+        match self.host.submission_refusal(name, channel, shared.len()) {
+            Some(why) => number_of(why),
+            None => number_of(Refusal::Memory),
+        }
+    }
+
     /// Puts out the next datagram, into the first 4,096 bytes of a buffer.
     pub(crate) fn service(&mut self, buffer: &mut [u8], datagram: &mut CoreDatagram) -> u32
         ensures { PutsOut buffer.old buffer.new datagram.new (record { before = self.old; number = result; after = self.new }) }
@@ -217,6 +271,18 @@ impl Held {
             in_transit,
             commands: there.commands,
             bytes: there.bytes,
+        })
+    }
+
+    /// What went to a peer and was acknowledged.
+    pub(crate) fn traffic(&self, name: PeerRef) -> Option<CoreTraffic>
+        ensures { result ≡ traffic_named self.now.host.slots name }
+    {
+        let counts = self.host.traffic(name)?;
+        Some(CoreTraffic {
+            sent: counts.sent,
+            again: counts.again,
+            acknowledged: counts.acknowledged,
         })
     }
 }

@@ -12,7 +12,8 @@
 //! and leaves the rest of the buffer alone, `next_event` is `Tells` (`Takes`) and keeps the body of the packet that it told, which `body`
 //! copies (`Copies`); `submit` is `SubmitsTo` (`unless_full`, by the host's limit), and answers 1 only where nothing else is refused, and
 //! `throttle_configure` only where the host may want memory to tell the peer (`wants_room_in`); `broadcast` is the host's `submit_each`
-//! with one packet (`Broadcasts`); `peer`, `line`, `allowance` and `totals_of` show what the host holds, `ending` why a connection ended
+//! with one packet (`Broadcasts`), and `broadcast_each` its submissions one after another, each with its answer (`SubmitsInTurn`); `peer`,
+//! `line`, `traffic`, `allowance` and `totals_of` show what the host holds, `ending` why a connection ended
 //! (`ending_named`), `slots` and `sent_again` what it counts, `held` how much that is of what others sent (within what its settings allow),
 //! and `due_in` when time brings it something (`IsDueIn`); `open` is `Begins` (`Opens`), and `close` leaves the handle closed. A name that
 //! `error_name` or `stop_name` gives is that of the refusal or stop with this number.
@@ -43,7 +44,7 @@ pub use packing::{gofnjerta_core_compress, gofnjerta_core_decompress};
 pub use readings::{
     gofnjerta_core_allowance, gofnjerta_core_due_in, gofnjerta_core_ending, gofnjerta_core_held,
     gofnjerta_core_line, gofnjerta_core_peer, gofnjerta_core_sent_again, gofnjerta_core_slots,
-    gofnjerta_core_totals_of,
+    gofnjerta_core_totals_of, gofnjerta_core_traffic,
 };
 pub use settings::{
     gofnjerta_core_disconnect, gofnjerta_core_disconnect_later, gofnjerta_core_disconnect_now,
@@ -53,11 +54,11 @@ pub use settings::{
 };
 pub use shapes::{
     CoreAddress, CoreConfig, CoreDatagram, CoreEvent, CoreHeld, CoreLine, CorePeer, CoreReading,
-    CoreReceived, CoreSecret, CoreSlots, CoreTotals,
+    CoreReceived, CoreSecret, CoreSlots, CoreTotals, CoreTraffic,
 };
 pub use telling::{gofnjerta_core_body, gofnjerta_core_next_event};
 pub use traffic::{
-    gofnjerta_core_broadcast, gofnjerta_core_connect, gofnjerta_core_receive,
-    gofnjerta_core_service, gofnjerta_core_stage, gofnjerta_core_submit,
+    gofnjerta_core_broadcast, gofnjerta_core_broadcast_each, gofnjerta_core_connect,
+    gofnjerta_core_receive, gofnjerta_core_service, gofnjerta_core_stage, gofnjerta_core_submit,
     gofnjerta_core_submit_staged, gofnjerta_core_tick,
 };

@@ -4,13 +4,13 @@ ghost use Rattle.std.specs.Prelude.{◌≡◌, ◌≤◌, IfNone, IfSome};
 ghost use Rattle.enet_sender.specs.Counting.{added};
 ghost use Rattle.enet_slot.specs.Counting.{Counts, count_sent_again};
 ghost use Rattle.enet_host.specs.Ticking.{IsDueIn};
-ghost use Rattle.enet_c.specs.Border.{Crosses, Reads, ReadsAllowance, ReadsLine, ReadsPeer};
+ghost use Rattle.enet_c.specs.Border.{Crosses, Reads, ReadsAllowance, ReadsLine, ReadsPeer, ReadsTraffic};
 ghost use Rattle.enet_c.specs.Shapes.{name_meant, ending_told, totals_shown, held_shown, slots_meant};
 
 use crate::numbers::{CLOSED, OK, number_of};
 use crate::own::Handle;
 use crate::shapes::{
-    CoreHeld, CoreLine, CorePeer, CoreReading, CoreSlots, CoreTotals, ending_number,
+    CoreHeld, CoreLine, CorePeer, CoreReading, CoreSlots, CoreTotals, CoreTraffic, ending_number,
 };
 use enet_host::Refusal;
 use std::alloc::Global;
@@ -84,6 +84,31 @@ pub extern "C" fn gofnjerta_core_line(
     match found {
         Some(found) => {
             *line = found;
+            OK
+        }
+        None => number_of(Refusal::NoSuchPeer),
+    }
+}
+
+/// Reads how many commands with data went to a peer and were acknowledged. E2 where there is none of this name; then nothing is written.
+#[unsafe(no_mangle)]
+pub extern "C" fn gofnjerta_core_traffic(
+    alloc: Global,
+    handle: &mut Handle,
+    peer: &CorePeer,
+    traffic: &mut CoreTraffic,
+) -> u32
+    ensures reads { Crosses (ReadsTraffic (name_meant peer.now) traffic.old traffic.new) handle.old.own.value result handle.new.own.value }
+    ensures closed { IfNone handle.old.own.value (traffic.new ≡ traffic.old) }
+{
+    let Some(held) = handle.take(alloc) else {
+        return CLOSED;
+    };
+    let found = held.traffic(peer.into_name());
+    handle.put(held);
+    match found {
+        Some(found) => {
+            *traffic = found;
             OK
         }
         None => number_of(Refusal::NoSuchPeer),

@@ -25,6 +25,8 @@ const _: () = prove!(size_of::<CoreReading>() == 60);
 
 const _: () = prove!(size_of::<CoreLine>() == 48);
 
+const _: () = prove!(size_of::<CoreTraffic>() == 24);
+
 const _: () = prove!(size_of::<CoreTotals>() == 32);
 
 const _: () = prove!(size_of::<CoreHeld>() == 64);
@@ -153,6 +155,16 @@ pub struct CoreLine {
     pub bytes: u64,
 }
 
+/// How many commands with data went to a peer that ask for an acknowledgement, each count modulo 2^64.
+#[repr(C)]
+#[derive(Clone, Copy)]
+pub struct CoreTraffic {
+    /// How often one went, for the first time or again; how often one went again; how many were acknowledged.
+    pub sent: u64,
+    pub again: u64,
+    pub acknowledged: u64,
+}
+
 /// How much went through a host.
 #[repr(C)]
 #[derive(Clone, Copy)]
@@ -224,6 +236,7 @@ impl CoreConfig {
             secret: None,
             gives_way: false,
             most: None,
+            of_address: None,
         }
     }
 }

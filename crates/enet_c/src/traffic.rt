@@ -2,7 +2,7 @@
 
 ghost use Rattle.std.specs.Prelude.{◌≡◌, None, map, IfNone};
 ghost use Rattle.enet_host.specs.Ticking.{ticked};
-ghost use Rattle.enet_c.specs.Border.{closed, Crosses, Asks, Broadcasts, PutsOut, Stages, SubmitsStaged, SubmitsTo, TakesIn};
+ghost use Rattle.enet_c.specs.Border.{closed, Crosses, Asks, Broadcasts, BroadcastsEach, PutsOut, Stages, SubmitsStaged, SubmitsTo, TakesIn};
 ghost use Rattle.enet_c.specs.Shapes.{address_meant, name_meant};
 
 use crate::numbers::{CLOSED, OK, number_of};
@@ -110,6 +110,30 @@ pub extern "C" fn gofnjerta_core_broadcast(
         return CLOSED;
     };
     let number = held.broadcast(alloc, peers, channel, flags, body);
+    handle.put(held);
+    number
+}
+
+/// Submits a packet to each of these peers, which share one copy of its body, and writes to `answers` what each submission answered, in the
+/// order of the peers: 0, E2, E3, E4, E5, E9 or E1. 34 where it has fewer places than there are peers, E1 where the copy finds no memory:
+/// then nothing is submitted, and nothing written.
+#[unsafe(no_mangle)]
+pub extern "C" fn gofnjerta_core_broadcast_each(
+    alloc: Global,
+    handle: &mut Handle,
+    peers: &[CorePeer],
+    channel: u8,
+    flags: u8,
+    body: &[u8],
+    answers: &mut [u32],
+) -> u32
+    ensures answers { Crosses (BroadcastsEach (map name_meant peers.now) channel (record { flags = flags; body = body.now }) answers.old answers.new) handle.old.own.value result handle.new.own.value }
+    ensures closed { IfNone handle.old.own.value (answers.new ≡ answers.old) }
+{
+    let Some(mut held) = handle.take(alloc) else {
+        return CLOSED;
+    };
+    let number = held.broadcast_each(alloc, peers, channel, flags, body, answers);
     handle.put(held);
     number
 }
