@@ -409,6 +409,33 @@ def crowds(script):
     for number in range(200):
         script.do(f"from {number}", "to " + ping(7))
     script.row("pings-of-200-again", "each")
+    script.open(PEERS, 1, secret=0)
+    script.do(f"join {PEERS - 5} 1", "from 0")
+    script.send(*[ping(2 + number) for number in range(4 * PEERS)])
+    script.do("play each")
+    for number in range(1, PEERS - 5):
+        script.do(f"from {number}", "to " + ping(2))
+    script.do("play last")
+    for number in range(5):
+        script.do(f"at {6000 + number}", "raw " + connect(6000 + number))
+    script.row("connect-after-all-talked", kind="stranger")
+
+
+def of_address(script):
+    """CONNECTs of an address with 1,000 of 4,095 slots, where it may have 8 (half-open clients, or connected ones), and where it may have all."""
+    script.open(PEERS, 1)
+    script.do(f"ask {PEERS} 1 0", "tick 1", "of-address 8")
+    for number in range(50):
+        script.do(f"at {number}", "raw " + connect(5000 + number))
+    script.row("connect-beyond-its-address", kind="stranger")
+    script.open(PEERS, 1)
+    script.do(f"join {PEERS} 1", "of-address 8", "at 0", "raw " + connect(5000))
+    script.row("connect-stopped-by-its-address", kind="stranger")
+    script.open(PEERS, 1)
+    script.do(f"of-address {PEERS}", f"ask {PEERS - 50} 1 0")
+    for number in range(50):
+        script.do(f"at {number}", "raw " + connect(5000 + number))
+    script.row("connect-below-its-address", kind="stranger")
 
 
 def ended(script):
@@ -437,7 +464,7 @@ def look(script):
 
 
 ALL = [strangers, crowded, newcomers, half_open, short_of_room, give_way, in_order, held, kept, pieces, full, full_of_channels]
-ALL += [acknowledged, many_channels, much_waits, crowds, ended, bandwidths, look]
+ALL += [acknowledged, many_channels, much_waits, crowds, of_address, ended, bandwidths, look]
 
 
 def written(chosen):

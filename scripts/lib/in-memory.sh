@@ -7,7 +7,8 @@
 build_in_memory() {
     local program=$1 test=$2 compiler=$3 made=$4/lib parts source name renamed=()
     shift 4
-    for name in socket close bind getsockname setsockopt ioctl recvfrom sendto sendmsg poll clock_gettime getrandom malloc calloc realloc aligned_alloc; do
+    for name in socket close bind getsockname getsockopt setsockopt ioctl recvfrom sendto sendmsg poll clock_gettime getrandom getentropy \
+        malloc calloc realloc aligned_alloc; do
         renamed+=(--redefine-sym "$name=net_$name")
     done
     parts=$(mktemp -d) || return 1
