@@ -137,7 +137,7 @@ esac
 row ours 32 20 anywhere
 row ours 32 2000 anywhere
 row ours 32 10000 anywhere
-row ours 32 8000 anywhere --per-address 20
+row ours 32 8000 anywhere --ban 192.0.2.1
 row ours 32 20 anywhere --connects-per-second 10
 row ours 32 500 127.0.9.9
 row ours 32 500 127.0.9.9 --per-address 4

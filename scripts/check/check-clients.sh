@@ -175,14 +175,15 @@ games() {
 }
 
 # Starts a server on port $2 with the words from $4 on, whose memory and receptions fail when it is told, and two guests until $3. $1 is
-# the scenario's name. Waits until the guests talk.
+# the scenario's name. Waits until the guests talk and the log has told both: it does so after 64 turns, which on a busy machine may come
+# later, and a line for which there is no memory isn't written.
 receive_guests() {
     LD_PRELOAD=$room/faults.so "$program" serve --port "$2" --log "${@:4}" > "$room/$1.out" 2> "$room/$1.err" &
     relay=$!
     timeout 110 "$room/guests" "$2" "$3" > "$room/$1.guests" 2> "$room/$1.client" &
     client=$!
     for _ in {1..300}; do
-        [ -s "$room/$1.guests" ] && return
+        [ -s "$room/$1.guests" ] && [ "$(grep -c '^connect ' "$room/$1.err")" = 2 ] && return
         sleep 0.1
     done
 }
@@ -196,7 +197,7 @@ guests_fared() {
     sleep 1
     [ "$status" -eq 0 ] || { echo "the guests ended with status $status: $(head -c 400 "$room/$1.client")"; return 1; }
     head -n 1 "$room/$1.err" | grep -Eq "$pattern" || { echo "the first line is $(head -n 1 "$room/$1.err")"; return 1; }
-    [ "$(grep -Ec '^connect [01]\.0 at 127\.0\.0\.1:[0-9]+ info 7$' "$room/$1.err")" = 2 ] || { echo "no line of two connections"; return 1; }
+    [ "$(grep -Ec '^connect [01]\.0 at 127\.0\.0\.1:[0-9]+ info 7$' "$room/$1.err")" = 2 ] || { echo "no line of two connections: $(head -c 400 "$room/$1.err")"; return 1; }
     [ "$(grep -Ec '^disconnect [01]\.0 at 127\.0\.0\.1:[0-9]+ info 5: asked there$' "$room/$1.err")" = "$2" ] || { echo "not $2 ends of connections"; return 1; }
     [ "$3" = '' ] || [ "$(tail -n 1 "$room/$1.err")" = "$3" ] || { echo "the last line is $(tail -n 1 "$room/$1.err")"; return 1; }
 }

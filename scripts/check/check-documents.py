@@ -14,6 +14,8 @@
   c/gofnjerta.h, that README's files have and that CHANGELOG.md begins with;
 - c/gofnjerta_layout.h has each structure and field of c/gofnjerta.h, in order, and the sizes that crates/enet_c proves of its own;
 - docs/PERF.md begins with the line that names the start, which never changes, and its table has the counts of bench/instructions.txt;
+- only crates/enet_wire/src/journaled.rt names what has the system take or give datagrams, as SECURITY.md says; what else names `libc::net` or
+  `mio::net` is in NETWORK;
 - no document has more of the habits that scripts/check/tics.py counts, in 100 words, than scripts/check/tics.txt says;
 - the plots are what measure/draw.py makes of measure/results.
 
@@ -38,6 +40,19 @@ STANDS_FOR = re.compile(r"\*|\.\.|\b(crate|CRATE|NAME|FILE|File|EVENT|FOLDER|COM
 WORD = re.compile(r"[A-Za-z_][A-Za-z0-9_'-]*")
 # The first line of docs/PERF.md: the commit to which all its ratios go back.
 START = "The start: da651a18bcd2843b7b451577cdc4f47cd6cc9a6e"
+
+# What names the modules by which the system is asked for sockets: the one file that may name all of them, the listener of the figures for TCP
+# alone, and the console, which waits for its input and its output.
+NETWORK = {
+    "crates/enet_wire/src/journaled.rt": None,
+    "crates/enet_metrics/src/pages.rt": {"mio::net::TcpListener", "mio::net::TcpStream"},
+    "crates/enet_metrics/src/client.rt": {"mio::net::TcpStream"},
+    "crates/enet_console/src/outlet.rt": {"libc::net::POLLOUT", "libc::net::poll"},
+    "crates/enet_console/src/input.rt": {"libc::net::POLLIN", "libc::net::poll"},
+}
+# Crates of the kit that have sockets of their own, and what of its std is one.
+WITH_SOCKETS = {"libc", "mio", "tokio", "hyper", "http_server", "os"}
+SOCKETS = {"UdpSocket", "TcpStream", "TcpListener", "UnixDatagram", "UnixStream", "UnixListener", "*"}
 
 
 class Counts:
@@ -236,7 +251,7 @@ def with_commas(digits):
     return f"{int(digits.replace('_', '')):,}" if re.fullmatch(r"[\d_]+", digits) else digits
 
 
-INSPECTS = ("at", "channel", "connection", "from", "full", "timeline", "to")
+OTHERS = ("at", "channel", "clients", "connection", "explain", "from", "full", "timeline", "to")
 
 
 def options(counts):
@@ -245,7 +260,7 @@ def options(counts):
     made = {}
     for name, ends, default in [*options_of(read(console + "command_line.rt")), *options_of(read(console + "admission.rt"))]:
         made.setdefault(name, (ends, default))
-    made = {name: what for name, what in made.items() if name not in INSPECTS and name != "clients"}
+    made = {name: what for name, what in made.items() if name not in OTHERS}
     rows = re.findall(r"^\| (`--[^|]*) \| ([^|]*) \|", read("docs/OPERATING.md"), re.M)
     told = {name: says for cell, says in rows for name in re.findall(r"--([\w-]+)", cell)}
     counts.check(set(made) == set(told), f"docs/OPERATING.md: options of the code or of the table alone: {sorted(set(made) ^ set(told))}")
@@ -289,6 +304,52 @@ def layout(counts):
         counts.check(name == "Secret" or row in table, f"c/gofnjerta_layout.h hasn't '{row}', the size of Core{name}")
 
 
+def leaves(tree, front=""):
+    """The paths of a `use`: of `mio::{net::{A, B as C}, D}` they are mio::net::A, mio::net::B and mio::D."""
+    at = tree.find("{")
+    if at < 0:
+        yield re.sub(r"\s+as\s+\w+$|::self$", "", front + tree.strip())
+        return
+    parts, depth, begun = [], 0, at + 1
+    for place, sign in enumerate(tree):
+        depth += (sign == "{") - (sign == "}")
+        if (sign == "," and depth == 1) or (sign == "}" and depth == 0):
+            parts.append(tree[begun:place])
+            begun = place + 1
+    for part in filter(str.strip, parts):
+        yield from leaves(part, front + tree[:at].strip())
+
+
+def reached(code):
+    """The paths that code names of crates and modules with sockets, in its `use` items and elsewhere."""
+    code = re.sub(r"//.*", "", code)
+    for used in re.findall(r"\buse\s+([^;]+);", code):
+        yield from leaves(" ".join(used.split()))
+    yield from re.findall(r"\b(?:libc|mio|tokio|hyper|http_server|os|std)(?:::\w+)+", re.sub(r"\buse\s+[^;]+;", "", code))
+
+
+def is_socket(path):
+    """Whether a path leads to sockets: a module of the kit that has them, a whole crate, or a socket of std."""
+    parts = path.removeprefix("::").split("::")
+    if parts[0] == "std":
+        return parts == ["std"] or parts[1] in ("net", "os", "*") and (parts[-1] == "net" or not SOCKETS.isdisjoint(parts))
+    return parts[0] in WITH_SOCKETS and (len(parts) == 1 or parts[1] in ("net", "*") or parts[0] not in ("libc", "mio"))
+
+
+def sockets(counts):
+    """Whatever takes or sends a datagram passes the two trusted functions, since nothing else can name a socket."""
+    for crate, below in re.findall(r"^(\w+)[^:\n]*:(.*)$", read("crates.txt"), re.M):
+        has_some = any(it.startswith(f"crates/{crate}/") for it in NETWORK)
+        more = WITH_SOCKETS & set(below.split()) - ({"libc", "mio"} if has_some else set())
+        counts.check(not more, f"crates.txt: {crate} stands on {', '.join(sorted(more))}, which has sockets")
+        for path in sorted(glob.glob(f"crates/{crate}/src/**/*.rt", recursive=True)):
+            told = {it for it in reached(read(path)) if is_socket(it)}
+            allowed = NETWORK.get(path, set())
+            more = told - (told if allowed is None else allowed)
+            if more:
+                counts.check(False, f"{path} names {', '.join(sorted(more))}, by which datagrams pass beside the wire's journal")
+
+
 def habits(counts):
     seen = subprocess.run([sys.executable, "scripts/check/tics.py", "--check"], capture_output=True, text=True, check=False)
     counts.check(seen.returncode == 0, seen.stdout.strip())
@@ -302,7 +363,7 @@ def plots(counts):
 def main():
     os.chdir(os.path.join(os.path.dirname(os.path.abspath(__file__)), "..", ".."))
     counts = Counts()
-    for check in (stated, names, links, commits, commands, shown, trusted, start, labels, options, version, layout, habits, plots):
+    for check in (stated, names, links, commits, commands, shown, trusted, start, labels, options, version, layout, sockets, habits, plots):
         check(counts)
     print(f"{counts.passed} passed, {counts.failed} failed")
     return 1 if counts.failed else 0

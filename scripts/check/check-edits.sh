@@ -1,6 +1,6 @@
 #!/usr/bin/env bash
-# Tries the edits of edits/CRATE/, which the gate leaves alone, and those of crates/CRATE/must-fail/: `check-edits.sh [--read] [CRATE..]`, where
-# no crate is named each that has some. `rt check` proves the crates as they stand, in a copy of the repository, over the libraries that `rt ci`
+# Tries the edits of edits/CRATE/, which the gate leaves alone, and those of crates/CRATE/must-fail/: `check-edits.sh [--read | --write]
+# [CRATE | CRATE/NAME ..]`, where NAME is one edit of a crate; where nothing is named it tries all. `rt check` proves the crates as they stand, in a copy of the repository, over the libraries that `rt ci`
 # left here (take-libraries.py); where it left none, that takes an hour and more. Then each edit is made there and checked, in 10 to 40 seconds,
 # and is told by how the prover refuses it:
 #
@@ -17,15 +17,17 @@
 # are false; limit, open and proof neither pass nor fail, and are named. An edit fails of which only a name is gone, that is still proved, that
 # can't be made or read, or came to no result. With --read nothing is proved: in half a minute it shows which edits no longer fit the text, and
 # each that fits passes. Prints how many libraries it took, what failed, and for each crate how many edits became what, in how many seconds.
-# What each edit of a crate became is kept in out/edits/CRATE.txt, below a line with the commit and the kit. The last line is
-# 'N passed, M failed'; the status is 1 where one failed, or nothing was tried.
+# What each edit of a crate became is kept in out/edits/CRATE.txt, below a line with the commit and the kit. With --write it is written to
+# measure/results/edits.csv, too, in place of what that has of the edit, with the commit and the day: do so by hand, once all is committed.
+# The last line is 'N passed, M failed'; the status is 1 where one failed, or nothing was tried.
 cd "$(dirname "$0")/../.." || exit 1
 . scripts/lib/tally.sh
 
-# Whether there are edits of the crate $1.
+# Whether there are edits of the crate $1, and the one of the name $2 where one is named.
 has_edits() {
-    [[ $1 != */* ]] && [ -d "crates/$1" ] && [ -d "edits/$1" -o -d "crates/$1/must-fail" ] && return
-    fail "$1" "there are no edits of a crate of this name"
+    local file=${2:+/$2.edit}
+    [ -d "crates/$1" ] && { [ -e "edits/$1$file" ] || [ -e "crates/$1/must-fail$file" ]; } && return
+    fail "$1${2:+/$2}" "there are no edits of a crate of this name, or none of this name"
     return 1
 }
 
@@ -117,7 +119,7 @@ try_edit() {
     fi
     case $what in
         false) passed=$((passed + 1)) ;;
-        limit | open | proof) echo "$name: $what: $(grep -m 1 -E ': error|^note: ' "$room/said" | cut -c 1-200)" ;;
+        limit | open | proof) echo "$name: $what: $(grep -E ': error|^note: ' "$room/said" | grep -m 1 -Ev 'large solution' | cut -c 1-200)" ;;
         *) fail "$name" "$what" ;;
     esac
     became[$what]=$((${became[$what]:-0} + 1))
@@ -137,15 +139,33 @@ try_all() {
         cp -a src specs proofs out "$room/whole/" 2> "$room/said"
         echo "commit $commit, kit $(rt version)" > "$top/out/edits/$1.txt"
         for edit in must-fail/*; do
-            try_edit "$edit" "$1"
+            [ -n "${only[$1]}" ] && [[ ${only[$1]} != *" ${edit##*/} "* ]] || try_edit "$edit" "$1"
         done
         restore || fail "$1" "it could not be put back"
         for what in false limit open proof; do
             told="$told, ${became[$what]:-0} $what"
         done
         echo "$1:${told#,} in $((SECONDS - begun)) seconds"
+        [ "$writes" = no ] || write_record "$1"
     fi
     popd > /dev/null || return
+}
+
+# The rows of the record that it is to have: those of the crate $1 that were tried, and what it had of other edits that are still there.
+rows() {
+    local crate edit what rest
+    sed 1d "$top/out/edits/$1.txt" | while read -r edit what; do
+        echo "$1,${edit%.edit},${what%%:*},${commit:0:8},$(date +%F),$(nproc) processors"
+    done
+    [ -f "$record" ] && sed 1d "$record" | while IFS=, read -r crate edit rest; do
+        [ ! -f "$top/edits/$crate/$edit.edit" ] && [ ! -f "$top/crates/$crate/must-fail/$edit.edit" ] || echo "$crate,$edit,$rest"
+    done
+}
+
+# Writes what became of the edits of the crate $1 to the record.
+write_record() {
+    { echo 'crate,edit,became,commit,date,machine'; rows "$1" | LC_ALL=C sort -s -u -t , -k 1,1 -k 2,2; } > "$room/record" &&
+        cp "$room/record" "$record"
 }
 
 # Has `rt fmt` read the edits of the crate $1: it tells of each that it can't apply.
@@ -165,14 +185,27 @@ top=$PWD
 commit="$(git rev-parse HEAD)$([ -z "$(git status --porcelain)" ] || echo ', with changes that no commit has')"
 copy=$room/copy
 way=try
+writes=no
 [ "$1" != --read ] || { way='read'; shift; }
+[ "$1" != --write ] || { writes=yes; shift; }
+if [ "$writes" = yes ] && [ -n "$(git status --porcelain)" ]; then
+    echo "--write: there are changes that no commit has"
+    exit 1
+fi
 if [ $# -eq 0 ]; then
     mapfile -t crates < <({ ls edits; ls -d crates/*/must-fail | cut -d / -f 2; } | sort -u)
     set -- "${crates[@]}"
 fi
+record=$top/measure/results/edits.csv
 known=()
-for crate; do
-    if has_edits "$crate"; then known+=("$crate"); fi
+declare -A only=()
+for name; do
+    crate=${name%%/*}
+    edit=${name#"$crate"}
+    if has_edits "$crate" "${edit#/}"; then
+        [[ " ${known[*]} " == *" $crate "* ]] || known+=("$crate")
+        [ -z "$edit" ] || only[$crate]+=" ${edit#/}.edit "
+    fi
 done
 if [ ${#known[@]} -gt 0 ]; then
     if copy "${known[@]}"; then

@@ -81,6 +81,15 @@ sent_again() {
     figure enet_sent_again "$(ask 'GET /metrics')"
 }
 
+# How many commands with data went that ask for an acknowledgement, and how many of these times again, by the answer $1.
+sends() {
+    figure enet_sends_total "$1"
+}
+
+resends() {
+    figure enet_resends_total "$1"
+}
+
 # A CONNECT from port 0. Nothing can be sent to that port, so it must do nothing. It takes a raw socket, so root; else none goes.
 from_port_zero() {
     [ "$EUID" -eq 0 ] || return
@@ -93,9 +102,12 @@ END
 }
 
 # A server for 64 clients has 1,088 slots. CONNECTs that nobody confirms each take one, for seven and a half seconds, but none from port 0.
-# One second after the last look that counted slots they are counted again. The answer to each goes again after half a second.
+# One second after the last look that counted slots they are counted again. The answer to each goes again after half a second; it has no data,
+# so that it isn't among the sends.
 half_open() {
-    local sent told
+    local sent told before
+    told=$(ask 'GET /metrics')
+    before="$(sends "$told") $(resends "$told")"
     from_port_zero
     sent=$("$room/forge" "$port" 20 1)
     sent=${sent% sent}
@@ -109,11 +121,14 @@ half_open() {
     same half-open-sent-again "$told" "$sent"
     slots_become half-open-no-more '1088 0 0 0 0 0' 12
     same half-open-sent-again-no-more "$(sent_again)" 0
+    told=$(ask 'GET /metrics')
+    same half-open-sends "$(sends "$told") $(resends "$told")" "$before"
 }
 
 # Of clients that talk over a line that loses a fifth, both ways (clients/proxy.c), some commands are sent again; of clients that have gone none.
 lossy() {
-    local server=$port told=0 line talking
+    local server=$port told=0 line talking before
+    before=$(resends "$(ask 'GET /metrics')")
     free_port
     "$room/proxy" "$port" "$server" 7 loss 20 2> "$room/proxy.err" &
     line=$!
@@ -130,6 +145,8 @@ lossy() {
     kill "$line"
     slots_become lossy-no-more '1088 0 0 0 0 0' 20
     same sent-again-no-more "$(sent_again)" 0
+    told=$(resends "$(ask 'GET /metrics')")
+    [ "${told:-0}" -gt "${before:-0}" ] && passed=$((passed + 1)) || fail resends "'$told' after '$before'"
 }
 
 # Two clients talk, and two others stop: what these are sent, 17 bytes each time, isn't acknowledged until they go on. It leaves the
@@ -180,8 +197,8 @@ figures() {
     slots_become slots-by-state '1056 0 0 0 32 0' 3
     wait "$tally" || fail tally "$(<"$room/tally.out")"
     sleep 1
-    local sent bytes_sent came bytes_came
-    read -r sent bytes_sent came bytes_came < <(tail -n 1 "$room/tally.out")
+    local sent bytes_sent came bytes_came taken
+    read -r sent bytes_sent came bytes_came taken < <(tail -n 1 "$room/tally.out")
     told=$(ask 'GET /metrics')
     same peers-afterwards "$(figure enet_peers "$told")" 0
     same datagrams-in "$(figure 'enet_datagrams_total{way="in"}' "$told")" $((sent + 8))
@@ -189,6 +206,8 @@ figures() {
     same datagrams-out "$(figure 'enet_datagrams_total{way="out"}' "$told")" "$came"
     same bytes-out "$(figure 'enet_bytes_total{way="out"}' "$told")" "$bytes_came"
     same lost "$(figure enet_datagrams_lost_total "$told")" 0
+    # What the relay sends on channel 0 is reliable, and nothing else is.
+    same sends "$(($(sends "$told") - $(resends "$told")))" "$taken"
     same passed-over "$(figure enet_connects_passed_over_total "$told")" 0
     same in-transit "$(figure enet_in_transit_bytes "$told")" 0
     same refused "$(figure 'enet_orders_refused_total{reason="E4"}' "$told")" 20

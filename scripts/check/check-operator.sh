@@ -73,7 +73,7 @@ lines() {
     await ' connected$' "$room/heard" 3
     say peers '^peers [0-9]*$'
     same peers "$answer" 'peers 3'
-    same peers-lines "$(grep -c '^peer [0-9]*\.[0-9]* at 127\.0\.0\.1:[0-9]* for [0-9]* s round trip [0-9]* ms throttle 32 in transit [0-9]* bytes allowance [0-9]* waiting [0-9]* bytes$' "$room/out")" 3
+    same peers-lines "$(grep -c '^peer [0-9]*\.[0-9]* at 127\.0\.0\.1:[0-9]* for [0-9]* s round trip [0-9]* ms throttle 32 in transit [0-9]* bytes allowance [0-9]* waiting [0-9]* bytes sent 0 resent 0$' "$room/out")" 3
     peer=$(awk '/^peer / { print $2; exit }' "$room/out")
     say totals '^peers [0-9]* in '
     same totals "$(sed -E 's/ (in|bytes|out) [0-9]+/ \1 N/g' <<< "$answer")" 'peers 3 in N bytes N out N bytes N lost 0 refused 0 waiting orders 0 events 0'
@@ -87,6 +87,7 @@ lines() {
     same kick-again "$answer" "no peer $peer"
     say peers '^peers [0-9]*$'
     same kick "$answer $(heard ' ended 7$') $(heard ' ended ')" 'peers 2 1 1'
+    same peers-sends "$(grep -c ' sent [1-9][0-9]* resent [0-9]*$' "$room/out")" 2
     log
     stop stop
     await ' ended 0$' "$room/heard" 2
