@@ -5,7 +5,8 @@ Each capture is made of libenet's datagrams in trials/captured, as classic pcap 
 cooked packets, in either order of bytes. Then bytes are turned, left out, repeated or taken from another one, or lengths are set to odd
 values. `inspect` reads each with and without `--timeline`. It must end by itself with the status 0, 1 or 2 and no word of the language's
 own, within 20 seconds, in at most 64 times the capture's length and 64 MB of memory, and what it draws must be well-formed XML. Each
-hundredth is made long by repetition, once to some 2 MB and once to 4 MB: the second may take at most three times the processor time.
+hundredth is made long by repetition, once to some 2 MB and once to 4 MB: the second may take at most three times the processor time, if it
+is twice as long (damage may cut it).
 
 Prints a line for each capture that fails, which it keeps beside the seed in out/fuzz-captures, then how many were read, and the greatest of
 those quotients. The status is 1 if one failed. It is run by hand: what it draws is random, and it looks at times.
@@ -122,6 +123,16 @@ def main():
     os.makedirs(KEPT, exist_ok=True)
     path, picture = f"{KEPT}/last", f"{KEPT}/last.svg"
     count = failed = 0
+
+    def fail(it, way, why):
+        """Keeps a capture that failed, under a name of its own, and says so."""
+        nonlocal failed
+        failed += 1
+        name = f"{KEPT}/{seed}-{count}-{failed}"
+        with open(name, "wb") as out:
+            out.write(it)
+        print(f"{name}{' --timeline' if way else ''}: {why}", flush=True)
+
     steepest, other, end = 0.0, b"\0", time.time() + seconds
     while time.time() < end:
         link = draw.choice(list(LINKS))
@@ -140,21 +151,20 @@ def main():
         for way in (None, picture):
             times = []
             for it in tries:
+                if os.path.exists(picture):
+                    os.remove(picture)
                 with open(path, "wb") as out:
                     out.write(it)
                 why, taken = inspect(program, path, 64_000_000 + 64 * len(it), way)
                 times.append((taken, len(it)))
                 if why is not None:
-                    failed += 1
-                    os.replace(path, f"{KEPT}/{seed}-{count}")
-                    print(f"{KEPT}/{seed}-{count}{' --timeline' if way else ''}: {why}", flush=True)
-            if len(times) == 2 and times[0][0] > 0.05 and times[1][1] > 1.8 * times[0][1]:
-                quotient = times[1][0] / times[0][0]
+                    fail(it, way, why)
+            # Damage may cut a capture, so what is compared is the time of a byte. One in which little is read ends soon, and tells nothing.
+            if len(times) == 2 and all(taken > 0.01 and length > 1_000_000 for taken, length in times):
+                quotient = 2 * (times[1][0] / times[1][1]) / (times[0][0] / times[0][1])
                 steepest = max(steepest, quotient)
                 if quotient > 3:
-                    failed += 1
-                    os.replace(path, f"{KEPT}/{seed}-{count}")
-                    print(f"{KEPT}/{seed}-{count}: {times}", flush=True)
+                    fail(tries[1], way, times)
     print(f"{count} captures read, {failed} failed; twice as long took at most {steepest:.2f} times as long")
     return failed > 0
 

@@ -42,16 +42,18 @@ WORD = re.compile(r"[A-Za-z_][A-Za-z0-9_'-]*")
 START = "The start: da651a18bcd2843b7b451577cdc4f47cd6cc9a6e"
 
 # What names the modules by which the system is asked for sockets: the one file that may name all of them, the listener of the figures for TCP
-# alone, and the console, which waits for its input and its output.
+# alone, and the console, which waits for its input and its output, and reads its input.
 NETWORK = {
     "crates/enet_wire/src/journaled.rt": None,
     "crates/enet_metrics/src/pages.rt": {"mio::net::TcpListener", "mio::net::TcpStream"},
     "crates/enet_metrics/src/client.rt": {"mio::net::TcpStream"},
     "crates/enet_console/src/outlet.rt": {"libc::net::POLLOUT", "libc::net::poll"},
-    "crates/enet_console/src/input.rt": {"libc::net::POLLIN", "libc::net::poll"},
+    "crates/enet_console/src/input.rt": {"libc::net::POLLIN", "libc::net::poll", "libc::read"},
 }
 # Crates of the kit that have sockets of their own, and what of its std is one.
 WITH_SOCKETS = {"libc", "mio", "tokio", "hyper", "http_server", "os"}
+# Calls of `libc` that take any descriptor by its number, so a socket's, too.
+BY_NUMBER = {"read", "write", "readv", "writev", "pread", "pwrite", "dup", "dup2", "dup3", "close", "fcntl", "ioctl", "sendfile", "splice"}
 SOCKETS = {"UdpSocket", "TcpStream", "TcpListener", "UnixDatagram", "UnixStream", "UnixListener", "*"}
 
 
@@ -329,10 +331,12 @@ def reached(code):
 
 
 def is_socket(path):
-    """Whether a path leads to sockets: a module of the kit that has them, a whole crate, or a socket of std."""
+    """Whether a path leads to sockets: a module of the kit that has them, a call that takes a descriptor, a whole crate, or a socket of std."""
     parts = path.removeprefix("::").split("::")
     if parts[0] == "std":
         return parts == ["std"] or parts[1] in ("net", "os", "*") and (parts[-1] == "net" or not SOCKETS.isdisjoint(parts))
+    if parts[0] == "libc" and not BY_NUMBER.isdisjoint(parts[1:]):
+        return True
     return parts[0] in WITH_SOCKETS and (len(parts) == 1 or parts[1] in ("net", "*") or parts[0] not in ("libc", "mio"))
 
 

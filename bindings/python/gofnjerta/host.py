@@ -517,10 +517,11 @@ class Host:
         self, peers: Iterable[Peer], channel: int, data: bytes, delivery: Delivery = Delivery.RELIABLE
     ) -> List[int]:
         """The same, and returns what each peer's submission answered, in their order: 0, or the number of what `submit` raises (`Why`), E2
-        and E3 too. It raises only E1, if there is no memory for the copy, and E5 above `MAX_PACKET` bytes: then nobody gets it."""
-        names = [CPeer(*peer) for peer in peers]
+        and E3 too. It raises E1, if there is no memory for the copy, E5 above `MAX_PACKET` bytes, E4 if the channel isn't from 0 to 255, and
+        Closed: then nobody gets it."""
         if not 0 <= channel <= 255:
-            return [int(Why.NO_SUCH_CHANNEL)] * len(names)
+            raise Error(Why.NO_SUCH_CHANNEL)
+        names = [CPeer(*peer) for peer in peers]
         array, answers = (CPeer * len(names))(*names), (ctypes.c_uint32 * len(names))()
         _check(lib.gofnjerta_broadcast_each(self._ref, array, len(names), channel, delivery, bytes(data), len(data), answers))
         return list(answers)
