@@ -421,6 +421,24 @@ def crowds(script):
     script.row("connect-after-all-talked", kind="stranger")
 
 
+def small_hosts(script):
+    """What hosts of up to 64 slots are asked behind each datagram once their clients sent more than four in a millisecond: all slots stay awake."""
+    for slots in (32, 64):
+        script.open(slots, 1, secret=0)
+        script.do(f"join {slots - 5} 1")
+        for again in range(8):
+            for number in range(slots - 5):
+                script.do(f"from {number}", "to " + ping(2 + again))
+            script.do("play each")
+        for number in range(slots - 5):
+            script.do(f"from {number}", "to " + ping(10))
+        script.row(f"pings-of-{slots}-again")
+        script.do("at 5000", *["raw +0"] * 50)
+        script.row(f"empty-at-{slots}-again", kind="stranger")
+        script.do(*[line for number in range(3) for line in (f"at {6000 + number}", "raw " + connect(6000 + number))])
+        script.row(f"connect-at-{slots}-again", kind="stranger")
+
+
 def of_address(script):
     """CONNECTs of an address with 1,000 of 4,095 slots, where it may have 8 (half-open clients, or connected ones), and where it may have all."""
     script.open(PEERS, 1)
@@ -464,7 +482,7 @@ def look(script):
 
 
 ALL = [strangers, crowded, newcomers, half_open, short_of_room, give_way, in_order, held, kept, pieces, full, full_of_channels]
-ALL += [acknowledged, many_channels, much_waits, crowds, of_address, ended, bandwidths, look]
+ALL += [acknowledged, many_channels, much_waits, crowds, small_hosts, of_address, ended, bandwidths, look]
 
 
 def written(chosen):
