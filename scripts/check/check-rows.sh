@@ -8,7 +8,7 @@
 # are the lessons of docs/lessons, of whose pages each shown line must stand there. With `--explain` explained.lab must be told as in
 # explained.out, each listed script and lesson must have the same answers below its lines, and of each line of expected.txt that must be
 # expected which stands behind it. Command lines are tried too; those of `demo` take port
-# 47100, which no other socket may have. The last line is 'N passed, M failed'; the status is 1 where one fails. The program is the one that
+# 47100, and wait where another socket has it. The last line is 'N passed, M failed'; the status is 1 where one fails. The program is the one that
 # `rt ci`, or `rt run` in crates/enet_relay, leaves; another can be named as argument.
 cd "$(dirname "$0")/../.." || exit 1
 program=${1:-crates/enet_relay/out/enet_relay}
@@ -22,7 +22,7 @@ rows=scripts/rows
 script() {
     local name=$1 lab=$2 out=$3 err=$4 wanted=$5
     [ -r "$lab" ] && [ -r "$out" ] || { fail "$name" "$lab or $out is missing"; return; }
-    timeout 120 "$program" lab $lab_options < "$lab" > "$room/out" 2> "$room/err"
+    timeout 600 "$program" lab $lab_options < "$lab" > "$room/out" 2> "$room/err"
     local status=$?
     cmp -s "$out" "$room/out" || { differ "$name" 'standard output' "$out" "$room/out"; return; }
     cmp -s "$err" "$room/err" || { differ "$name" 'standard error' "$err" "$room/err"; return; }
@@ -79,7 +79,7 @@ explained() {
 }
 
 answers_below() {
-    timeout 120 "$program" lab --explain < "$2" 2> "$room/err" | grep -av '^> \|^  ' > "$room/out"
+    timeout 600 "$program" lab --explain < "$2" 2> "$room/err" | grep -av '^> \|^  ' > "$room/out"
     cmp -s "$3" "$room/out" && passed=$((passed + 1)) || differ "$1 explained" 'what is answered' "$3" "$room/out"
 }
 
@@ -88,7 +88,7 @@ expectations() {
     local before line wanted
     while IFS=$'\t' read -r before line wanted; do
         printf "%s\n%b\n" "$before" "$line" > "$room/expected.lab"
-        timeout 120 "$program" lab --explain < "$room/expected.lab" > "$room/out" 2> "$room/err"
+        timeout 600 "$program" lab --explain < "$room/expected.lab" > "$room/out" 2> "$room/err"
         [ "$(<"$room/err")" = $'E15 BadScript line 2\n'"expected $wanted" ] && passed=$((passed + 1)) \
             || differ_text "expected of '$line'" 'standard error' $'E15 BadScript line 2\n'"expected $wanted" "$(<"$room/err")"
     done < "$rows/expected.txt"
@@ -104,7 +104,7 @@ at_once() {
     else
         return
     fi
-    timeout 120 "$lists" < "$room/list" > "$room/out" 2> "$room/err"
+    timeout 600 "$lists" < "$room/list" > "$room/out" 2> "$room/err"
     [ "$(<"$room/out")" = 'as expected, 0 growths refused' ] || { fail "$1 at once" "$(head -c 200 "$room/out" "$room/err")"; return; }
     passed=$((passed + 1))
 }
@@ -124,7 +124,7 @@ unreadable_lines() {
 command_line() {
     local name=$1 wanted=$2 err=$3 input=$4 output=$5
     shift 5
-    timeout 120 "$program" "$@" < "$input" > "$output" 2> "$room/err"
+    timeout 600 "$program" "$@" < "$input" > "$output" 2> "$room/err"
     local status=$?
     [ "$(<"$room/err")" = "$err" ] || { differ_text "$name" 'standard error' "$err" "$(<"$room/err")"; return; }
     [ "$status" -eq "$wanted" ] || { fail "$name" "status $status where $wanted is wanted"; return; }
@@ -143,24 +143,50 @@ sized() {
 
 # A command line of `serve` or `demo`: its name here, the wanted status, standard error and standard output, and its words.
 service_line() {
-    local name=$1 wanted=$2 err=$3 out=$4
-    shift 4
-    timeout 120 "$program" "$@" > "$room/out" 2> "$room/err"
-    local status=$?
+    timeout 600 "$program" "${@:5}" > "$room/out" 2> "$room/err"
+    service_told "$?" "${@:1:4}"
+}
+
+# The same of a `demo` that starts a server, at port 47100. Sockets that ask for no port may get that one: where one has it, it waits.
+demo_line() {
+    local status
+    for _ in {1..60}; do
+        timeout 600 "$program" "${@:5}" > "$room/out" 2> "$room/err"
+        status=$?
+        [ "$status" -eq 1 ] && [ "$(<"$room/err")" = 'E14 WireFault' ] || break
+        echo "again: $1, since port 47100 was taken"
+        sleep 1
+    done
+    service_told "$status" "${@:1:4}"
+}
+
+# Whether a service that ended with status $1 told what it should: its name here, the wanted status, standard error and standard output.
+service_told() {
+    local status=$1 name=$2 wanted=$3 err=$4 out=$5
     [ "$(sized "$room/err")" = "$err" ] || { differ_text "$name" 'standard error' "$err" "$(sized "$room/err")"; return; }
     [ "$(<"$room/out")" = "$out" ] || { differ_text "$name" 'standard output' "$out" "$(<"$room/out")"; return; }
     [ "$status" -eq "$wanted" ] || { fail "$name" "status $status where $wanted is wanted"; return; }
     passed=$((passed + 1))
 }
 
-# Starts `serve` with these words on the port `port`, its outputs as $room/first and $room/first.err, and waits until it has the port.
+# Starts `serve` with these words on the port `port`, its outputs as $room/first and $room/first.err, and waits until it listens. The status is 1
+# where it ended before.
 start_service() {
     "$program" serve --port "$port" "$@" > "$room/first" 2> "$room/first.err" &
     first=$!
-    for _ in {1..100}; do
-        grep -q ":$(printf '%04X' "$port") " /proc/net/udp && return
+    until grep -q '^listening at' "$room/first.err"; do
+        kill -0 "$first" 2> "$room/gone" || return 1
         sleep 0.1
     done
+}
+
+# Waits until the command $@ succeeds, for a minute at most.
+await() {
+    for _ in {1..600}; do
+        "$@" && return
+        sleep 0.1
+    done
+    return 1
 }
 
 # Ends it.
@@ -285,7 +311,8 @@ services() {
     goes_on forever-in-one-thread 1 --threads 1
     goes_on forever-in-two-threads 2 --threads 2
     goes_on control-without-input 1 --control
-    goes_on metrics 2 --metrics 127.0.0.1:47109
+    free_port
+    goes_on metrics 2 --metrics "127.0.0.1:$port"
     obeys control
     obeys control-in-two-threads --threads 2
     goes_on_unread unread
@@ -294,7 +321,7 @@ services() {
 
 # The receive buffer is as small as it is asked for; Linux tells twice that.
 small_buffer() {
-    timeout 120 "$program" serve --port "$port" --turns 2 --receive-buffer 65536 > "$room/out" 2> "$room/err"
+    timeout 600 "$program" serve --port "$port" --turns 2 --receive-buffer 65536 > "$room/out" 2> "$room/err"
     [ "$(<"$room/err")" = "listening at 127.0.0.1:$port, 32 peers, 1056 slots, 2 channels, receive buffer 131072 bytes" ] || { fail "$1" "$(head -c 200 "$room/err")"; return; }
     passed=$((passed + 1))
 }
@@ -304,11 +331,19 @@ goes_on() {
     local name=$1
     free_port
     start_service --forever "${@:3}"
+    await has_threads "$2" || fail "$name" "it serves in $(threads) threads where $2 are wanted"
     sleep 2
-    kill -0 "$first" 2> "$room/gone" || fail "$name" 'it ended by itself'
-    [ "$(find "/proc/$first/task" -mindepth 1 -maxdepth 1 | wc -l)" -eq "$2" ] || fail "$name" "it doesn't serve in $2 threads"
+    kill -0 "$first" 2> "$room/gone" && has_threads "$2" || fail "$name" 'it ended by itself'
     end_service
     [ ! -s "$room/first" ] && [ "$(sized "$room/first.err")" = "$(listening)" ] || fail "$name" "it wrote: $(head -c 200 "$room/first" "$room/first.err")"
+}
+
+# How many threads the service has, and whether these are $1.
+threads() {
+    find "/proc/$first/task" -mindepth 1 -maxdepth 1 2> "$room/gone" | wc -l
+}
+has_threads() {
+    [ "$(threads)" -eq "$1" ]
 }
 
 # `serve --forever --control` with the words behind $1, its name here, answers each line, and ends with `stop` and with no other.
@@ -322,7 +357,7 @@ obeys() {
         printf '\nstop'
         sleep 1
         printf '\n'
-    } | timeout 20 "$program" serve --port "$port" --forever --control "${@:2}" > "$room/out" 2> "$room/err"
+    } | timeout 120 "$program" serve --port "$port" --forever --control "${@:2}" > "$room/out" 2> "$room/err"
     status=${PIPESTATUS[1]}
     printf '%s\n' 'peers 0' 'not understood' 'no peer 0.0' 'not understood' 'banned 127.0.0.9 kicked 0' 'not understood' \
         'unbanned 127.0.0.9' 'not understood' 'said to 0' 'log on' 'not understood' 'log off' \
@@ -340,27 +375,42 @@ goes_on_unread() {
     mkfifo "$room/unread"
     exec 7<> "$room/unread"
     head -c 65536 /dev/zero >&7
-    { printf 'peers\nstop\n'; sleep 8; } | timeout 20 "$program" serve --port "$port" --forever --control >&7 2> "$room/err"
+    { printf 'peers\nstop\n'; sleep 8; } | timeout 120 "$program" serve --port "$port" --forever --control >&7 2> "$room/err"
     [ "${PIPESTATUS[1]}" -eq 0 ] && passed=$((passed + 1)) || fail "$name" 'it was held up by its standard output'
     exec 7>&-
     rm "$room/unread"
 }
 
+# Whether the service has taken all lines of descriptor 8, and each of its threads sleeps.
+is_idle() {
+    ! read -r -t 0 <&8 && [ -z "$(sed 's/.*) //' "/proc/$first/task"/*/stat | grep -v '^S ')" ]
+}
+
 # Answers for which its standard output has no reader left are counted, and the next reader is told how many there were.
 counts_unread() {
-    local name=$1 status
+    local name=$1 status reader
     free_port
-    mkfifo "$room/left"
+    mkfifo "$room/left" "$room/lines"
+    exec 8<> "$room/lines"
     : < "$room/left" &
-    { sleep 1; printf 'peers\npeers\n'; sleep 2; printf 'stop\n'; } |
-        timeout 20 "$program" serve --port "$port" --forever --control > "$room/left" 2> "$room/err" &
-    first=$!
-    sleep 2
-    timeout 10 cat "$room/left" > "$room/out"
-    wait "$first"
+    reader=$!
+    timeout 120 "$program" serve --port "$port" --forever --control <&8 > "$room/left" 2> "$room/err" &
+    wait "$reader"
+    await grep -q '^listening at' "$room/err"
+    first=$(pgrep -P $!)
+    printf 'peers\npeers\n' >&8
+    for _ in 1 2 3; do
+        await is_idle
+        sleep 0.3
+    done
+    exec 7< "$room/left"
+    echo stop >&8
+    timeout 60 cat <&7 > "$room/out"
+    wait $!
     status=$?
     first=
-    rm "$room/left"
+    exec 7<&- 8>&-
+    rm "$room/left" "$room/lines"
     [ "$status" -eq 0 ] && [ "$(<"$room/out")" = $'2 more\nstopping' ] && passed=$((passed + 1)) || fail "$name" "status $status, it answered: $(head -c 200 "$room/out")"
 }
 
@@ -379,16 +429,16 @@ demo_prints() {
 demonstrations() {
     local clients own='a server in this process' there='a server that is there'
     for clients in 1 2 8; do
-        service_line "demo-$clients" 0 '' "$(demo_prints "$clients" $((3 * (clients - 1))) done 47100 "$own")" demo --clients "$clients" --turns 1000
+        demo_line "demo-$clients" 0 '' "$(demo_prints "$clients" $((3 * (clients - 1))) done 47100 "$own")" demo --clients "$clients" --turns 1000
     done
-    service_line demo-no-turn 3 '' "$(demo_prints 2 0 late 47100 "$own")" demo --turns 0
+    demo_line demo-no-turn 3 '' "$(demo_prints 2 0 late 47100 "$own")" demo --turns 0
     port=47100
-    start_service --turns 1000000
+    await start_service --turns 1000000 || fail demo-server-port-taken "$(<"$room/first.err")"
     service_line demo-server-port-taken 1 'E14 WireFault' "$(demo_prints 2 0 '' 47100 "$own" | head -n 2)" demo
     end_service
-    port=47101
+    free_port
     start_service --turns 1000000
-    service_line demo-beside-a-server 0 '' "$(demo_prints 2 3 done 47100 "$own")" demo
+    demo_line demo-beside-a-server 0 '' "$(demo_prints 2 3 done 47100 "$own")" demo
     for clients in 1 2 8; do
         service_line "demo-$clients-at-a-server" 0 '' "$(demo_prints "$clients" $((3 * (clients - 1))) done "$port" "$there")" \
             demo --clients "$clients" --port "$port"

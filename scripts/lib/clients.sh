@@ -21,14 +21,26 @@ build_clients() {
     cc -std=gnu11 -O2 -Wall -Wextra -shared -fPIC -o "$1/calls.so" clients/calls.c
 }
 
-# The next free UDP port, into `port`. The range lies below the ports that sockets get which ask for none.
-port=$((20000 + RANDOM % 8000))
+# The next port that neither UDP nor TCP has taken, into `port`. Each script has a thousand of its own, so that none that runs beside it takes one
+# between the look and the start of a server. All lie below the ports that sockets get which ask for none; check-hostile-server.py has 29000 and on.
+case ${0##*/} in
+    check-rows.sh) first_port=21000 ;;
+    check-c.sh) first_port=22000 ;;
+    check-bindings.sh) first_port=23000 ;;
+    check-clients.sh) first_port=24000 ;;
+    check-operator.sh) first_port=25000 ;;
+    check-admission.sh) first_port=26000 ;;
+    check-metrics.sh) first_port=27000 ;;
+    check-deploy.sh) first_port=28000 ;;
+    *) first_port=20000 ;;
+esac
+port=$((first_port + RANDOM % 1000))
 free_port() {
     local taken
-    taken=$(awk 'FNR > 1 { sub(/.*:/, "", $2); print $2 }' /proc/net/udp /proc/net/udp6 2> /dev/null)
-    port=$((port + 1))
-    while grep -q "^$(printf '%04X' "$port")$" <<< "$taken"; do
-        port=$((port + 1))
+    taken=$(awk 'FNR > 1 { sub(/.*:/, "", $2); print $2 }' /proc/net/udp /proc/net/udp6 /proc/net/tcp /proc/net/tcp6 2> /dev/null)
+    while :; do
+        port=$((first_port + (port + 1) % 1000))
+        grep -q "^$(printf '%04X' "$port")$" <<< "$taken" || return 0
     done
 }
 
