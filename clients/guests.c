@@ -1,6 +1,7 @@
 // guests PORT AFTER: two clients of the reference library at the relay at PORT of 127.0.0.1 talk to one another, in turns, a reliable packet
 // each in 20 milliseconds. Once each got ten of the other's they write `talking`. Where AFTER is `told` they go on until both were told that the
-// relay ends, which must come within 3 seconds of a packet or sooner, since ENet itself ends a connection that stands still only after 5;
+// relay ends, which must come within 3 seconds of a packet or sooner, since ENet itself ends a connection that stands still only after 5: in
+// seconds in which this program goes on, so that a machine that stands still does no harm;
 // where it is a number, until each got so many packets more, and they leave with the word 5. Status 0 where that came; else it is told on standard error what went wrong,
 // with status 2 where it came too late, and status 1 where anything else is amiss.
 #include <enet/enet.h>
@@ -13,18 +14,19 @@
 enum { AT_FIRST = 10 };
 
 // In seconds: what hasn't come after LIMIT is too late.
-static const double LIMIT = 40, PAUSE = 0.02, TOLD_WITHIN = 3;
+static const double LIMIT = 600, PAUSE = 0.02, TOLD_WITHIN = 3, ROUND = 0.1;
 
 typedef struct Guest {
     ENetHost *host;
     ENetPeer *peer;
     bool is_there, is_told;
-    double heard_at; // when the last packet came
+    double heard_at; // when the last packet came, by `awake`
     double says_at;  // when it says something next
     int got;
 } Guest;
 
 static Guest guests[2];
+static double awake; // the time of all rounds so far, of each as much as ROUND at most
 
 static void join(Guest *guest, const ENetAddress *relay)
 {
@@ -41,11 +43,11 @@ static void hear(Guest *guest, bool may_end)
         if (event.type == ENET_EVENT_TYPE_CONNECT) {
             guest->is_there = true;
         } else if (event.type == ENET_EVENT_TYPE_RECEIVE) {
-            guest->heard_at = now();
+            guest->heard_at = awake;
             guest->got++;
             enet_packet_destroy(event.packet);
         } else if (event.type == ENET_EVENT_TYPE_DISCONNECT) {
-            double since = now() - guest->heard_at;
+            double since = awake - guest->heard_at;
             if (!may_end || since > TOLD_WITHIN)
                 give_up("guests: a connection ended after %d packets, %.1f seconds after the last", guest->got, since);
             guest->is_told = true;
@@ -84,9 +86,11 @@ int main(int count, char **words)
         give_up("guests: the library can't be used");
     for (int i = 0; i < 2; i++)
         join(&guests[i], &relay);
-    double begun = now();
+    double begun = now(), last = begun;
     guests[1].says_at = begun + PAUSE / 2;
     while (now() - begun < LIMIT) {
+        awake += now() - last < ROUND ? now() - last : ROUND;
+        last = now();
         for (int i = 0; i < 2; i++)
             hear(&guests[i], is_talking && until_told);
         for (int i = 0; i < 2; i++)

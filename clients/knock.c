@@ -1,9 +1,11 @@
-// knock PORT ADDRESS COUNT SECONDS [mtu] [told]: so many clients of the reference library, each a host of its own at ADDRESS (127.0.0.1 and
+// knock PORT ADDRESS COUNT SECONDS [mtu] [told] [in]: so many clients of the reference library, each a host of its own at ADDRESS (127.0.0.1 and
 // its like), ask the server at PORT of 127.0.0.1 for a connection, and stay. Prints after so many seconds how many are connected, and how
 // many were told the end of their connection before; with `mtu` also the mtu of the first one's connection. With `told` also how many were
 // told that the server is full, how many of these by the first datagram behind the answer, for how many milliseconds a client believed at
-// most that it is connected, and how many believed it for more than 5 seconds. Then they leave, and wait a moment for the answers.
+// most that it is connected, and how many believed it for more than 5 seconds. Then they leave, and wait a moment for the answers. With `in`
+// the seconds begin when all are connected, or after a minute. SIGTERM ends them before.
 #include <enet/enet.h>
+#include <signal.h>
 
 #include "common.h"
 
@@ -20,6 +22,13 @@ typedef struct Client {
 } Client;
 
 static Client clients[MOST];
+static volatile sig_atomic_t is_over;
+
+static void end_waiting(int signal)
+{
+    (void)signal;
+    is_over = 1;
+}
 
 // Looks at a datagram before the library does, which handles it then.
 static int ENET_CALLBACK look(ENetHost *host, ENetEvent *event)
@@ -77,13 +86,19 @@ static void hear(Client *client)
     }
 }
 
-static void hear_all(int count, double seconds)
+static void hear_once(int count)
 {
-    for (double begun = now(); now() < begun + seconds;) {
-        for (int i = 0; i < count; i++)
-            hear(&clients[i]);
-        nanosleep(&(struct timespec){ .tv_nsec = 2000000 }, NULL);
-    }
+    for (int i = 0; i < count; i++)
+        hear(&clients[i]);
+    nanosleep(&(struct timespec){ .tv_nsec = 2000000 }, NULL);
+}
+
+static int all_in(int count)
+{
+    int in = 0;
+    for (int i = 0; i < count; i++)
+        in += clients[i].is_connected;
+    return in == count;
 }
 
 // What came of the refusals.
@@ -102,17 +117,30 @@ static void tell(int many)
     printf("%d told full %d at once longest %.0f ms long %d\n", told, at_once, 1e3 * longest, long_ones);
 }
 
+static int has(int count, char **words, const char *word)
+{
+    for (int i = 5; i < count; i++)
+        if (strcmp(words[i], word) == 0)
+            return 1;
+    return 0;
+}
+
 int main(int count, char **words)
 {
     ENetAddress server = { .port = (enet_uint16)number_of(count, words, 1, 1, 65535) }, at = { .port = 0 };
     int many = (int)number_of(count, words, 3, 1, MOST), connected = 0, ended = 0;
-    double seconds = (double)number_of(count, words, 4, 1, 600);
+    double seconds = (double)number_of(count, words, 4, 0, 600);
     enet_address_set_host_ip(&server, "127.0.0.1");
     if (enet_initialize() != 0 || enet_address_set_host_ip(&at, words[2]) != 0)
         give_up("knock: the library can't be used, or there is no such address");
     for (int i = 0; i < many; i++)
         begin(&clients[i], &at, &server);
-    hear_all(many, seconds);
+    signal(SIGTERM, end_waiting);
+    if (has(count, words, "in"))
+        for (double begun = now(); now() < begun + 60 && !is_over && !all_in(many);)
+            hear_once(many);
+    for (double begun = now(); now() < begun + seconds && !is_over;)
+        hear_once(many);
     for (int i = 0; i < many; i++) {
         connected += clients[i].is_connected;
         ended += clients[i].was_ended;
@@ -127,6 +155,7 @@ int main(int count, char **words)
             tell(many);
     }
     fflush(stdout);
-    hear_all(many, 0.3);
+    for (double begun = now(); now() < begun + 0.3;)
+        hear_once(many);
     return 0;
 }

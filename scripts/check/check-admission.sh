@@ -15,8 +15,8 @@ begin() {
     exec 8<> "$room/control"
     "$program" serve --port "$port" --forever --log --control --threads "$threads" --queue-capacity 1024 "$@" <&8 > "$room/out" 2> "$room/log" &
     relay=$!
-    for _ in {1..100}; do
-        grep -qs listening "$room/log" && return
+    until grep -qs '^listening at' "$room/log"; do
+        kill -0 "$relay" 2> "$room/gone" || { fail begin "$(<"$room/log")"; return; }
         sleep 0.1
     done
 }
@@ -28,15 +28,40 @@ finish() {
     exec 8>&-
 }
 
-# Clients at the address $1, $2 of them, for $3 seconds, as background job; what they say is in the file of the name $4. $5 may be `mtu`.
+# Clients at the address $1, $2 of them, for $3 seconds, as background job; what they say is in the file of the name $4. Behind it may stand `mtu`,
+# and `in`: then the seconds begin when all are in.
 knock() {
-    "$room/knock" "$port" "$1" "$2" "$3" ${5:+"$5"} > "$room/$4" 2>&1 &
+    "$room/knock" "$port" "$1" "$2" "$3" "${@:5}" > "$room/$4" 2>&1 &
     knocking+=($!)
 }
 
 await() {
     wait "${knocking[@]}"
     knocking=()
+}
+
+# The same of the clients that were started last; `leave` has them leave before.
+await_last() {
+    wait "${knocking[-1]}"
+    unset 'knocking[-1]'
+}
+
+leave() {
+    kill "${knocking[-1]}"
+    await_last
+}
+
+# CONNECTs that nobody stands behind, $1 a second from 127.0.0.9, until the function is called with `end`.
+forge() {
+    if [ "$1" = end ]; then
+        kill "$forging"
+        wait "$forging" 2> "$room/gone"
+        forging=
+        return
+    fi
+    "$room/forge" "$port" "$1" 600 127.0.0.9 > "$room/forged" &
+    forging=$!
+    sleep 1
 }
 
 # Whether the file $2 says $3; the case is $1.
@@ -50,25 +75,40 @@ says() {
 
 # Waits until standard output has a line like $1.
 answered() {
-    for _ in {1..50}; do
+    for _ in {1..600}; do
         grep -q "$1" "$room/out" && return
         sleep 0.1
     done
     fail "$2" "no answer like $1: $(<"$room/out")"
 }
 
-# How many clients at the address $2 the server has; the case is $1.
-has() {
+# How many clients at the address $1 the server has, into `there`.
+look() {
     local before answer
     before=$(wc -l < "$room/out")
     echo peers >&8
-    for _ in {1..50}; do
+    for _ in {1..600}; do
         answer=$(tail -n "+$((before + 1))" "$room/out")
         grep -q '^peers ' <<< "$answer" && break
         sleep 0.1
     done
-    answer=$(grep -c " at ${2//./\\.}:" <<< "$answer")
-    if [ "$answer" = "$3" ]; then passed=$((passed + 1)); else fail "$1 in $threads threads" "$answer at $2 where $3 are wanted"; fi
+    there=$(grep -c " at ${1//./\\.}:" <<< "$answer")
+}
+
+# Whether the server has $3 clients at the address $2; the case is $1.
+has() {
+    look "$2"
+    if [ "$there" = "$3" ]; then passed=$((passed + 1)); else fail "$1 in $threads threads" "$there at $2 where $3 are wanted"; fi
+}
+
+# Waits until it has so many.
+comes_to_have() {
+    for _ in {1..300}; do
+        look "$2"
+        [ "$there" != "$3" ] || break
+        sleep 0.2
+    done
+    has "$@"
 }
 
 # Two of an address are in at most, whatever their ports and however many ask at once; another address has its own two. (One that was answered
@@ -76,23 +116,28 @@ has() {
 # once both have gone, another gets in.
 per_address() {
     begin --per-address 2
-    knock 127.0.0.1 5 3 five
-    knock 127.0.0.2 2 5 two
-    sleep 2
-    has per-address-at-once 127.0.0.1 2
-    has per-address-at-once 127.0.0.2 2
-    sleep 2
-    knock 127.0.0.1 1 4 first
-    sleep 0.3
-    knock 127.0.0.1 1 4 second
-    sleep 0.3
+    knock 127.0.0.2 2 600 two
+    knock 127.0.0.1 5 600 five
+    comes_to_have per-address-at-once 127.0.0.1 2
+    comes_to_have per-address-at-once 127.0.0.2 2
+    sleep 1
+    has per-address-no-more 127.0.0.1 2
+    has per-address-no-more 127.0.0.2 2
+    leave
+    comes_to_have per-address-gone 127.0.0.1 0
+    knock 127.0.0.1 1 600 first
+    comes_to_have per-address-first 127.0.0.1 1
+    knock 127.0.0.1 1 600 second
+    comes_to_have per-address-second 127.0.0.1 2
     knock 127.0.0.1 3 2 late
-    await
+    await_last
+    says per-address late '0 connected 0 ended'
+    for _ in first second two; do leave; done
     says per-address two '2 connected 0 ended'
     says per-address first '1 connected 0 ended'
     says per-address second '1 connected 0 ended'
-    says per-address late '0 connected 0 ended'
-    knock 127.0.0.1 1 2 again
+    comes_to_have per-address-all-gone 127.0.0.1 0
+    knock 127.0.0.1 1 0 again in
     await
     says per-address-again again '1 connected 0 ended'
     finish
@@ -101,56 +146,83 @@ per_address() {
 # CONNECTs that are forged from an address, fewer than it may have within a round trip, keep nobody out there.
 forged_from_its_own() {
     begin --per-address 4
-    "$room/forge" "$port" 20 4 127.0.0.9 > "$room/forged" &
-    sleep 1
-    knock 127.0.0.9 1 2 own
+    forge 20
+    knock 127.0.0.9 1 2 own in
     await
     says forged-from-its-own own '1 connected 0 ended'
-    wait %?forge
+    forge end
     finish
 }
 
 # A flood from one address takes two slots of 16: who comes from elsewhere gets in.
 forged_from_one() {
     begin --peers 16 --per-address 2
-    "$room/forge" "$port" 500 6 127.0.0.9 > "$room/forged" &
-    sleep 1
-    knock 127.0.0.1 2 3 honest
-    knock 127.0.0.2 2 3 honest-too
+    forge 500
+    knock 127.0.0.1 2 3 honest in
+    knock 127.0.0.2 2 3 honest-too in
     await
     says forged-from-one honest '2 connected 0 ended'
     says forged-from-one honest-too '2 connected 0 ended'
-    wait %?forge
+    forge end
     finish
 }
 
-# Whether of the clients whose words are in the files from $4 on at least $2 and at most $3 are connected; the case is $1.
+# Whether of the clients whose words are in the files from $5 on as many are connected as $3 in each second allow, at least those of one second,
+# where they knocked for $2 milliseconds; the case is $1. Each asks at once, after half a second and after one and a half, so that two and a
+# half seconds have three in which it asks. $4 is how many asked.
 are_in() {
-    local in
-    in=$(awk '{ in_all += $1 } END { print in_all + 0 }' "${@:4}")
-    if [ "$in" -ge "$2" ] && [ "$in" -le "$3" ]; then passed=$((passed + 1)); else fail "$1 in $threads threads" "$in got in"; fi
+    local in seconds=3
+    [ "$2" -lt 2500 ] || seconds=$(($2 / 1000 + 2))
+    in=$(awk '{ in_all += $1 } END { print in_all + 0 }' "${@:5}")
+    if [ "$in" -ge "$3" ] && [ "$in" -le $(($3 * seconds)) ] && [ "$in" -le "$4" ]; then
+        passed=$((passed + 1))
+    else
+        fail "$1 in $threads threads" "$in got in within $2 ms"
+    fi
+}
+
+milliseconds() {
+    echo $((${EPOCHREALTIME/[.,]/} / 1000))
+}
+
+# Waits until the server has as many clients at addresses like $2 as $3, and until two seconds have passed since $1, by `milliseconds`.
+two_seconds() {
+    for _ in {1..600}; do
+        look "$2"
+        [ "$there" -lt "$3" ] || [ $(($(milliseconds) - $1)) -lt 2000 ] || break
+        sleep 0.1
+    done
+    while [ $(($(milliseconds) - $1)) -lt 2000 ]; do sleep 0.05; done
 }
 
 # Four tries of an address within a second pass, of another four, too; of those that don't, four pass by a later try.
 connects_per_address() {
+    local begun
     begin --connects-per-address 4
-    knock 127.0.0.1 20 2 many
-    knock 127.0.0.2 4 2 few
-    await
+    begun=$(milliseconds)
+    knock 127.0.0.1 20 600 many
+    knock 127.0.0.2 4 0 few in
+    await_last
+    two_seconds "$begun" 127.0.0.1 4
+    leave
     says connects-per-address few '4 connected 0 ended'
-    are_in connects-per-address 4 12 "$room/many"
+    are_in connects-per-address $(($(milliseconds) - begun)) 4 20 "$room/many"
     finish
 }
 
 # Of 20 tries at once three pass within each second, whoever they are.
 connects_per_second() {
+    local i begun
     begin --connects-per-second 3
-    local i
+    begun=$(milliseconds)
     for i in {1..20}; do
-        knock "127.0.1.$i" 1 2 "knock-$i"
+        knock "127.0.1.$i" 1 600 "knock-$i"
     done
+    two_seconds "$begun" '127.0.1.[0-9]*' 3
+    kill "${knocking[@]}"
+    begun=$(($(milliseconds) - begun))
     await
-    are_in connects-per-second 3 9 "$room"/knock-*
+    are_in connects-per-second "$begun" 3 20 "$room"/knock-*
     finish
 }
 
@@ -159,18 +231,20 @@ ban() {
     begin --ban 127.0.0.3 --ban 127.0.0.4
     knock 127.0.0.3 2 2 banned
     knock 127.0.0.4 1 2 banned-too
-    knock 127.0.0.5 1 2 other
+    knock 127.0.0.5 1 0 other in
     await
     says ban banned '0 connected 0 ended'
     says ban banned-too '0 connected 0 ended'
     says ban other '1 connected 0 ended'
     echo 'unban 127.0.0.3' >&8
     answered '^unbanned 127.0.0.3$' unban
-    knock 127.0.0.3 2 6 unbanned
-    sleep 3
+    knock 127.0.0.3 2 600 unbanned
+    comes_to_have unbanned 127.0.0.3 2
     echo 'ban 127.0.0.3' >&8
     answered '^banned 127.0.0.3 kicked 2$' ban
-    await
+    comes_to_have banned-at-once 127.0.0.3 0
+    sleep 1
+    leave
     says unban-and-ban unbanned '0 connected 2 ended'
     knock 127.0.0.3 1 2 banned-again
     await
@@ -181,7 +255,7 @@ ban() {
 # A client that asks for 1,392 bytes is granted those of `--mtu`.
 mtu() {
     begin --mtu 600
-    knock 127.0.0.1 1 2 small mtu
+    knock 127.0.0.1 1 0 small mtu in
     await
     says mtu small $'1 connected 0 ended\nmtu 600'
     finish
@@ -192,7 +266,7 @@ longest_packet() {
     local length
     begin --max-packet 1000
     for length in 1000 1001; do
-        timeout 20 "$room/steady" "$port" 2 1 "$length" 0 1 > "$room/packets-$length" 2>&1
+        timeout 120 "$room/steady" "$port" 2 1 "$length" 0 1 > "$room/packets-$length" 2>&1
     done
     grep -Eq '^lost 0 and 0, came ([1-9][0-9]*) of \1 and [1-9]' "$room/packets-1000" && passed=$((passed + 1)) ||
         fail "longest-packet in $threads threads" "$(<"$room/packets-1000")"
@@ -204,7 +278,7 @@ longest_packet() {
 # With none of these options all get in.
 no_rule() {
     begin
-    knock 127.0.0.1 20 2 twenty
+    knock 127.0.0.1 20 0 twenty in
     await
     says no-rule twenty '20 connected 0 ended'
     finish
@@ -212,6 +286,7 @@ no_rule() {
 
 room=$(mktemp -d) || exit 1
 relay=
+forging=
 knocking=()
 trap 'kill $relay $(jobs -p) 2> /dev/null; wait; rm -rf "$room"' EXIT
 mkfifo "$room/control"
