@@ -8,7 +8,7 @@
 
 enum { MOST = 64, AT_ONCE = 40 };
 
-static const double PAUSE = 0.002, LIMIT = 20, SILENCE = 1.5, AFTERWARDS = 0.5;
+static const double PAUSE = 0.002, LIMIT = 60, SILENCE = 1.5, AFTERWARDS = 0.5;
 
 static ENetHost *hosts[MOST + 1];
 static ENetPeer *peers[MOST + 1];

@@ -1,19 +1,27 @@
 // tally PORT CLIENTS SECONDS: so many clients of the reference library talk through the relay at PORT of 127.0.0.1 and count what they send and
 // take. The first asks for one channel, the others for two. Once all are connected it writes `talking`; then each sends a reliable packet on
-// channel 0 every half second, and the second 20 packets in all on channel 1, which the relay can't pass on to the first. After so many seconds they
-// leave, and each takes what still comes. Then it prints the datagrams that went, their bytes, those that came, and their bytes, and how many
+// channel 0 every half second, and the second 20 packets in all on channel 1, which the relay can't pass on to the first. After so many seconds,
+// or at SIGTERM, they leave, and each takes what still comes, until for a second and a half, in which this program goes on, nothing did. Then it prints the datagrams that went, their bytes, those that came, and their bytes, and how many
 // packets came on channel 0.
 #include <enet/enet.h>
+#include <signal.h>
 
 #include "common.h"
 
 enum { MOST = 64, ON_ONE = 20, AT_ONCE = 5 };
 
-static const double PAUSE = 0.5, LIMIT = 20, AFTERWARDS = 1.5;
+static const double PAUSE = 0.5, LIMIT = 60, AFTERWARDS = 1.5, ROUND = 0.1;
 
 static ENetHost *hosts[MOST];
 static ENetPeer *peers[MOST];
 static int many, connected, left, taken;
+static volatile sig_atomic_t is_over;
+
+static void end_talk(int signal)
+{
+    (void)signal;
+    is_over = 1;
+}
 
 static void hear_all(double seconds)
 {
@@ -29,6 +37,26 @@ static void hear_all(double seconds)
                 enet_packet_destroy(event.packet);
             }
         nanosleep(&(struct timespec){ .tv_nsec = 1000000 }, NULL);
+    }
+}
+
+static unsigned long all_received(void)
+{
+    unsigned long received = 0;
+    for (int i = 0; i < many; i++)
+        received += hosts[i]->totalReceivedPackets;
+    return received;
+}
+
+// Hears until so many have left, and nothing came for a while.
+static void hear_until(int gone)
+{
+    double begun = now(), quiet = 0;
+    while (now() < begun + LIMIT && (left < gone || quiet < AFTERWARDS)) {
+        unsigned long before = all_received();
+        double last = now();
+        hear_all(0.01);
+        quiet = all_received() > before ? 0 : quiet + (now() - last < ROUND ? now() - last : ROUND);
     }
 }
 
@@ -57,10 +85,11 @@ int main(int count, char **words)
     for (double begun = now(); connected < many; hear_all(0.01))
         if (now() > begun + LIMIT)
             give_up("tally: %d of %d are connected", connected, many);
+    signal(SIGTERM, end_talk);
     printf("talking\n");
     fflush(stdout);
     double begun = now(), next = begun;
-    for (int said = 0; now() < begun + seconds; hear_all(0.005)) {
+    for (int said = 0; (now() < begun + seconds && !is_over) || said < ON_ONE; hear_all(0.005)) {
         if (now() < next)
             continue;
         next += PAUSE;
@@ -72,7 +101,7 @@ int main(int count, char **words)
     hear_all(AFTERWARDS);
     for (int i = 0; i < many; i++)
         enet_peer_disconnect(peers[i], 0);
-    hear_all(AFTERWARDS);
+    hear_until(many);
     if (left != many)
         give_up("tally: %d of %d have left", left, many);
     for (int i = 0; i < many; i++) {

@@ -48,9 +48,9 @@ unit() {
     systemd-analyze --root="$room/root" --offline=true --threshold=12 security "$unit/enet-relay.service" > "$room/why" 2>&1
 }
 
-# Waits up to 10 seconds until the file $1 has a line that begins with $2.
+# Waits up to a minute until the file $1 has a line that begins with $2.
 wait_for() {
-    for _ in {1..100}; do
+    for _ in {1..600}; do
         grep -q "^$2" "$1" 2> "$room/gone" && return
         sleep 0.1
     done
@@ -63,7 +63,7 @@ receive_guests() {
     pairs=()
     local pair
     for pair in 1 2; do
-        timeout 60 "$room/guests" "$1" "${2:-told}" > "$room/pair$pair" 2> "$room/pair$pair.err" &
+        timeout 660 "$room/guests" "$1" "${2:-told}" > "$room/pair$pair" 2> "$room/pair$pair.err" &
         pairs+=($!)
         started+=($!)
     done
@@ -78,13 +78,14 @@ guests_fared() {
     done
 }
 
-# SIGTERM to the process $2 of what was started as $1, while guests talk: they are told, and it ends well within four seconds.
+# SIGTERM to the process $2 of what was started as $1, while guests talk: they are told, and it ends well, sooner than by the end of a
+# connection whose peer is silent.
 terminate() {
     local begun=$SECONDS
     kill -TERM "$2"
     guests_fared || return 1
     wait "$1" || { echo "status $?" > "$room/why"; return 1; }
-    [ $((SECONDS - begun)) -le 4 ] || { echo "it took $((SECONDS - begun)) seconds" > "$room/why"; return 1; }
+    [ $((SECONDS - begun)) -le 20 ] || { echo "it took $((SECONDS - begun)) seconds" > "$room/why"; return 1; }
 }
 
 # What the unit starts, by its own words, with another port and other places.
@@ -150,7 +151,7 @@ goes_on() {
 
 # 21 strangers who have 20 orders refused for each packet of one of them, and leave after two seconds.
 gossip() {
-    timeout 30 "$room/gossip" "$port" 20 2 > "$room/gossip.out" 2> "$room/why" &
+    timeout 200 "$room/gossip" "$port" 20 2 > "$room/gossip.out" 2> "$room/why" &
     started+=($!)
     wait_for "$room/gossip.out" talking
 }
@@ -158,15 +159,16 @@ gossip() {
 # Strangers come before the server is allocated, and again while five play: neither the server nor the game ends. Once the players have left,
 # it does.
 strangers() {
-    local sdk wrapper visit
+    local sdk wrapper visit players
     begin_wrapper SHUTDOWN_EMPTY=1 EMPTY_SECONDS=2 JOIN_SECONDS=2 || return 1
     gossip && wait $! && goes_on 4 || return 1
     ! grep -q Allocated "$room/sidecar" || { echo 'strangers had it allocated' > "$room/why"; return 1; }
-    curl -sf -o /dev/null -m 5 -X POST -d '{}' "http://127.0.0.1:$sdk/allocate" && gossip || return 1
+    curl -sf -o /dev/null -m 60 -X POST -d '{}' "http://127.0.0.1:$sdk/allocate" && gossip || return 1
     visit=$!
-    "$room/knock" "$port" 127.0.0.1 5 9 > "$room/why" 2>&1 &
-    started+=($!)
-    wait "$visit" && goes_on 4 && wait $! && grep -q '^5 connected 0 ended$' "$room/why" || return 1
+    "$room/knock" "$port" 127.0.0.1 5 600 in > "$room/why" 2>&1 &
+    players=$!
+    started+=("$players")
+    wait "$visit" && goes_on 4 && kill "$players" && wait "$players" && grep -q '^5 connected 0 ended$' "$room/why" || return 1
     wait_for "$room/sidecar" Shutdown && wait "$wrapper"
 }
 
@@ -175,19 +177,25 @@ healthy() {
     grep -c '^health$' "$room/sidecar"
 }
 
-# The wrapper of a program that tells figures, each of whose threads is stopped for eight seconds: from the third to the sixth nobody is told
-# of health, and afterwards it is told again.
+# The wrapper of a program that tells figures, each of whose threads is stopped: from the fifth second to the eighth nobody is told of health, and
+# afterwards it is told again.
 hung() {
-    local sdk wrapper first thread before
+    local sdk wrapper first thread before holder
     begin_wrapper || return 1
     first=$(pgrep -P "$wrapper" -x "$(basename "$program" | cut -c 1-15)")
     for thread in "/proc/$first/task"/*; do
-        "$room/hold" "${thread##*/}" 8 2> "$room/why" &
-        sleep 2
+        "$room/hold" "${thread##*/}" 60 2> "$room/why" &
+        holder=$!
+        sleep 4
         before=$(healthy)
         sleep 4
         [ "$(healthy)" -eq "$before" ] || { echo "it was called healthy while ${thread##*/} of $first hung" > "$room/why"; return 1; }
-        sleep 5
+        kill "$holder"
+        wait "$holder" 2> "$room/gone"
+        for _ in {1..600}; do
+            [ "$(healthy)" -le "$before" ] || break
+            sleep 0.1
+        done
         [ "$(healthy)" -gt "$before" ] || { echo 'it was never called healthy again' > "$room/why"; return 1; }
     done
     kill -TERM "$wrapper"

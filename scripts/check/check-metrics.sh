@@ -27,7 +27,7 @@ begin() {
     free_port
     "$program" serve --port "$port" --forever --peers 64 --queue-capacity 1024 --metrics "127.0.0.1:$port" --threads "$threads" --log > "$room/out" 2> "$room/err" &
     relay=$!
-    for _ in {1..100}; do
+    for _ in {1..600}; do
         [ -n "$(ask 'GET /healthz' 2> /dev/null)" ] && return
         sleep 0.1
     done
@@ -40,10 +40,10 @@ finish() {
     relay=
 }
 
-# The answer to the request line $1, without its version, within two seconds. It is sent $2 seconds after the connection, at once where $2 isn't
-# there.
+# The answer to the request line $1, without its version, within twenty seconds. It is sent $2 seconds after the connection, at once where $2
+# isn't there.
 ask() {
-    timeout 2 bash -c 'exec 3<> "/dev/tcp/127.0.0.1/$0" && sleep "$2" && printf "%s HTTP/1.1\r\nHost: here\r\n\r\n" "$1" >&3 && cat <&3' \
+    timeout 20 bash -c 'exec 3<> "/dev/tcp/127.0.0.1/$0" && sleep "$2" && printf "%s HTTP/1.1\r\nHost: here\r\n\r\n" "$1" >&3 && cat <&3' \
         "$port" "$1" "${2:-0}" | tr -d '\r'
 }
 
@@ -112,14 +112,14 @@ half_open() {
     sent=$("$room/forge" "$port" 20 1)
     sent=${sent% sent}
     [ "${sent:-0}" -ge 10 ] || fail forge "only '$sent' went"
-    slots_become half-open "$((1088 - sent)) 0 0 $sent 0 0" 3
-    for _ in {1..15}; do
+    slots_become half-open "$((1088 - sent)) 0 0 $sent 0 0" 6
+    for _ in {1..25}; do
         told=$(sent_again)
         [ "$told" != "$sent" ] || break
         sleep 0.2
     done
     same half-open-sent-again "$told" "$sent"
-    slots_become half-open-no-more '1088 0 0 0 0 0' 12
+    slots_become half-open-no-more '1088 0 0 0 0 0' 60
     same half-open-sent-again-no-more "$(sent_again)" 0
     told=$(ask 'GET /metrics')
     same half-open-sends "$(sends "$told") $(resends "$told")" "$before"
@@ -135,15 +135,14 @@ lossy() {
     "$room/steady" "$port" 8 6 100 > "$room/lossy.out" 2>&1 &
     talking=$!
     port=$server
-    for _ in {1..40}; do
+    while kill -0 "$talking" 2> "$room/gone"; do
         told=$(sent_again)
         [ "${told:-0}" -eq 0 ] || break
-        sleep 0.2
     done
     [ "${told:-0}" -gt 0 ] && passed=$((passed + 1)) || fail sent-again 'none was'
     wait "$talking" || fail lossy "$(<"$room/lossy.out")"
     kill "$line"
-    slots_become lossy-no-more '1088 0 0 0 0 0' 20
+    slots_become lossy-no-more '1088 0 0 0 0 0' 120
     same sent-again-no-more "$(sent_again)" 0
     told=$(resends "$(ask 'GET /metrics')")
     [ "${told:-0}" -gt "${before:-0}" ] && passed=$((passed + 1)) || fail resends "'$told' after '$before'"
@@ -153,38 +152,52 @@ lossy() {
 # transit each time that it is due to be resent, and is in it again as soon as it goes, which is in the same turn while there is room.
 in_transit() {
     local told stopped talking
-    "$room/tally" "$port" 2 12 > "$room/stopped.out" 2>&1 &
+    "$room/tally" "$port" 2 600 > "$room/stopped.out" 2>&1 &
     stopped=$!
-    "$room/tally" "$port" 2 7 > "$room/talking.out" 2>&1 &
+    "$room/tally" "$port" 2 600 > "$room/talking.out" 2>&1 &
     talking=$!
-    slots_become connected '1084 0 0 0 4 0' 10
+    slots_become connected '1084 0 0 0 4 0' 60
+    talks stopped && talks talking
     kill -STOP "$stopped"
-    sleep 3
-    told=$(figure enet_in_transit_bytes "$(ask 'GET /metrics')")
+    sleep 1
+    for _ in {1..15}; do
+        sleep 0.1
+        told=$(figure enet_in_transit_bytes "$(ask 'GET /metrics')")
+        [ "${told:-0}" -lt 68 ] || [ $((told % 17)) -ne 0 ] || break
+    done
     [ "${told:-0}" -ge 68 ] && [ $((told % 17)) -eq 0 ] && passed=$((passed + 1)) || fail in-transit "'$told' bytes"
     kill -CONT "$stopped"
+    sleep 1
+    kill "$talking" "$stopped"
     wait "$talking" || fail talking "$(<"$room/talking.out")"
     wait "$stopped" || fail stopped "$(<"$room/stopped.out")"
-    slots_become gone '1088 0 0 0 0 0' 10
+    slots_become gone '1088 0 0 0 0 0' 60
     same in-transit-no-more "$(figure enet_in_transit_bytes "$(ask 'GET /metrics')")" 0
 }
 
-# Figures while clients talk, and once they have gone.
-figures() {
-    local told logged unknown
-    "$room/tally" "$port" 32 6 > "$room/tally.out" 2>&1 &
-    local tally=$!
-    for _ in {1..300}; do
-        grep -q talking "$room/tally.out" 2> /dev/null && break
+# Waits until the clients of the output $1.out talk.
+talks() {
+    for _ in {1..600}; do
+        ! grep -q talking "$room/$1.out" 2> "$room/gone" || return 0
         sleep 0.1
     done
+    fail "$1" "$(<"$room/$1.out")"
+}
+
+# Figures while clients talk, for six seconds at least, and once they have gone.
+figures() {
+    local told logged unknown
+    "$room/tally" "$port" 32 600 > "$room/tally.out" 2>&1 &
+    local tally=$!
+    talks tally
+    sleep 6
     for _ in {1..5}; do
         printf x > "/dev/udp/127.0.0.1/$port"
     done
     for _ in {1..3}; do
         printf '\0\62\1\377\0\1\0\1\0\0' > "/dev/udp/127.0.0.1/$port"
     done
-    for _ in {1..20}; do
+    for _ in {1..300}; do
         told=$(ask 'GET /metrics')
         unknown=$(figure 'enet_datagrams_stopped_total{reason="S3"}' "$told")
         [ "$(figure enet_peers "$told") $unknown" != '32 3' ] || break
@@ -194,8 +207,10 @@ figures() {
     same peers "$(figure enet_peers "$told")" 32
     same slots "$(figure enet_slots "$told")" 1088
     same unknown "$unknown" 3
-    slots_become slots-by-state '1056 0 0 0 32 0' 3
+    slots_become slots-by-state '1056 0 0 0 32 0' 60
+    kill "$tally"
     wait "$tally" || fail tally "$(<"$room/tally.out")"
+    slots_become slots-afterwards '1088 0 0 0 0 0' 60
     sleep 1
     local sent bytes_sent came bytes_came taken
     read -r sent bytes_sent came bytes_came taken < <(tail -n 1 "$room/tally.out")
@@ -243,35 +258,58 @@ requests() {
     same another-method "$(status "$(ask 'POST /metrics')")" 405
     same no-request "$(status "$(ask $'\1\2\3')")" 400
     same long-request "$(status "$(ask "GET /$(head -c 4000 /dev/zero | tr '\0' x)")")" 400
-    same health "$(status "$(ask 'GET /healthz')")" 200
+    is_healthy health
 }
 
 # Eighty ask nothing; each other one gets its answer.
 silent() {
-    local i begun=$SECONDS
-    python3 - "$port" << 'END' &
+    local i begun
+    rm -f "$room/silent"
+    python3 - "$port" > "$room/silent" << 'END' &
 import socket, sys, time
 silent = [socket.create_connection(("127.0.0.1", int(sys.argv[1]))) for _ in range(80)]
+print("silent", flush=True)
 time.sleep(6)
 END
-    sleep 0.5
+    await_line silent "$room/silent"
+    begun=$SECONDS
     for i in {1..5}; do
         same beside-silent "$(status "$(ask 'GET /metrics')")" 200
     done
     [ $((SECONDS - begun)) -le 4 ] || fail beside-silent "it took $((SECONDS - begun)) seconds"
     wait $!
-    same after-silent "$(status "$(ask 'GET /healthz')")" 200
-    same descriptors "$(find "/proc/$relay/fd" -lname 'socket:*' | wc -l)" 2
+    is_healthy after-silent
+    for _ in {1..300}; do
+        [ "$(sockets)" != 2 ] || break
+        sleep 0.2
+    done
+    same descriptors "$(sockets)" 2
 }
 
-# For six seconds somebody at another address opens up to a thousand connections a second. On each second one he asks for figures, and reads
-# none; on the others he asks nothing. Each time that somebody else asks for /healthz, 0.3 seconds after his connection, he is told.
+# How many sockets the server has.
+sockets() {
+    find "/proc/$relay/fd" -lname 'socket:*' 2> "$room/gone" | wc -l
+}
+
+# Waits until the file $2 has the line $1.
+await_line() {
+    for _ in {1..600}; do
+        ! grep -qx "$1" "$2" 2> "$room/gone" || return 0
+        sleep 0.1
+    done
+    fail "$1" "$(head -c 300 "$2")"
+}
+
+# Somebody at another address opens up to a thousand connections a second, five hundred at least. On each second one he asks for figures, and
+# reads none; on the others he asks nothing. Each time that somebody else asks for /healthz, 0.3 seconds after his connection, he is told: mostly
+# 200, and 503 where the machine stood still.
 crowded() {
-    local i crowd
-    python3 - "$port" << 'END' > "$room/crowd" 2>&1 &
-import socket, sys, time
-kept, came, end = [], 0, time.monotonic() + 6
-while time.monotonic() < end:
+    local i crowd told
+    : > "$room/crowded"
+    python3 - "$port" "$room/crowded" << 'END' > "$room/crowd" 2>&1 &
+import os, socket, sys, time
+kept, came, end = [], 0, time.monotonic() + 120
+while os.path.exists(sys.argv[2]) or came < 500 and time.monotonic() < end:
     kept.append(socket.socket())
     kept[-1].setsockopt(socket.SOL_SOCKET, socket.SO_LINGER, bytes([1, 0, 0, 0, 0, 0, 0, 0]))
     kept[-1].bind(("127.0.0.2", 0))
@@ -279,6 +317,8 @@ while time.monotonic() < end:
     try:
         kept[-1].connect(("127.0.0.1", int(sys.argv[1])))
         came += 1
+        if came == 100:
+            print("crowded", flush=True)
         if came % 2 == 0:
             kept[-1].send(b"GET /metrics HTTP/1.1\r\n\r\n")
     except OSError:
@@ -289,33 +329,61 @@ while time.monotonic() < end:
 print(came)
 END
     crowd=$!
-    sleep 0.5
+    await_line crowded "$room/crowd"
     for i in {1..10}; do
-        same beside-crowd "$(status "$(ask 'GET /healthz' 0.3)")" 200
+        told=$(status "$(ask 'GET /healthz' 0.3)")
+        [ "$told" != 503 ] || told='200 soon'
+        same beside-crowd "${told% soon}" 200
     done
+    is_healthy beside-crowd-healthy
+    rm "$room/crowded"
     wait "$crowd"
-    [ "$(<"$room/crowd")" -ge 500 ] 2> /dev/null && passed=$((passed + 1)) || fail crowd "only $(head -c 300 "$room/crowd") came"
+    [ "$(tail -n 1 "$room/crowd")" -ge 500 ] 2> "$room/gone" && passed=$((passed + 1)) || fail crowd "only $(head -c 300 "$room/crowd") came"
 }
 
-# While one thread is stopped /healthz answers 503 where that is the thread of the service; afterwards 200. Of the threads just one is it.
+# /healthz answers 200, if not at once since the machine stood still; the case is $1.
+is_healthy() {
+    local told
+    for _ in {1..300}; do
+        told=$(status "$(ask 'GET /healthz')")
+        [ "$told" != 200 ] || break
+        sleep 0.2
+    done
+    same "$1" "$told" 200
+}
+
+# What /healthz answers, once it is another status than $1, or after twelve times half a second.
+health_but() {
+    local told
+    for _ in {1..12}; do
+        told=$(status "$(ask 'GET /healthz')")
+        [ "$told" = "$1" ] || break
+        sleep 0.5
+    done
+    echo "$told"
+}
+
+# While one thread is stopped /healthz answers 503 where that is the thread of the service, and nothing else once its last look is a second old;
+# afterwards 200. Of the threads just one is it. On a machine that stands still /healthz may answer 503 at times, whatever thread is stopped.
 hung() {
-    local thread hung=0
+    local thread holder hung=0
     for thread in "/proc/$relay/task"/*; do
-        "$room/hold" "${thread##*/}" 3 2> "$room/hold.err" &
+        "$room/hold" "${thread##*/}" 60 2> "$room/hold.err" &
+        holder=$!
         sleep 2
-        [ "$(status "$(ask 'GET /healthz')")" != 503 ] || hung=$((hung + 1))
-        wait $!
-        sleep 1
-        same health-again "$(status "$(ask 'GET /healthz')")" 200
+        [ "$(health_but 503)" != 503 ] || hung=$((hung + 1))
+        kill "$holder"
+        wait "$holder" 2> "$room/gone"
+        is_healthy health-again
     done
     same hung "$hung" 1
 }
 
-# Goes through the function $1, and again, three times at most, if something failed while the machine stood still for 300 ms or more: a guest
+# Goes through the function $1, and again, six times at most, if something failed while the machine stood still for 300 ms or more: a guest
 # that its host stops, or too much other work, looks like a thread that hangs. It stood still for as long as a sleep of 20 ms was late.
 patiently() {
     local try before=$passed fell=$failed late watch
-    for try in 1 2 3; do
+    for try in {1..6}; do
         passed=$before failed=$fell
         : > "$room/watched"
         python3 -c '
@@ -331,7 +399,7 @@ print(round(1000 * late))' "$room/watched" > "$room/late" &
         rm "$room/watched"
         wait "$watch"
         late=$(<"$room/late")
-        [ "$failed" -gt "$fell" ] && [ "${late:-0}" -ge 300 ] && [ "$try" -lt 3 ] || break
+        [ "$failed" -gt "$fell" ] && [ "${late:-0}" -ge 300 ] && [ "$try" -lt 6 ] || break
         echo "again: $1 in $threads threads, since the machine stood still for $late ms"
     done
     cat "$room/said"
@@ -340,7 +408,7 @@ print(round(1000 * late))' "$room/watched" > "$room/late" &
 # `stop` ends all.
 stops() {
     free_port
-    { sleep 1; echo stop; sleep 5; } | timeout 20 "$program" serve --port "$port" --forever --control --metrics "127.0.0.1:$port" --threads "$threads" > "$room/out" 2> "$room/err"
+    { sleep 1; echo stop; sleep 5; } | timeout 120 "$program" serve --port "$port" --forever --control --metrics "127.0.0.1:$port" --threads "$threads" > "$room/out" 2> "$room/err"
     same stop "${PIPESTATUS[1]} $(<"$room/out")" '0 stopping'
 }
 
@@ -356,14 +424,14 @@ else
     for threads in 1 2; do
         begin
         figures
-        half_open
+        patiently half_open
         patiently in_transit
         patiently lossy
         dashboard
         requests
         patiently silent
         patiently crowded
-        patiently hung
+        hung
         finish
         stops
     done
