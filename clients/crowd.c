@@ -11,7 +11,7 @@
 enum { MOST = 400, CHANNELS = 2, MTU = 1392, GREETING = 0xFFFF };
 
 // What hasn't come after so many seconds is too late.
-static const double LIMIT = 60;
+static const double LIMIT = 300;
 
 typedef struct Message {
     uint16_t sender, number;

@@ -4,7 +4,7 @@
 // where something came too late, and status 1 where anything else is amiss.
 #include "visitor.h"
 
-enum { SAID = 12, LONGEST = 20000, LIMIT = 60 };
+enum { SAID = 12, LONGEST = 20000, LIMIT = 300 };
 
 static const size_t lengths[SAID] = { 0, 1, 2, 100, 1363, 1364, 1365, 2728, 2729, 0, LONGEST, 7 };
 

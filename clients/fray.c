@@ -9,7 +9,7 @@
 
 #include "common.h"
 
-enum { MOST = 16, PER_SECOND = 20, LIMIT = 30, GARBAGE = 1 };
+enum { MOST = 16, PER_SECOND = 20, LIMIT = 120, GARBAGE = 1 };
 
 static const double SILENT_FROM = 1, SILENT_FOR = 3, PAUSE = 0.1;
 

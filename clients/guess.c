@@ -5,7 +5,7 @@
 // amiss.
 #include "visitor.h"
 
-enum { GREATEST = 1000, LIMIT = 60 };
+enum { GREATEST = 1000, LIMIT = 300 };
 
 // The number lies between these.
 static long least = 1, most = GREATEST;

@@ -6,7 +6,7 @@
 // that might be lost.
 #include "visitor.h"
 
-enum { LONGEST = 3000, SHORT = 1200, ON_THE_WAY = 48, LIMIT = 100 };
+enum { LONGEST = 3000, SHORT = 1200, ON_THE_WAY = 48, LIMIT = 300 };
 
 static enet_uint32 packets, said, reliable_said, reliable_came, loose_said, loose_came, last_loose;
 

@@ -14,7 +14,7 @@ def body(number, length):
 
 def serve(address):
     host = enet.Host(address, 4, 2, 0, 0)
-    for _ in range(600):
+    for _ in range(6000):
         event = host.service(50)
         if event.type == enet.EVENT_TYPE_RECEIVE:
             flags = enet.PACKET_FLAG_RELIABLE if event.channelID == 0 else 0
@@ -27,20 +27,20 @@ def serve(address):
 def visit(address):
     host = enet.Host(None, 1, 2, 0, 0)
     peer = host.connect(address, 2, 42)
-    if host.service(5000).type != enet.EVENT_TYPE_CONNECT or peer.state != enet.PEER_STATE_CONNECTED:
+    if host.service(60000).type != enet.EVENT_TYPE_CONNECT or peer.state != enet.PEER_STATE_CONNECTED:
         return False
     for number, length in enumerate(LENGTHS):
         peer.send(0, enet.Packet(body(number, length), enet.PACKET_FLAG_RELIABLE))
     peer.send(1, enet.Packet(body(99, 100), 0))
     wanted, came = {0: [body(number, length) for number, length in enumerate(LENGTHS)], 1: [body(99, 100)]}, {0: [], 1: []}
-    for _ in range(200):
+    for _ in range(1200):
         event = host.service(50)
         if event.type == enet.EVENT_TYPE_RECEIVE:
             came[event.channelID].append(event.packet.data)
         if came == wanted:
             break
     peer.disconnect(7)
-    for _ in range(200):
+    for _ in range(1200):
         if host.service(50).type == enet.EVENT_TYPE_DISCONNECT:
             return came == wanted
     return False

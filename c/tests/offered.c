@@ -11,7 +11,7 @@
 #include <stdlib.h>
 #include <string.h>
 
-enum { LIMIT_MS = 25000, WAKE = 42 };
+enum { LIMIT_MS = 120000, WAKE = 42 };
 
 #define NEED(condition) do { if (!(condition)) { printf("%s:%d: not so: %s\n", __FILE__, __LINE__, #condition); return 1; } } while (0)
 

@@ -8,7 +8,7 @@
 #include <stdlib.h>
 #include <string.h>
 
-enum { MOST = 4096, KEPT = 64, EACH = 16, LIMIT_MS = 20000 };
+enum { MOST = 4096, KEPT = 64, EACH = 16, LIMIT_MS = 120000 };
 
 static long failed;
 

@@ -10,7 +10,7 @@
 #include <stdlib.h>
 #include <string.h>
 
-enum { THREADS = 4, PACKETS = 300, LIMIT_MS = 20000 };
+enum { THREADS = 4, PACKETS = 300, LIMIT_MS = 120000 };
 
 static atomic_long failed;
 

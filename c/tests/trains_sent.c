@@ -15,7 +15,7 @@
 #define UDP_SEGMENT 103
 #endif
 
-enum { LONG = 20000, ROUNDS = 20, DRAWN = 400, LIMIT_MS = 20000 };
+enum { LONG = 20000, ROUNDS = 20, DRAWN = 400, LIMIT_MS = 120000 };
 
 static ENetHost *server, *client;
 static ENetPeer *guest;

@@ -30,11 +30,11 @@ static int serve(ENetAddress address) {
     return steps == 3 ? 0 : 1;
 }
 
-/* Disconnects as the tutorial does: packets that still come are dropped, and a peer that doesn't answer within 3 seconds is reset. */
+/* Disconnects as the tutorial does: packets that still come are dropped, and a peer that doesn't answer within 30 seconds is reset. */
 static int leave(ENetHost *client, ENetPeer *peer) {
     ENetEvent event;
     enet_peer_disconnect(peer, 7);
-    while (enet_host_service(client, &event, 3000) > 0) {
+    while (enet_host_service(client, &event, 30000) > 0) {
         if (event.type == ENET_EVENT_TYPE_RECEIVE) enet_packet_destroy(event.packet);
         if (event.type == ENET_EVENT_TYPE_DISCONNECT) return 0;
     }
@@ -48,7 +48,7 @@ static int visit(ENetAddress address) {
     if (client == NULL) return 1;
     ENetPeer *peer = enet_host_connect(client, &address, 2, 42);
     if (peer == NULL) return 1;
-    if (enet_host_service(client, &event, 5000) <= 0 || event.type != ENET_EVENT_TYPE_CONNECT) {
+    if (enet_host_service(client, &event, 60000) <= 0 || event.type != ENET_EVENT_TYPE_CONNECT) {
         enet_peer_reset(peer);
         return 1;
     }
@@ -57,7 +57,7 @@ static int visit(ENetAddress address) {
     strcpy((char *)&packet->data[strlen("packet")], "foo");
     enet_peer_send(peer, 0, packet);
     enet_host_flush(client);
-    int came = enet_host_service(client, &event, 5000) > 0 && event.type == ENET_EVENT_TYPE_RECEIVE && event.channelID == 1 &&
+    int came = enet_host_service(client, &event, 60000) > 0 && event.type == ENET_EVENT_TYPE_RECEIVE && event.channelID == 1 &&
                event.packet->dataLength == sizeof "packetfoo" && !strcmp((char *)event.packet->data, "packetfoo");
     if (came) enet_packet_destroy(event.packet);
     int left = leave(client, peer);

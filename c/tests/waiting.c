@@ -6,7 +6,7 @@
 #include <stdlib.h>
 #include <string.h>
 
-enum { LIMIT_MS = 20000 };
+enum { LIMIT_MS = 120000 };
 
 static long passed, failed;
 

@@ -48,9 +48,9 @@ have() {
     command -v "$1" > /dev/null
 }
 
-# Runs the command after the name $1, a program for 200 seconds at most, and counts whether it ended well.
+# Runs the command after the name $1, a program for 1,000 seconds at most, and counts whether it ended well.
 try() {
-    local name=$1 limited=(timeout 200)
+    local name=$1 limited=(timeout 1000)
     shift
     [ "$(type -t "$1")" != function ] || limited=()
     if "${limited[@]}" "$@" > "$room/$name.out" 2>&1; then
@@ -100,7 +100,7 @@ serve() {
     words=("${words[@]//ADDRESS/127.0.0.1:$1}")
     "${words[@]//PORT/$1}" &
     started="$started $!"
-    for _ in {1..100}; do
+    for _ in {1..600}; do
         at=$(printf ':%04X ' "$1")
         ! grep -q "$at" /proc/net/udp || return 0
         sleep 0.1
@@ -113,6 +113,7 @@ serve() {
 lossy() {
     "$room/proxy" "$2" "$1" 7 &
     started="$started $!"
+    until grep -q "$(printf ':%04X ' "$2")" /proc/net/udp || ! kill -0 $!; do sleep 0.1; done
 }
 
 # Two free ports, into `first` and `port`.
@@ -127,7 +128,7 @@ echo_lossy() {
     local client clients=() status=0
     serve "$1" "${@:4}" && lossy "$1" "$2" || return
     for ((client = 0; client < $3; client++)); do
-        timeout 110 "$room/many" "$2" $((10000 / $3)) &
+        timeout 330 "$room/many" "$2" $((10000 / $3)) &
         clients+=($!)
     done
     for client in "${clients[@]}"; do
@@ -138,7 +139,7 @@ echo_lossy() {
 
 # The same straight, by one client, and then packets up to 20,000 bytes: the server that the words from $2 on start on port $1.
 echo_straight() {
-    serve "$1" "${@:2}" && timeout 110 "$room/many" "$1" 10000 && timeout 110 "$room/echo" "$1"
+    serve "$1" "${@:2}" && timeout 330 "$room/many" "$1" 10000 && timeout 330 "$room/echo" "$1"
 }
 
 # Four players in the arena that the words from $4 on start on port $1, by the line on port $2; it writes to the file $3. It says who sent
@@ -146,7 +147,7 @@ echo_straight() {
 arena() {
     local slot
     serve "$1" "${@:4}" > "$3" && lossy "$1" "$2" || return
-    slot=$(timeout 110 "$room/fray" "$2" 4 6) || return
+    slot=$(timeout 330 "$room/fray" "$2" 4 6) || return
     cat "$3"
     [ "$(grep -c ' garbage$' "$3")" = 1 ] && grep -q "^$slot slow$" "$3"
 }
@@ -174,7 +175,7 @@ is_drawn() {
 fails_with_seed() {
     local captures folder=$1
     mkdir "$folder"
-    ! (cd "$folder" && exec timeout 100 "${@:2}") > "$folder/said" || return
+    ! (cd "$folder" && exec timeout 600 "${@:2}") > "$folder/said" || return
     cat "$folder/said"
     captures=("$folder"/*.pcap)
     grep -q '^seed [0-9]*: ' "$folder/said" && [ "${#captures[@]}" = 1 ] && [ -s "${captures[0]}" ] && is_drawn "${captures[0]}"
@@ -183,7 +184,7 @@ fails_with_seed() {
 # cargo in bindings/rust, without the user's own folder, so that its commands are found beside it: $1 is the folder of the compiler, $2 that of
 # what is built.
 cargo_by() {
-    (cd bindings/rust && PATH=$1:$PATH CARGO_HOME=$room/cargo CARGO_TARGET_DIR=$2 CARGO_NET_OFFLINE=true exec timeout 500 cargo "${@:3}")
+    (cd bindings/rust && PATH=$1:$PATH CARGO_HOME=$room/cargo CARGO_TARGET_DIR=$2 CARGO_NET_OFFLINE=true exec timeout 1500 cargo "${@:3}")
 }
 
 # clippy and the documentation by the cargo in the folder $1; $2 is where it builds, $3 its name here.
@@ -209,7 +210,7 @@ rust_memory() {
     local test
     for test in "$1"/debug/deps/memory-*; do
         [ -x "$test" ] && [[ $test != *.d ]] || continue
-        LD_PRELOAD=$room/refuse.so timeout 500 valgrind -q --soname-synonyms=somalloc=nouserintercepts --leak-check=full \
+        LD_PRELOAD=$room/refuse.so timeout 1500 valgrind -q --soname-synonyms=somalloc=nouserintercepts --leak-check=full \
             --errors-for-leak-kinds=definite,indirect,possible --error-exitcode=9 "$test" > "$room/rust-memory.said" 2>&1
         local status=$?
         cat "$room/rust-memory.said"
@@ -223,7 +224,7 @@ rust_memory() {
 # The game's 1,000 seeds go well. With moves that aren't reliable a seed is found and named, and its datagrams are left.
 rust_game() {
     local game=bindings/rust/examples/arena_test.rs
-    timeout 100 "$1/release/examples/arena_test" && sed 's/Delivery::Reliable/Delivery::Unreliable/' "$game" > "$room/faulty.rs" &&
+    timeout 600 "$1/release/examples/arena_test" && sed 's/Delivery::Reliable/Delivery::Unreliable/' "$game" > "$room/faulty.rs" &&
         ! cmp -s "$game" "$room/faulty.rs" &&
         "$2/rustc" --edition 2021 -O -o "$room/faulty" --extern "gofnjerta=$1/release/libgofnjerta.rlib" "$room/faulty.rs" &&
         fails_with_seed "$room/rust-fault" "$room/faulty"
@@ -273,7 +274,7 @@ cpp_compile() {
 
 # The record of an echo by two endpoints is replayed.
 cpp_replayed() {
-    timeout 100 "$room/cpp-host" record "$room/cpp.record" && "$made/bin/gofnjerta_replay" "$room/cpp.record"
+    timeout 600 "$room/cpp-host" record "$room/cpp.record" && "$made/bin/gofnjerta_replay" "$room/cpp.record"
 }
 
 # Block $3 in the language $2 of the document $1.
@@ -303,9 +304,9 @@ cpp() {
     straight_server=("${echo_server[@]}")
     arena_server=("$room/cpp-arena" ADDRESS)
     talk cpp
-    begin cpp-host timeout 100 "$room/cpp-host"
+    begin cpp-host timeout 600 "$room/cpp-host"
     begin cpp-replayed cpp_replayed
-    begin cpp-memory timeout 100 "$room/cpp-host" refuse
+    begin cpp-memory timeout 600 "$room/cpp-host" refuse
     count_scenarios
 }
 
@@ -322,13 +323,13 @@ python_memory() {
     mkdir -p "$room/refusing/lib"
     cc -O1 -shared -fPIC -Wall -Wextra -o "$room/refusing/lib/libgofnjerta.so.0" bindings/python/tests/refuse.c \
         -Wl,--wrap=malloc,--wrap=realloc,--wrap=free -Wl,--whole-archive "$made/lib/libgofnjerta.a" -Wl,--no-whole-archive &&
-        GOFNJERTA_DIR=$room/refusing PYTHONPATH=bindings/python timeout 100 "$python" bindings/python/tests/refuse.py
+        GOFNJERTA_DIR=$room/refusing PYTHONPATH=bindings/python timeout 600 "$python" bindings/python/tests/refuse.py
 }
 
 # The game's 1,000 seeds go well. Where its server tells who has a coin unreliably, a seed is found and named, and its datagrams are left.
 python_game() {
     local game=bindings/python/examples/coins.py
-    timeout 100 "${packaged[@]}" "$game" && sed 's/^DELIVERY = .*/DELIVERY = Delivery.UNRELIABLE/' "$game" > "$room/coins.py" &&
+    timeout 600 "${packaged[@]}" "$game" && sed 's/^DELIVERY = .*/DELIVERY = Delivery.UNRELIABLE/' "$game" > "$room/coins.py" &&
         ! cmp -s "$game" "$room/coins.py" && fails_with_seed "$room/python-fault" "${packaged[@]}" "$room/coins.py"
 }
 
@@ -357,7 +358,7 @@ python() {
     straight_server=("${echo_server[@]}")
     arena_server=("${packaged[@]}" bindings/python/examples/arena.py ADDRESS)
     talk python
-    begin python-tests timeout 100 "${packaged[@]}" -W error -m unittest discover -s bindings/python/tests
+    begin python-tests timeout 600 "${packaged[@]}" -W error -m unittest discover -s bindings/python/tests
     begin python-memory python_memory
     begin python-game python_game
     begin python-readme python_readme

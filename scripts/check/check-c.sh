@@ -32,7 +32,7 @@
 #   the system's go once and in order, a packet of 20,000 bytes by two calls at most (trains);
 # - installed below a prefix, it is found by pkg-config under libenet's name, and each header stands alone; and it is taken away.
 # Prints what failed, and as last line 'N passed, M failed'; the status is 1 where one failed or nothing was tried. It ends within 4
-# minutes. As root it installs what is missing of gcc, g++, libenet-dev, valgrind, python3-enet and pkg-config.
+# minutes on a machine at rest. As root it installs what is missing of gcc, g++, libenet-dev, valgrind, python3-enet and pkg-config.
 cd "$(dirname "$0")/../.." || exit 1
 . scripts/lib/clients.sh
 . scripts/lib/in-memory.sh
@@ -44,9 +44,9 @@ fail() {
     failed=$((failed + 1))
 }
 
-# Runs a command, a program for 200 seconds at most.
+# Runs a command, a program for 1,000 seconds at most.
 limited() {
-    if [ "$(type -t "$1")" = function ]; then "$@"; else timeout 200 "$@"; fi
+    if [ "$(type -t "$1")" = function ]; then "$@"; else timeout 1000 "$@"; fi
 }
 
 # Runs the command after the name $1, and counts whether it ended well.
@@ -169,13 +169,15 @@ attempt() {
     local name=$1 way=$2 server=$3 client=$4 slots=$5 to=$6 status
     "$room/$server" "$6" "$slots" 3 > "$room/$name.server" 2>&1 &
     relay=$!
+    until_bound "$6"
     if [ "$way" = lossy ]; then
         to=$7
         "$room/proxy" "$7" "$6" 5 2> "$room/$name.proxy" &
         proxy=$!
+        until_bound "$7"
     fi
     read -ra words <<< "$client"
-    LD_LIBRARY_PATH=${library:-} timeout 110 "$room/${words[0]}" "$to" "${words[@]:1}" > "$room/$name.client" 2>&1
+    LD_LIBRARY_PATH=${library:-} timeout 330 "$room/${words[0]}" "$to" "${words[@]:1}" > "$room/$name.client" 2>&1
     status=$?
     kill -0 "$relay" 2> /dev/null || { echo "the server ended" >> "$room/$name.client"; status=1; }
     kill $relay $proxy 2> /dev/null
@@ -202,10 +204,10 @@ converse() {
     } &
 }
 
-# Waits until somebody listens at `port`, at most 10 seconds: the reference library takes an early answer of the system for a fault.
+# Waits until somebody listens at $1, a minute at most: the reference library takes an early answer of the system for a fault.
 until_bound() {
-    for _ in {1..100}; do
-        grep -q ":$(printf '%04X' "$port") " /proc/net/udp && return
+    for _ in {1..600}; do
+        grep -q ":$(printf '%04X' "$1") " /proc/net/udp && return
         sleep 0.1
     done
 }
@@ -219,10 +221,10 @@ meet() {
     read -ra client <<< "$3"
     {
         trap 'kill $relay 2> /dev/null' EXIT
-        timeout 130 "${server[@]}" serve "$port" > "$room/$1.server" 2>&1 &
+        timeout 660 "${server[@]}" serve "$port" > "$room/$1.server" 2>&1 &
         relay=$!
-        until_bound
-        timeout 110 "${client[@]}" visit "$port" > "$room/$1.client" 2>&1 && wait "$relay" && : > "$room/$1.passed"
+        until_bound "$port"
+        timeout 330 "${client[@]}" visit "$port" > "$room/$1.client" 2>&1 && wait "$relay" && : > "$room/$1.passed"
     } &
 }
 
@@ -299,8 +301,8 @@ greet() {
     read -ra client <<< "$2"
     "${server[@]}" &
     relay=$!
-    until_bound
-    said=$(timeout 60 "${client[@]}" 127.0.0.1)
+    until_bound "$port"
+    said=$(timeout 330 "${client[@]}" 127.0.0.1)
     kill "$relay"
     wait "$relay"
     relay=

@@ -9,13 +9,21 @@
 # receptions that fail (clients/faults.c). Each scenario has a server of its own, and all run side by side: `check-clients.sh [PROGRAM]`.
 # PROGRAM is the built `enet_relay`, by default the one that `rt ci`, or `rt run` in crates/enet_relay, leaves; `reference` stands for the
 # relay of clients/server.c, which tells whether the clients themselves are right. Prints what failed, and as last line 'N passed, M
-# failed'; the status is 1 where one failed. It ends within 4 minutes.
+# failed'; the status is 1 where one failed. It ends within 4 minutes, on a machine at rest.
 cd "$(dirname "$0")/../.." || exit 1
 . scripts/lib/clients.sh
 . scripts/lib/tally.sh
 program=${1:-crates/enet_relay/out/enet_relay}
 example=crates/example_echo/out/example_echo
 game=crates/example_game/out/example_game
+
+# Waits until somebody has port $1, for a minute at most: a server or a proxy that was just started.
+until_bound() {
+    for _ in {1..600}; do
+        grep -q ":$(printf '%04X' "$1") " /proc/net/udp && return
+        sleep 0.1
+    done
+}
 
 # Ends what an attempt started.
 end_attempt() {
@@ -36,16 +44,18 @@ attempt() {
     [ "$2" = crowd ] && places=16
     relay "$program" "$5" "$4" "$room" "$places" > /dev/null 2> "$room/$1.relay" &
     relay=$!
+    until_bound "$5"
     if [[ $1 != *straight ]]; then
         to=$6
         if [[ $1 == *lossy ]]; then words+=(lossy); else line=(down 4000); fi
         "$room/proxy" "$6" "$5" "$7" "${line[@]}" 2> "$room/$1.proxy" &
         proxy=$!
+        until_bound "$6"
     fi
     if [ "$2" = crowd ]; then
-        timeout 110 "$room/crowd" "$to" "$3" 2 2> "$room/$1.client" &
+        timeout 330 "$room/crowd" "$to" "$3" 2 2> "$room/$1.client" &
     else
-        timeout 110 "$room/client" "$to" "$2" "$3" "${words[@]}" 2> "$room/$1.client" &
+        timeout 330 "$room/client" "$to" "$2" "$3" "${words[@]}" 2> "$room/$1.client" &
     fi
     client=$!
     wait "$client"
@@ -85,8 +95,9 @@ visit() {
     trap 'exit 1' TERM
     "$room/server" "$1" 2 2 echo 2> "$room/visit.server" &
     relay=$!
+    until_bound "$1"
     local got='got 3 packets, the others sent 3'
-    timeout 110 "$program" demo --clients 2 --port "$1" --turns 1000 > "$room/visit.out" 2> "$room/visit.err" &
+    timeout 330 "$program" demo --clients 2 --port "$1" --turns 1000 > "$room/visit.out" 2> "$room/visit.err" &
     client=$!
     wait "$client"
     local status=$?
@@ -103,16 +114,18 @@ echo_both_ways() {
     trap end_attempt EXIT
     trap 'exit 1' TERM
     local name=echo-$1-$2 to=$3 status
-    local server=("$example" serve "$3" 20000) visitor=("$room/echo")
+    local server=("$example" serve "$3" 1000000) visitor=("$room/echo")
     [ "$1" = ours ] || { server=("$room/server" "$3" 2 2 echo); visitor=("$example" visit); }
     "${server[@]}" > "$room/$name.relay" 2>&1 &
     relay=$!
+    until_bound "$3"
     if [ "$2" = lossy ]; then
         to=$4
         "$room/proxy" "$4" "$3" 7 2> "$room/$name.proxy" &
         proxy=$!
+        until_bound "$4"
     fi
-    timeout 110 "${visitor[@]}" "$to" > "$room/$name.client" 2>&1 &
+    timeout 330 "${visitor[@]}" "$to" > "$room/$name.client" 2>&1 &
     client=$!
     wait "$client"
     status=$?
@@ -142,15 +155,17 @@ play() {
     trap end_attempt EXIT
     trap 'exit 1' TERM
     local name=game-$1 to=$2 status=0 player
-    "$game" "$2" 500 3 90 > "$room/$name.relay" 2>&1 &
+    "$game" "$2" 500 3 300 > "$room/$name.relay" 2>&1 &
     relay=$!
+    until_bound "$2"
     if [ "$1" = lossy ]; then
         to=$3
         "$room/proxy" "$3" "$2" 7 2> "$room/$name.proxy" &
         proxy=$!
+        until_bound "$3"
     fi
     for player in 1 2 3; do
-        timeout 110 "$room/guess" "$to" >> "$room/$name.client" 2>&1 &
+        timeout 330 "$room/guess" "$to" >> "$room/$name.client" 2>&1 &
         client="$client $!"
     done
     for player in $client $relay; do
@@ -180,9 +195,10 @@ games() {
 receive_guests() {
     LD_PRELOAD=$room/faults.so "$program" serve --port "$2" --log "${@:4}" > "$room/$1.out" 2> "$room/$1.err" &
     relay=$!
-    timeout 110 "$room/guests" "$2" "$3" > "$room/$1.guests" 2> "$room/$1.client" &
+    until_bound "$2"
+    timeout 330 "$room/guests" "$2" "$3" > "$room/$1.guests" 2> "$room/$1.client" &
     client=$!
-    for _ in {1..300}; do
+    for _ in {1..600}; do
         [ -s "$room/$1.guests" ] && [ "$(grep -c '^connect ' "$room/$1.err")" = 2 ] && return
         sleep 0.1
     done
@@ -194,6 +210,10 @@ guests_fared() {
     wait "$client"
     local status=$? pattern='^listening at 127\.0\.0\.1:[0-9]+, 32 peers, 1056 slots, 2 channels, receive buffer [1-9][0-9]* bytes$'
     client=
+    for _ in {1..600}; do
+        [ "$(grep -Ec '^disconnect [01]\.0 ' "$room/$1.err")" -lt "$2" ] || [ "$(tail -n 1 "$room/$1.err")" != "${3:-$(tail -n 1 "$room/$1.err")}" ] || break
+        sleep 0.1
+    done
     sleep 1
     [ "$status" -eq 0 ] || { echo "the guests ended with status $status: $(head -c 400 "$room/$1.client")"; return 1; }
     head -n 1 "$room/$1.err" | grep -Eq "$pattern" || { echo "the first line is $(head -n 1 "$room/$1.err")"; return 1; }
@@ -204,7 +224,7 @@ guests_fared() {
 
 # Whether the server ended with status $2 in time, and wrote to standard output what begins with $3.
 server_ended() {
-    for _ in {1..100}; do
+    for _ in {1..600}; do
         kill -0 "$relay" 2> /dev/null || break
         sleep 0.1
     done
@@ -228,7 +248,7 @@ no_memory() {
     else
         FAULTS_ANYWHERE=1 receive_guests "$name" "$1" told --forever --threads 1
     fi
-    for _ in {1..200}; do
+    for _ in {1..1200}; do
         kill -USR1 "$relay" 2> /dev/null && ! grep -q '^E1' "$room/$name.err" || break
         sleep 0.05
     done
@@ -241,9 +261,9 @@ turns_over() {
     trap end_attempt EXIT
     trap 'exit 1' TERM
     local name=turns-over-$2
-    receive_guests "$name" "$1" told --turns 2000 --threads "$2"
+    receive_guests "$name" "$1" told --turns 5000 --threads "$2"
     guests_fared "$name" 0 '' > "$room/$name.first" || return
-    server_ended "$name" 0 'served 2000 received ' > "$room/$name.first" && : > "$room/$name.passed"
+    server_ended "$name" 0 'served 5000 received ' > "$room/$name.first" && : > "$room/$name.passed"
 }
 
 # Receptions of the socket of a server of $2 threads fail.
