@@ -17,9 +17,9 @@ input() {
     local name=$1 file=$2 out=$3 err=$4 wanted=$5 status way
     for way in stdin file; do
         if [ "$way" = stdin ]; then
-            timeout 60 "$program" inspect $body_options < "$file" > "$room/out" 2> "$room/err"
+            timeout 600 "$program" inspect $body_options < "$file" > "$room/out" 2> "$room/err"
         else
-            timeout 60 "$program" inspect $body_options "$file" > "$room/out" 2> "$room/err" < /dev/null
+            timeout 600 "$program" inspect $body_options "$file" > "$room/out" 2> "$room/err" < /dev/null
         fi
         status=$?
         cmp -s "$out" "$room/out" || { differ "$name by $way" 'standard output' "$out" "$room/out"; return; }
@@ -172,7 +172,7 @@ captures() {
 timeline() {
     local name="timeline: $1 ${*:5}" status found
     rm -f "$room/picture"
-    timeout 60 "$program" inspect "$2" --timeline "$room/picture" "${@:5}" > "$room/out" 2> "$room/err" < /dev/null
+    timeout 600 "$program" inspect "$2" --timeline "$room/picture" "${@:5}" > "$room/out" 2> "$room/err" < /dev/null
     status=$?
     [ "$status" -eq "$4" ] || { fail "$name" "status $status where $4 is wanted: $(head -c 200 "$room/err")"; return; }
     [ "$(<"$room/err")" = "$3" ] || { fail "$name" "standard error is: $(head -c 200 "$room/err")"; return; }
@@ -240,7 +240,7 @@ pictures_of_lessons() {
     local lab kept
     for lab in docs/lessons/*.lab; do
         kept=${lab%.lab}
-        timeout 60 "$program" lab < "$lab" | python3 scripts/lib/timeline.py lab "$lab" "$room/made" || { fail "picture of $lab" "$lab"; continue; }
+        timeout 600 "$program" lab < "$lab" | python3 scripts/lib/timeline.py lab "$lab" "$room/made" || { fail "picture of $lab" "$lab"; continue; }
         timeline "$(basename "$kept")" "$room/made" '' 0
         cmp -s "$room/picture" "$kept.svg" && passed=$((passed + 1)) || differ "picture of $lab" 'what is drawn of it' "$kept.svg" "$room/picture"
     done
@@ -248,7 +248,7 @@ pictures_of_lessons() {
 
 # What `inspect` writes of the file $1, to $2 and $2.err, with its status in the last line of that.
 inspected() {
-    timeout 60 "$program" inspect "$1" > "$2" 2> "$2.err" < /dev/null
+    timeout 600 "$program" inspect "$1" > "$2" 2> "$2.err" < /dev/null
     echo "status $?" >> "$2.err"
 }
 
@@ -263,8 +263,8 @@ pcapng() {
         sed -i -E 's/^(datagram .* at [0-9]+\.[0-9]{6}|.* begun at [0-9]+\.[0-9]{6})$/\1000/' "$room/of-made"
         cmp -s "$room/of-made" "$room/of-blocks" && cmp -s "$room/of-made.err" "$room/of-blocks.err" && passed=$((passed + 1)) \
             || differ "pcapng: $file" 'what is told' "$room/of-made" "$room/of-blocks"
-        timeout 60 "$program" inspect "$room/made" --timeline "$room/picture" > "$room/of-made"
-        timeout 60 "$program" inspect - --timeline "$room/blocks.svg" < "$room/blocks" > "$room/of-blocks"
+        timeout 600 "$program" inspect "$room/made" --timeline "$room/picture" > "$room/of-made"
+        timeout 600 "$program" inspect - --timeline "$room/blocks.svg" < "$room/blocks" > "$room/of-blocks"
         cmp -s "$room/of-made" "$room/of-blocks" && cmp -s "$room/picture" "$room/blocks.svg" && passed=$((passed + 1)) \
             || differ "pcapng: timeline of $file" 'what is told' "$room/of-made" "$room/of-blocks"
     done
@@ -283,7 +283,7 @@ pcapng() {
 
 # What has no timeline: its name here, its file, what is wanted on standard error, and the status.
 no_timeline() {
-    timeout 60 "$program" inspect "$2" --timeline "$room/none" > "$room/out" 2> "$room/err"
+    timeout 600 "$program" inspect "$2" --timeline "$room/none" > "$room/out" 2> "$room/err"
     [ $? -eq "$4" ] && [ ! -s "$room/out" ] && [ ! -e "$room/none" ] && [ "$(<"$room/err")" = "$3" ] && passed=$((passed + 1)) \
         || fail "no timeline: $1" "$(head -c 200 "$room/err")"
 }
@@ -299,18 +299,18 @@ refused_timelines() {
 }
 
 files() {
-    timeout 60 "$program" inspect "$room/no-such-file" > "$room/out" 2> "$room/err"
+    timeout 600 "$program" inspect "$room/no-such-file" > "$room/out" 2> "$room/err"
     [ $? -eq 1 ] && [ "$(<"$room/err")" = 'No such file or directory (os error 2)' ] && passed=$((passed + 1)) || fail no-such-file "$(<"$room/err")"
-    timeout 60 "$program" inspect < / > "$room/out" 2> "$room/err"
+    timeout 600 "$program" inspect < / > "$room/out" 2> "$room/err"
     [ $? -eq 1 ] && [ "$(<"$room/err")" = 'input or output failed' ] && passed=$((passed + 1)) || fail unreadable "$(<"$room/err")"
-    echo 0fff | timeout 60 "$program" inspect > /dev/full 2> "$room/err"
+    echo 0fff | timeout 600 "$program" inspect > /dev/full 2> "$room/err"
     [ $? -eq 1 ] && [ "$(<"$room/err")" = 'input or output failed' ] && passed=$((passed + 1)) || fail unwritable "$(<"$room/err")"
-    timeout 60 "$program" inspect one two > "$room/out" 2> "$room/err"
+    timeout 600 "$program" inspect one two > "$room/out" 2> "$room/err"
     [ $? -eq 2 ] && [ "$(<"$room/err")" = 'bad command line' ] && passed=$((passed + 1)) || fail two-files "$(<"$room/err")"
     # shellcheck disable=SC2086 # these are words
     for words in '--at UP' '--at LEFT' '--connection 1' '--from 1' '--timeline x --connection 256' '--timeline x --channel 256' \
         '--timeline x --from 1.0000001' '--timeline x --from .' '--timeline x --to -1' '--timeline x --to 4294967296' '--timeline x --full'; do
-        timeout 60 "$program" inspect one $words > "$room/out" 2> "$room/err"
+        timeout 600 "$program" inspect one $words > "$room/out" 2> "$room/err"
         [ $? -eq 2 ] && [ "$(<"$room/err")" = 'bad command line' ] && passed=$((passed + 1)) || fail "bad words: $words" "$(<"$room/err")"
     done
 }

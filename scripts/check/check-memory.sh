@@ -17,7 +17,7 @@ most=${1:-1000}
 
 # Runs the program with growth $1 refused (none where that is 0), and the standard input $room/input.
 run_with() {
-    FAULTS_AT=$1 LD_PRELOAD=$room/faults.so timeout 60 out/probe < "$room/input" > "$room/out" 2>&1
+    FAULTS_AT=$1 LD_PRELOAD=$room/faults.so timeout 600 out/probe < "$room/input" > "$room/out" 2>&1
 }
 
 # Whether the program said that all went as expected.
@@ -72,7 +72,7 @@ fill() {
     local name="$1${4:+ of $4} on $2 channels, where $3 bytes may wait" commands bytes packets total came arrived most
     awk -v kind="$1" -v channels="$2" -v waiting="$3" -v pieces="${4:-0}" -f scripts/lib/filled.awk > "$room/filled.hosts"
     read -r _ _ commands bytes packets total came arrived < "$room/filled.hosts"
-    if ! (cd "$room" && COUNTED=held LD_PRELOAD=$room/counted.so timeout 60 "$OLDPWD/out/probe" filled \
+    if ! (cd "$room" && COUNTED=held LD_PRELOAD=$room/counted.so timeout 600 "$OLDPWD/out/probe" filled \
         "$((commands * command + bytes))" < /dev/null > "$room/out" 2>&1); then
         fail "$name" "$(tail -c 400 "$room/out")"
         return

@@ -19,13 +19,13 @@ answers 2: of 65536 sent times 2 confirm, of 65536 numbers 1
 answers 3: of 65536 sent times 3 confirm, of 65536 numbers 1'
 
 guesses() {
-    found=$(timeout 300 out/probe guesses 3 2>&1)
+    found=$(timeout 1800 out/probe guesses 3 2>&1)
     [ "$found" = "$confirming" ] && passed=$((passed + 1)) || fail guesses "$found"
 }
 
 joins() {
     local soon mistaken
-    found=$(timeout 300 out/probe joins 40000 2>&1)
+    found=$(timeout 1800 out/probe joins 40000 2>&1)
     read -r _ _ soon _ _ _ _ _ _ mistaken _ <<< "$found"
     [ "${soon:-0}" -ge 37600 ] && [ "${mistaken:-40000}" -le 480 ] && passed=$((passed + 1)) || fail joins "$found"
     echo "$found"
@@ -34,7 +34,7 @@ joins() {
 if ! [ -x out/probe ] && ! bash scripts/lib/build-probe.sh; then
     fail probe "it can't be built"
 else
-    found=$(timeout 300 out/probe foreign 1000000 < trials/datagrams.txt 2>&1)
+    found=$(timeout 1800 out/probe foreign 1000000 < trials/datagrams.txt 2>&1)
     if [ "$found" = "$wanted" ]; then
         passed=5
     else
