@@ -1,9 +1,9 @@
-// fray PORT PLAYERS SECONDS: clients of the reference library in an arena (the examples of bindings/) at PORT of 127.0.0.1: that many players,
-// who make ten drawn moves a second, for so many seconds; one who sends garbage; and one who, once a second has passed, reads and answers
-// nothing for three. Only time in which this program goes on counts, so that a machine that stands still does no harm. Status 0 if the last snapshot has each player where its moves lead, each player got half the snapshots or more, no
-// snapshot came behind a later one, who sent garbage was sent away with the number 1, and nobody else was; else it says why on standard
-// error, with status 2 if something came too late, and status 1 if anything else is amiss. Prints the slot that the one who read nothing has
-// at the server.
+// fray PORT PLAYERS SECONDS: clients of the reference library in an arena (the examples of bindings/) at PORT of 127.0.0.1: that many
+// players, who make ten drawn moves a second, for so many seconds; one who sends garbage; and one who, once a second has passed, reads and
+// answers nothing for three. Only time in which this program goes on counts, so that a machine that stands still does no harm. Status 0 if
+// the last snapshot has each player where its moves lead, each player got half the snapshots or more, no snapshot came behind a later one,
+// who sent garbage was sent away with the number 1, and nobody else was; else it says why on standard error, with status 2 if something
+// came too late, and status 1 if anything else is amiss. Prints the slot that the one who read nothing has at the server.
 #include <enet/enet.h>
 #include <stdbool.h>
 
