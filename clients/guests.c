@@ -1,9 +1,9 @@
-// guests PORT AFTER: two clients of the reference library at the relay at PORT of 127.0.0.1 talk to one another, in turns, a reliable packet
-// each in 20 milliseconds. Once each got ten of the other's they write `talking`. Where AFTER is `told` they go on until both were told that the
-// relay ends, which must come within 3 seconds of a packet or sooner, since ENet itself ends a connection that stands still only after 5: in
-// seconds in which this program goes on, so that a machine that stands still does no harm;
-// where it is a number, until each got so many packets more, and they leave with the word 5. Status 0 where that came; else it is told on standard error what went wrong,
-// with status 2 where it came too late, and status 1 where anything else is amiss.
+// guests PORT AFTER: two clients of the reference library at the relay at PORT of 127.0.0.1 talk to one another, in turns, a reliable
+// packet each in 20 milliseconds. Once each got ten of the other's they write `talking`. Where AFTER is `told` they go on until both were
+// told that the relay ends, which must come within 3 seconds of a packet or sooner, since ENet itself ends a connection that stands still
+// only after 5: in seconds in which this program goes on, so that a machine that stands still does no harm; where it is a number, until
+// each got so many packets more, and they leave with the word 5. Status 0 where that came; else it is told on standard error what went
+// wrong, with status 2 where it came too late, and status 1 where anything else is amiss.
 #include <enet/enet.h>
 #include <poll.h>
 #include <stdbool.h>

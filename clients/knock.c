@@ -1,9 +1,9 @@
-// knock PORT ADDRESS COUNT SECONDS [mtu] [told] [in]: so many clients of the reference library, each a host of its own at ADDRESS (127.0.0.1 and
-// its like), ask the server at PORT of 127.0.0.1 for a connection, and stay. Prints after so many seconds how many are connected, and how
-// many were told the end of their connection before; with `mtu` also the mtu of the first one's connection. With `told` also how many were
-// told that the server is full, how many of these by the first datagram behind the answer, for how many milliseconds a client believed at
-// most that it is connected, and how many believed it for more than 5 seconds. Then they leave, and wait a moment for the answers. With `in`
-// the seconds begin when all are connected, or after a minute. SIGTERM ends them before.
+// knock PORT ADDRESS COUNT SECONDS [mtu] [told] [in]: so many clients of the reference library, each a host of its own at ADDRESS
+// (127.0.0.1 and its like), ask the server at PORT of 127.0.0.1 for a connection, and stay. Prints after so many seconds how many are
+// connected, and how many were told the end of their connection before; with `mtu` also the mtu of the first one's connection. With `told`
+// also how many were told that the server is full, how many of these by the first datagram behind the answer, for how many milliseconds a
+// client believed at most that it is connected, and how many believed it for more than 5 seconds. Then they leave, and wait a moment for
+// the answers. With `in` the seconds begin when all are connected, or after a minute. SIGTERM ends them before.
 #include <enet/enet.h>
 #include <signal.h>
 

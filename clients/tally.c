@@ -1,8 +1,9 @@
-// tally PORT CLIENTS SECONDS: so many clients of the reference library talk through the relay at PORT of 127.0.0.1 and count what they send and
-// take. The first asks for one channel, the others for two. Once all are connected it writes `talking`; then each sends a reliable packet on
-// channel 0 every half second, and the second 20 packets in all on channel 1, which the relay can't pass on to the first. After so many seconds,
-// or at SIGTERM, they leave, and each takes what still comes, until for a second and a half, in which this program goes on, nothing did. Then it prints the datagrams that went, their bytes, those that came, and their bytes, and how many
-// packets came on channel 0.
+// tally PORT CLIENTS SECONDS: so many clients of the reference library talk through the relay at PORT of 127.0.0.1 and count what they send
+// and take. The first asks for one channel, the others for two. Once all are connected it writes `talking`; then each sends a reliable
+// packet on channel 0 every half second, and the second 20 packets in all on channel 1, which the relay can't pass on to the first. After
+// so many seconds, or at SIGTERM, they leave, and each takes what still comes, until for a second and a half, in which this program goes
+// on, nothing did. Then it prints the datagrams that went, their bytes, those that came, and their bytes, and how many packets came on
+// channel 0.
 #include <enet/enet.h>
 #include <signal.h>
 

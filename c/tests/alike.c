@@ -46,7 +46,7 @@ static bool serve(int i, bool takes, ENetEventType type) {
     return told && event.type == type;
 }
 
-/* The same until that is told, or so many milliseconds are over: of each round some at most, so that a machine that stands still leaves as many. */
+/* The same until that is told, or so many milliseconds are over. Of each round few count, so that a machine may stand still. */
 static bool until(int i, bool takes, ENetEventType type, enet_uint32 ms) {
     enet_uint32 last = enet_time_get(), passed = 0;
     bool is_told = false;

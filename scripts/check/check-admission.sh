@@ -28,8 +28,8 @@ finish() {
     exec 8>&-
 }
 
-# Clients at the address $1, $2 of them, for $3 seconds, as background job; what they say is in the file of the name $4. Behind it may stand `mtu`,
-# and `in`: then the seconds begin when all are in.
+# Clients at the address $1, $2 of them, for $3 seconds, as background job; what they say is in the file of the name $4. Behind it may stand
+# `mtu`, and `in`: then the seconds begin when all are in.
 knock() {
     "$room/knock" "$port" "$1" "$2" "$3" "${@:5}" > "$room/$4" 2>&1 &
     knocking+=($!)

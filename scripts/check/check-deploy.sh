@@ -177,8 +177,8 @@ healthy() {
     grep -c '^health$' "$room/sidecar"
 }
 
-# The wrapper of a program that tells figures, each of whose threads is stopped: from the fifth second to the eighth nobody is told of health, and
-# afterwards it is told again.
+# The wrapper of a program that tells figures, each of whose threads is stopped: from the fifth second to the eighth nobody is told of
+# health, and afterwards it is told again.
 hung() {
     local sdk wrapper first thread before holder
     begin_wrapper || return 1

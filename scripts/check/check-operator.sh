@@ -21,7 +21,8 @@ same() {
     if [ "$2" = "$3" ]; then passed=$((passed + 1)); else fail "$1" "'$2' where '$3' is wanted"; fi
 }
 
-# A server whose control is descriptor 8, and whose log goes to $1, with the words behind that, once it has its port. Its answers are in $room/out.
+# A server whose control is descriptor 8, and whose log goes to $1, with the words behind that, once it has its port. Its answers are in
+# $room/out.
 begin() {
     free_port
     exec 8<> "$room/control"

@@ -169,8 +169,8 @@ service_told() {
     passed=$((passed + 1))
 }
 
-# Starts `serve` with these words on the port `port`, its outputs as $room/first and $room/first.err, and waits until it listens. The status is 1
-# where it ended before.
+# Starts `serve` with these words on the port `port`, its outputs as $room/first and $room/first.err, and waits until it listens. The status
+# is 1 where it ended before.
 start_service() {
     "$program" serve --port "$port" "$@" > "$room/first" 2> "$room/first.err" &
     first=$!

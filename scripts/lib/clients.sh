@@ -21,8 +21,9 @@ build_clients() {
     cc -std=gnu11 -O2 -Wall -Wextra -shared -fPIC -o "$1/calls.so" clients/calls.c
 }
 
-# The next port that neither UDP nor TCP has taken, into `port`. Each script has a thousand of its own, so that none that runs beside it takes one
-# between the look and the start of a server. All lie below the ports that sockets get which ask for none; check-hostile-server.py has 29000 and on.
+# The next port that neither UDP nor TCP has taken, into `port`. Each script has a thousand of its own, so that none that runs beside it
+# takes one between the look and the start of a server. All lie below the ports that sockets get which ask for none; check-hostile-server.py
+# has 29000 and on.
 case ${0##*/} in
     check-rows.sh) first_port=21000 ;;
     check-c.sh) first_port=22000 ;;
