@@ -13,6 +13,7 @@ program=${1:-crates/enet_relay/out/enet_relay}
 begin() {
     free_port
     exec 8<> "$room/control"
+    : > "$room/log" # what the last one said
     "$program" serve --port "$port" --forever --log --control --threads "$threads" --queue-capacity 1024 "$@" <&8 > "$room/out" 2> "$room/log" &
     relay=$!
     until grep -qs '^listening at' "$room/log"; do

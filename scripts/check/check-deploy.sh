@@ -63,6 +63,7 @@ receive_guests() {
     pairs=()
     local pair
     for pair in 1 2; do
+        : > "$room/pair$pair" # what the last ones said
         timeout 660 "$room/guests" "$1" "${2:-told}" > "$room/pair$pair" 2> "$room/pair$pair.err" &
         pairs+=($!)
         started+=($!)
@@ -151,6 +152,7 @@ goes_on() {
 
 # 21 strangers who have 20 orders refused for each packet of one of them, and leave after two seconds.
 gossip() {
+    : > "$room/gossip.out"
     timeout 200 "$room/gossip" "$port" 20 2 > "$room/gossip.out" 2> "$room/why" &
     started+=($!)
     wait_for "$room/gossip.out" talking

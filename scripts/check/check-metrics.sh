@@ -152,6 +152,8 @@ lossy() {
 # transit each time that it is due to be resent, and is in it again as soon as it goes, which is in the same turn while there is room.
 in_transit() {
     local told stopped talking
+    : > "$room/stopped.out"
+    : > "$room/talking.out"
     "$room/tally" "$port" 2 600 > "$room/stopped.out" 2>&1 &
     stopped=$!
     "$room/tally" "$port" 2 600 > "$room/talking.out" 2>&1 &
@@ -187,6 +189,7 @@ talks() {
 # Figures while clients talk, for six seconds at least, and once they have gone.
 figures() {
     local told logged unknown
+    : > "$room/tally.out"
     "$room/tally" "$port" 32 600 > "$room/tally.out" 2>&1 &
     local tally=$!
     talks tally
@@ -264,7 +267,7 @@ requests() {
 # Eighty ask nothing; each other one gets its answer.
 silent() {
     local i begun
-    rm -f "$room/silent"
+    : > "$room/silent"
     python3 - "$port" > "$room/silent" << 'END' &
 import socket, sys, time
 silent = [socket.create_connection(("127.0.0.1", int(sys.argv[1]))) for _ in range(80)]
@@ -306,6 +309,7 @@ await_line() {
 crowded() {
     local i crowd told
     : > "$room/crowded"
+    : > "$room/crowd"
     python3 - "$port" "$room/crowded" << 'END' > "$room/crowd" 2>&1 &
 import os, socket, sys, time
 kept, came, end = [], 0, time.monotonic() + 120

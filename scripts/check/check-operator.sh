@@ -27,6 +27,7 @@ begin() {
     free_port
     exec 8<> "$room/control"
     : > "$room/out"
+    [ -p "$1" ] || : > "$1"
     "$program" serve --port "$port" --forever --control --threads "$threads" --queue-capacity 1024 "${@:2}" <&8 > "$room/out" 2> "$1" &
     relay=$!
     until grep -q ":$(printf '%04X' "$port") " /proc/net/udp; do
@@ -88,6 +89,7 @@ lines() {
     local peer clients
     begin "$room/log"
     await '^listening' "$room/log" 1
+    : > "$room/heard"
     "$room/told" "$port" 3 600 > "$room/heard" 2>&1 &
     clients=$!
     await ' connected$' "$room/heard" 3
@@ -138,11 +140,13 @@ unread() {
     mkfifo "$room/errors"
     exec 7<> "$room/errors"
     begin "$room/errors" --log --peers 200
+    : > "$room/guests.out"
     timeout 660 "$room/guests" "$port" told > "$room/guests.out" 2> "$room/guests.err" &
     guests=$!
     await '^talking$' "$room/guests.out" 1
     same passers "$(timeout 660 "$room/passers" "$port" 5000 600)" '5000 passed'
     kill -0 "$guests" 2> "$room/gone" || fail unread "$(<"$room/guests.err")"
+    : > "$room/read"
     cat <&7 > "$room/read" &
     reader=$!
     await ' more$' "$room/read" 1

@@ -172,6 +172,7 @@ service_told() {
 # Starts `serve` with these words on the port `port`, its outputs as $room/first and $room/first.err, and waits until it listens. The status
 # is 1 where it ended before.
 start_service() {
+    : > "$room/first.err" # what the last one said
     "$program" serve --port "$port" "$@" > "$room/first" 2> "$room/first.err" &
     first=$!
     until grep -q '^listening at' "$room/first.err"; do
@@ -392,6 +393,7 @@ counts_unread() {
     free_port
     mkfifo "$room/left" "$room/lines"
     exec 8<> "$room/lines"
+    : > "$room/err"
     : < "$room/left" &
     reader=$!
     timeout 120 "$program" serve --port "$port" --forever --control <&8 > "$room/left" 2> "$room/err" &
