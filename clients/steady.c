@@ -10,7 +10,7 @@
 
 #include "common.h"
 
-enum { MOST = 64, LONGEST = 1364, JOIN = 20 };
+enum { MOST = 64, LONGEST = 1364, JOIN = 60 };
 
 typedef struct Client {
     ENetHost *host;

@@ -267,7 +267,7 @@ longest_packet() {
     local length
     begin --max-packet 1000
     for length in 1000 1001; do
-        timeout 120 "$room/steady" "$port" 2 1 "$length" 0 1 > "$room/packets-$length" 2>&1
+        timeout 120 "$room/steady" "$port" 2 1 "$length" 0 5 > "$room/packets-$length" 2>&1
     done
     grep -Eq '^lost 0 and 0, came ([1-9][0-9]*) of \1 and [1-9]' "$room/packets-1000" && passed=$((passed + 1)) ||
         fail "longest-packet in $threads threads" "$(<"$room/packets-1000")"
