@@ -240,6 +240,7 @@ static void lists(void) {
     lists_of("a free slot", &server->peers[1]);
     printf("queue of the host: %s\n", EMPTY(&server->dispatchQueue));
     join(0);
+    peers[0]->pingInterval = server->peers[0].pingInterval = 60000; /* no PING waits for its acknowledgement */
     pass(0, true, 150);
     lists_of("quiet", peers[0]);
     give(peers[0], 100, ENET_PACKET_FLAG_RELIABLE);

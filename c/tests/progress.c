@@ -15,7 +15,7 @@
 #include <string.h>
 #include <sys/socket.h>
 
-enum { LIMIT_MS = 300000, CASES = 4, MTU = 1392 };
+enum { LIMIT_MS = 900000, CASES = 4, MTU = 1392 };
 
 /* A case: how many large packets of how many bytes on a channel each, how many small ones on the next, or all on the first, small ones ahead;
  * how many bytes may wait; and whether the datagram with the first small one is lost once. */

@@ -221,10 +221,10 @@ meet() {
     read -ra client <<< "$3"
     {
         trap 'kill $relay 2> /dev/null' EXIT
-        timeout 660 "${server[@]}" serve "$port" > "$room/$1.server" 2>&1 &
+        timeout 1200 "${server[@]}" serve "$port" > "$room/$1.server" 2>&1 &
         relay=$!
         until_bound "$port"
-        timeout 330 "${client[@]}" visit "$port" > "$room/$1.client" 2>&1 && wait "$relay" && : > "$room/$1.passed"
+        timeout 1000 "${client[@]}" visit "$port" > "$room/$1.client" 2>&1 && wait "$relay" && : > "$room/$1.passed"
     } &
 }
 
