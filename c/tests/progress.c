@@ -15,7 +15,7 @@
 #include <string.h>
 #include <sys/socket.h>
 
-enum { LIMIT_MS = 900000, CASES = 4, MTU = 1392 };
+enum { LIMIT_MS = 900000, PATIENCE_MS = 300000, CASES = 4, MTU = 1392 };
 
 /* A case: how many large packets of how many bytes on a channel each, how many small ones on the next, or all on the first, small ones ahead;
  * how many bytes may wait; and whether the datagram with the first small one is lost once. */
@@ -46,6 +46,7 @@ static int serve(ENetAddress address, int which) {
     while (enet_time_get() - begun < LIMIT_MS) {
         if (enet_host_service(host, &event, 100) <= 0) continue;
         if (event.type == ENET_EVENT_TYPE_DISCONNECT) break;
+        if (event.type == ENET_EVENT_TYPE_CONNECT) enet_peer_timeout(event.peer, 0, PATIENCE_MS, PATIENCE_MS);
         if (event.type != ENET_EVENT_TYPE_RECEIVE) continue;
         bool is_large = cases[which].shares ? small == cases[which].small : event.channelID < cases[which].large;
         size_t number = !is_large ? 100 + small : cases[which].shares ? large : event.channelID;
@@ -105,7 +106,9 @@ static void send_one(ENetPeer *peer, enet_uint8 channel, size_t number, size_t l
     ENetPacket *packet = enet_packet_create(NULL, length, ENET_PACKET_FLAG_RELIABLE);
     if (!packet) exit(2);
     for (size_t i = 0; i < length; i++) packet->data[i] = byte_of(number, i);
-    if (enet_peer_send(peer, channel, packet) != 0) exit(1);
+    if (enet_peer_send(peer, channel, packet) == 0) return;
+    puts("a packet isn't taken");
+    exit(1);
 }
 
 /* Sends all packets of a case. */
@@ -124,17 +127,23 @@ static int visit(ENetAddress address, int which) {
     ENetHost *host = enet_host_create(NULL, 1, 3, 0, 0);
     if (!host) return 2;
     host->mtu = host->peers[0].mtu = MTU;
-    if (!enet_host_connect(host, &address, 3, 0)) return 2;
+    ENetPeer *peer = enet_host_connect(host, &address, 3, 0);
+    if (!peer) return 2;
+    enet_peer_timeout(peer, 0, PATIENCE_MS, PATIENCE_MS); /* the other end may be busy with a large packet for as long */
     while (enet_time_get() - begun < LIMIT_MS) {
         int came = enet_host_service(host, &event, loses ? 1 : 100);
         if (loses) pass();
         if (came <= 0) continue;
-        if (event.type == ENET_EVENT_TYPE_DISCONNECT) return loses && !has_lost;
+        if (event.type == ENET_EVENT_TYPE_DISCONNECT) {
+            printf("told the end%s\n", loses && !has_lost ? ", but nothing was lost" : "");
+            return loses && !has_lost;
+        }
         if (event.type != ENET_EVENT_TYPE_CONNECT) continue;
         /* The answer to the server's greeting isn't lost. */
         for (enet_uint32 told = enet_time_get(); loses && enet_time_get() - told < 300; pass()) enet_host_service(host, NULL, 1);
         send_all(event.peer, which);
     }
+    puts("too late");
     return 1;
 }
 

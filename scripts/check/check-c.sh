@@ -403,6 +403,7 @@ else
     meetings
     conversations
     for name in "${names[@]}"; do
+        [ ! -e "$room/$name.server" ] || tail -n 5 "$room/$name.server" >> "$room/$name.client"
         if [ -e "$room/$name.passed" ]; then passed=$((passed + 1)); else fail "$name" "$room/$name.client"; fi
     done
 fi
