@@ -1,4 +1,3 @@
 pub mod Ids
 pub mod Passings
-pub mod Learning
 mod Rests

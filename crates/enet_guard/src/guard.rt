@@ -1,30 +1,27 @@
 //! The guard: whom it lets pass.
-ghost use Rattle.std.specs.Prelude.{◌≡◌, ◌<◌, ◌≤◌, ◌++◌, ◌∷◌, [], length, IfOk, IfSome, IfErr, slice_get, vec_capacity};
-ghost use Rattle.std.specs.List.{filter, position};
-ghost use Rattle.enet_guard.specs.Guarding.{is_below, is_seated_at, is_kept, is_known, is_other, is_of, is_same, without_first};
+ghost use Rattle.std.specs.Prelude.{◌≡◌, ◌<◌, ◌≤◌, ◌++◌, ◌∷◌, [], length, IfOk, IfErr, vec_capacity};
+ghost use Rattle.std.specs.List.{filter};
+ghost use Rattle.enet_guard.specs.Guarding.{is_below, is_kept, is_other};
 ghost use Rattle.enet_guard.specs.Private.Room.{most_noted};
 
 use enet_codec::{Addr, Refusal};
 use std::alloc::Global;
 use std::marker::Model;
 
-/// A CONNECT that passed counts for its address so many milliseconds, where its peer isn't connected before: for so long, at most, a
-/// host keeps a slot for a peer that doesn't answer.
-const HALF_OPEN: u64 = 8_000;
+/// A CONNECT that passed is known again for so many milliseconds: for so long, at most, a host keeps a slot for a peer that doesn't answer.
+const KNOWN: u64 = 8_000;
 
-/// And against the limits of a second so many.
+/// And it counts against the limits of a second for so many.
 const SECOND: u64 = 1_000;
 
-/// So many CONNECTs that passed and whose peers aren't connected are noted at most, and so many that passed within a second. There is
-/// room for them from the start, so that nobody is kept out for want of memory.
+/// So many CONNECTs that passed are known at most, and so many count. There is room for them from the start, so that nobody is kept out for
+/// want of memory.
 const MOST_NOTED: usize = 16_384;
 
 /// What is allowed. Where None stands there is no limit.
 #[derive(Clone, Copy)]
 pub struct Rules {
-    /// How many peers of an address (whatever their ports) there may be at once.
-    pub peers_of_address: Option<u32>,
-    /// How many CONNECTs of an address may pass in a second.
+    /// How many CONNECTs of an address (whatever their ports) may pass in a second.
     pub connects_of_address: Option<u32>,
     /// How many CONNECTs may pass in a second in all.
     pub connects: Option<u32>,
@@ -39,7 +36,6 @@ impl Rules {
         ensures { result ≡ no_rules }
     {
         Rules {
-            peers_of_address: None,
             connects_of_address: None,
             connects: None,
         }
@@ -51,16 +47,8 @@ impl Rules {
 pub struct Asked {
     pub address: Addr,
     pub connect_id: u32,
-    /// It counts before this moment.
+    /// It is noted before this moment.
     pub until: u64,
-}
-
-/// Who is connected in a slot.
-#[derive(Clone, Copy)]
-pub struct Seated {
-    pub address: Addr,
-    /// The generation of the slot.
-    pub generation: u32,
 }
 
 /// Decides which CONNECTs pass. A contract sees what it goes by.
@@ -68,8 +56,7 @@ pub struct Seated {
 pub struct Guard {
     rules: Rules,
     banned: Vec<u32>,
-    seats: Vec<Option<Seated>>,
-    half_open: Vec<Asked>,
+    passed: Vec<Asked>,
     recent: Vec<Asked>,
     clock: u64,
 }
@@ -81,33 +68,28 @@ impl Model for Guard {
 
     ghost Value = { Guarding };
 
-    ghost view = { λ g. record { rules = g.rules; banned = g.banned.items; seats = g.seats.items; half_open = g.half_open.items; recent = g.recent.items; clock = g.clock } };
+    ghost view = { λ g. record { rules = g.rules; banned = g.banned.items; passed = g.passed.items; recent = g.recent.items; clock = g.clock } };
 
-    ghost invariant = { λ g. (length g.half_open.items ≤ most_noted) × (length g.recent.items ≤ most_noted)
-        × (most_noted ≤ vec_capacity g.half_open) × (most_noted ≤ vec_capacity g.recent) };
+    ghost invariant = { λ g. (length g.passed.items ≤ most_noted) × (length g.recent.items ≤ most_noted)
+        × (most_noted ≤ vec_capacity g.passed) × (most_noted ≤ vec_capacity g.recent) };
 }
 
 impl Guard {
     ghost use Rattle.std.specs.Prelude.{◌≡◌, ◌<◌, ◌++◌, ◌∷◌, [], length, OnOk, OnErr, IfOk, IfErr, count_by};
     ghost use Rattle.std.specs.List.{filter, list_any};
     ghost use Rattle.std.specs.Prelude.{eqb};
-    ghost use Rattle.enet_guard.specs.Guarding.{new_guard, has_no_rule, forgotten, Judges, noted, is_again, has_room, is_other, peers_at, later, seated};
+    ghost use Rattle.enet_guard.specs.Guarding.{new_guard, has_no_rule, forgotten, Judges, noted, is_again, has_room, is_other, ticked};
     ghost use Rattle.enet_guard.specs.Private.Room.{most_noted};
 
-    /// A guard with these rules for a host of so many slots, to which nothing came, with room for all that it may note. E1 for want of memory.
-    pub fn new(alloc: Global, rules: Rules, slots: u16) -> Result<Guard, Refusal>
-        ensures new { IfOk result (λ guard. guard ≡ new_guard rules slots) }
+    /// A guard with these rules, to which nothing came, with room for all that it may note. E1 for want of memory.
+    pub fn new(alloc: Global, rules: Rules) -> Result<Guard, Refusal>
+        ensures new { IfOk result (λ guard. guard ≡ new_guard rules) }
         ensures memory { IfErr result (λ why. why ≡ Refusal.Memory) }
     {
-        let mut seats = Vec::new(alloc);
-        if seats.resize(usize::from(slots), None).is_err() {
-            return Err(Refusal::Memory);
-        }
         Ok(Guard {
             rules,
             banned: Vec::new(alloc),
-            seats,
-            half_open: with_room(alloc)?,
+            passed: with_room(alloc)?,
             recent: with_room(alloc)?,
             clock: 0,
         })
@@ -136,8 +118,7 @@ impl Guard {
     pub fn has_no_rule(&self) -> bool
         ensures { result ≡ has_no_rule self.now }
     {
-        self.rules.peers_of_address.is_none()
-            && self.rules.connects_of_address.is_none()
+        self.rules.connects_of_address.is_none()
             && self.rules.connects.is_none()
             && self.banned.is_empty()
     }
@@ -146,7 +127,7 @@ impl Guard {
     fn forget(&mut self)
         ensures { self.new ≡ forgotten self.old }
     {
-        keep_young(&mut self.half_open, self.clock);
+        keep_young(&mut self.passed, self.clock);
         keep_young(&mut self.recent, self.clock);
     }
 
@@ -159,7 +140,7 @@ impl Guard {
     fn is_again(&self, from: Addr, connect_id: u32) -> bool
         ensures { result ≡ is_again self.now from connect_id }
     {
-        self.half_open.iter().any(|asked| {
+        self.passed.iter().any(|asked| {
             asked.address.ip == from.ip
                 && asked.address.port == from.port
                 && asked.connect_id == connect_id
@@ -188,10 +169,9 @@ impl Guard {
     fn has_room(&self, ip: u32) -> bool
         ensures { result ≡ has_room self.now ip }
     {
-        is_below(self.peers_at(ip), self.rules.peers_of_address)
-            && is_below(self.recent_of(ip), self.rules.connects_of_address)
+        is_below(self.recent_of(ip), self.rules.connects_of_address)
             && is_below(self.recent.len(), self.rules.connects)
-            && self.half_open.len() < MOST_NOTED
+            && self.passed.len() < MOST_NOTED
             && self.recent.len() < MOST_NOTED
     }
 
@@ -205,26 +185,17 @@ impl Guard {
             .count()
     }
 
-    // How many peers there are, or may be soon, at this address.
-    fn peers_at(&self, ip: u32) -> usize
-        ensures { result ≡ peers_at ip self.now }
-    {
-        let seated = self.seats.iter().filter(|seat| is_seated_at(ip, seat));
-        let asked = self.half_open.iter().filter(|asked| asked.address.ip == ip);
-        seated.count() + asked.count()
-    }
-
     // Counts a CONNECT that passes.
     fn note(&mut self, from: Addr, connect_id: u32)
-        requires half_open { length self.old.half_open < most_noted }
+        requires passed { length self.old.passed < most_noted }
         requires recent { length self.old.recent < most_noted }
         ensures { self.new ≡ noted self.old from connect_id }
     {
         let clock = self.clock;
-        self.half_open.push_reserved(Asked {
+        self.passed.push_reserved(Asked {
             address: from,
             connect_id,
-            until: clock.saturating_add(HALF_OPEN),
+            until: clock.saturating_add(KNOWN),
         });
         self.recent.push_reserved(Asked {
             address: from,
@@ -235,25 +206,9 @@ impl Guard {
 
     /// So many milliseconds have passed.
     pub fn tick(&mut self, ms: u32)
-        ensures { self.new ≡ record self.old { clock = later self.old.clock ms } }
+        ensures { self.new ≡ ticked self.old ms }
     {
         self.clock = self.clock.saturating_add(u64::from(ms));
-    }
-
-    /// Tells who is connected in a slot. Where that is somebody new, the first CONNECT from there that is still counted as one that may be
-    /// about to connect counts so no more. A slot that the host doesn't have is passed over.
-    pub fn seat(&mut self, slot: usize, there: Option<Seated>)
-        ensures { self.new ≡ seated self.old slot there }
-    {
-        if is_known(self.seats.as_slice(), slot, there) {
-            return;
-        }
-        if let Some(place) = self.seats.get_mut(slot) {
-            *place = there;
-        }
-        if let Some(seated) = there {
-            drop_first(&mut self.half_open, seated.address);
-        }
     }
 }
 
@@ -285,59 +240,11 @@ fn keep_young(asked: &mut Vec<Asked>, clock: u64)
     asked.retain(|asked| clock < asked.until);
 }
 
-// Drops the first one from there.
-fn drop_first(asked: &mut Vec<Asked>, address: Addr)
-    ensures dropped { asked.new.items ≡ without_first address asked.old.items }
-    ensures fewer { length asked.new.items ≤ length asked.old.items }
-    ensures room { vec_capacity asked.new ≡ vec_capacity asked.old }
-{
-    if let Some(place) = place_of(asked.as_slice(), address) {
-        asked.remove(place);
-    }
-}
-
-fn place_of(asked: &[Asked], address: Addr) -> Option<usize>
-    ensures first { result ≡ position (is_of address) asked.now }
-    ensures within { IfSome result (λ place. place < length asked.now) }
-{
-    asked.iter().position(|asked| asked.address.ip == address.ip
-        && asked.address.port == address.port)
-}
-
-// Whether that was told already of a slot, or there is no such slot.
-fn is_known(seats: &[Option<Seated>], slot: usize, there: Option<Seated>) -> bool
-    ensures { result ≡ is_known (slice_get seats.now slot) there }
-{
-    match (seats.get(slot), there) {
-        (None, _) => true,
-        (Some(None), None) => true,
-        (Some(Some(known)), Some(there)) => is_same(known, there),
-        _ => false,
-    }
-}
-
-fn is_same(known: &Seated, there: Seated) -> bool
-    ensures { result ≡ is_same known.now there }
-{
-    known.address.ip == there.address.ip
-        && known.address.port == there.address.port
-        && known.generation == there.generation
-}
-
 fn is_below(count: usize, most: Option<u32>) -> bool
     ensures { result ≡ is_below count most }
 {
     match most {
         Some(most) => count < most as usize,
         None => true,
-    }
-}
-
-fn is_seated_at(ip: u32, seat: &Option<Seated>) -> bool
-    ensures { result ≡ is_seated_at ip seat.now }
-{
-    match seat {
-        Some(seated) => seated.address.ip == ip,
-        None => false,
     }
 }

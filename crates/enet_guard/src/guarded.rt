@@ -1,12 +1,11 @@
 //! A wire behind a guard.
 ghost use Rattle.std.specs.Prelude.{◌≡◌, ◌<◌, ◌≤◌, true, false, None, Ok, IfOk, IfSome, IfErr};
 ghost use Rattle.enet_wire.specs.Wires.{faults_after, last_fault};
-ghost use Rattle.enet_guard.specs.Guarding.{HasLearned};
 ghost use Rattle.enet_guard.specs.Passing.{Lets, Refuses, Receives};
 
 use crate::asking::asks;
 use crate::guard::{Guard, Rules};
-use crate::register::Register;
+use crate::passed_over::PassedOver;
 use enet_codec::{Addr, Refusal};
 use enet_wire::{Journal, Note, SendOutcome, Wire};
 use std::alloc::Global;
@@ -24,7 +23,7 @@ const MOST_PASSED_OVER: u32 = 64;
 pub struct Guarded<N: Wire> {
     wire: N,
     guard: Guard,
-    register: Arc<Register, Global>,
+    passed_over: Arc<PassedOver, Global>,
     journal: Journal,
 }
 
@@ -44,21 +43,21 @@ impl<N: Wire + Drop> Guarded<N> {
     ghost use Rattle.enet_guard.specs.Guarding.{new_guard, is_other};
     ghost use Rattle.enet_guard.specs.Journals.{told_of, TellsTheRest};
 
-    /// The wire of a host of so many slots behind a guard with these rules, to which nothing came. E1 for want of memory.
-    pub fn new(alloc: Global, wire: N, rules: Rules, slots: u16) -> Result<Guarded<N>, Refusal>
+    /// The wire behind a guard with these rules, to which nothing came. E1 for want of memory.
+    pub fn new(alloc: Global, wire: N, rules: Rules) -> Result<Guarded<N>, Refusal>
         ensures wire { IfOk result (λ guarded. guarded.wire ≡ wire) }
-        ensures guard { IfOk result (λ guarded. guarded.guard ≡ new_guard rules slots) }
+        ensures guard { IfOk result (λ guarded. guarded.guard ≡ new_guard rules) }
         ensures untold { IfOk result (λ guarded. told_of guarded ≡ []) }
         ensures memory { IfErr result (λ why. why ≡ Refusal.Memory) }
     {
-        let guard = Guard::new(alloc, rules, slots)?;
-        let Ok(register) = Arc::new(alloc, Register::new(alloc, slots)?) else {
+        let guard = Guard::new(alloc, rules)?;
+        let Ok(passed_over) = Arc::new(alloc, PassedOver::new()) else {
             return Err(Refusal::Memory);
         };
         Ok(Guarded {
             wire,
             guard,
-            register,
+            passed_over,
             journal: Journal::new(),
         })
     }
@@ -87,12 +86,12 @@ impl<N: Wire + Drop> Guarded<N> {
         self.guard.unban(ip);
     }
 
-    /// Where its guard is told who is connected. E1 where so many of them are held that no more can be counted.
-    pub fn register(&self) -> Result<Arc<Register, Global>, Refusal>
+    /// What tells how many CONNECTs were passed over. E1 where so many of it are held that no more can be counted.
+    pub fn passed_over(&self) -> Result<Arc<PassedOver, Global>, Refusal>
         ensures { IfErr result (λ why. why ≡ Refusal.Memory) }
     {
-        match Arc::try_clone(&self.register) {
-            Ok(register) => Ok(register),
+        match Arc::try_clone(&self.passed_over) {
+            Ok(passed_over) => Ok(passed_over),
             Err(_) => Err(Refusal::Memory),
         }
     }
@@ -101,7 +100,7 @@ impl<N: Wire + Drop> Guarded<N> {
 impl<N: Wire> Wire for Guarded<N> {
     ghost use Rattle.std.specs.Prelude.{◌≡◌, ◌<◌, ◌≤◌, ◌++◌, Some, None, Ok, IfOk, IfSome, IfErr, OnErr};
     ghost use Rattle.enet_wire.specs.Wires.{also, came, went, waited, unless_spent, faults_after, last_fault};
-    ghost use Rattle.enet_guard.specs.Guarding.{Waits};
+    ghost use Rattle.enet_guard.specs.Guarding.{ticked};
     ghost use Rattle.enet_guard.specs.Passing.{Receives};
     ghost use Rattle.enet_guard.specs.Journals.{told_of};
 
@@ -120,7 +119,7 @@ impl<N: Wire> Wire for Guarded<N> {
         ensures receives { Receives (N.told self.old.wire) (N.faults self.old.wire) self.old.guard result buf.new (N.told self.new.wire) self.new.guard }
     {
         let spent = self.wire.failures() == u64::MAX;
-        let given = first_passing(&mut self.wire, &mut self.guard, &self.register, buf)?;
+        let given = first_passing(&mut self.wire, &mut self.guard, &self.passed_over, buf)?;
         if spent {
             return Ok(given);
         }
@@ -158,20 +157,19 @@ impl<N: Wire> Wire for Guarded<N> {
         Ok(became)
     }
 
-    /// As the wire behind the guard does. Time goes on for the guard, and it is told who is connected; its rules and whom it bans stay.
+    /// As the wire behind the guard does. Time goes on for the guard; its rules and whom it bans stay.
     fn wait<R: Wait + Clock>(&mut self, rt: &R) -> Result<u32, Refusal>
         ensures told { told_of self.new ≡ told_of self.old ++ unless_spent (N.faults self.old.wire) (waited result) }
         ensures fault { IfErr result (λ why. why ≡ Refusal.WireFault) }
         ensures faults { N.faults self.new.wire ≡ faults_after (N.faults self.old.wire) result }
         ensures spent { N.faults self.old.wire ≡ last_fault → result ≡ Ok 0 }
         ensures waits { N.told self.new.wire ≡ also (N.told self.old.wire) (unless_spent (N.faults self.old.wire) (waited result)) }
-        ensures guard { IfOk result (λ ms. Waits self.old.guard ms self.new.guard) }
+        ensures guard { IfOk result (λ ms. self.new.guard ≡ ticked self.old.guard ms) }
         ensures same { OnErr result (self.new.guard ≡ self.old.guard) }
     {
         let spent = self.wire.failures() == u64::MAX;
         let ms = self.wire.wait(rt)?;
         self.guard.tick(ms);
-        learn(&mut self.guard, &self.register);
         if !spent {
             self.journal = self.journal.and(&Note::Waited { ms });
         }
@@ -187,7 +185,7 @@ impl<N: Wire> Wire for Guarded<N> {
 fn first_passing<N: Wire>(
     wire: &mut N,
     guard: &mut Guard,
-    register: &Register,
+    passed_over: &PassedOver,
     buf: &mut [u8; 4096],
 ) -> Result<Option<(Addr, usize)>, Refusal>
     ensures len { IfOk result (λ given. IfSome given (λ d. d.1 ≤ 4096)) }
@@ -204,7 +202,7 @@ fn first_passing<N: Wire>(
         if judge(guard, from, &buf[..len]) {
             return Ok(Some((from, len)));
         }
-        register.count();
+        passed_over.count();
     }
     Ok(None)
 }
@@ -220,17 +218,5 @@ fn judge(guard: &mut Guard, from: Addr, bytes: &[u8]) -> bool
     match asks(bytes) {
         None => true,
         Some(connect_id) => guard.lets_pass(from, connect_id),
-    }
-}
-
-// Has the guard know who is connected in each slot, where something was told since it last knew.
-fn learn(guard: &mut Guard, register: &Register)
-    ensures { HasLearned guard.old guard.new }
-{
-    if !register.has_changed() {
-        return;
-    }
-    for slot in 0..register.len() {
-        guard.seat(slot, register.seated(slot));
     }
 }

@@ -2,7 +2,7 @@
 
 use enet_host::SlotCounts;
 use enet_metrics::{Figures, Reading, Standing};
-use enet_serve::{Note, Register, WatchedHost};
+use enet_serve::{Note, PassedOver, WatchedHost};
 use std::alloc::Global;
 use std::rt::Clock;
 use std::sync::Arc;
@@ -31,7 +31,7 @@ pub struct Counted {
 #[derive(Drop)]
 pub struct Monitor {
     figures: Arc<Figures, Global>,
-    register: Arc<Register, Global>,
+    passed_over: Arc<PassedOver, Global>,
     reading: Reading,
     // The last round.
     round_at: Option<Instant>,
@@ -45,10 +45,10 @@ pub struct Monitor {
 }
 
 impl Monitor {
-    pub fn new(figures: Arc<Figures, Global>, register: Arc<Register, Global>) -> Monitor {
+    pub fn new(figures: Arc<Figures, Global>, passed_over: Arc<PassedOver, Global>) -> Monitor {
         Monitor {
             figures,
-            register,
+            passed_over,
             reading: Reading::new(),
             round_at: None,
             slots: SlotCounts {
@@ -107,7 +107,7 @@ impl Monitor {
             sends: host.sends(),
             resends: host.resends(),
             lost: counted.lost,
-            passed_over: self.register.passed_over(),
+            passed_over: self.passed_over.connects(),
             orders: counted.orders,
             events: counted.events,
             in_transit: self.in_transit,

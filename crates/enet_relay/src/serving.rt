@@ -80,7 +80,6 @@ fn address_limit(per_address: Option<u32>, slots: u16) -> Option<u16> {
 // Whom it lets in.
 fn rules_of(admission: &Admission) -> Rules {
     Rules {
-        peers_of_address: None,
         connects_of_address: admission.connects_per_address,
         connects: admission.connects_per_second,
     }
@@ -137,7 +136,7 @@ where
         return serve_watched(rt, server, options, &gauge, &mut operator);
     };
     let figures = shared(Figures::new(rt, rt.alloc())?, rt.alloc())?;
-    operator.tell(Monitor::new(another(&figures)?, server.register()?));
+    operator.tell(Monitor::new(another(&figures)?, server.passed_over()?));
     let mut pages = Pages::open(rt, SocketAddr::from(address)).map_err(Failure::Metrics)?;
     let (served, _pages) = join_mut(
         rt,

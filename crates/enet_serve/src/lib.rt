@@ -36,7 +36,7 @@
 //!   listens, what the system says where it can't, that the queues settle (no E16), that the server ends once its relay has, that its
 //!   clients are told of its end, and that the threads end.
 //! - Neither: what a network gives, and when; when E1, E10 and E16 come; that in one thread the service doesn't sleep while orders wait; what
-//!   `gauge` shows and `watch` is told; when the guard is told who is connected.
+//!   `gauge` shows and `watch` is told.
 //! - Of leave-taking: from which clients leave is taken, and when it gives them up. That the clock alone does that can't be said: the kit ties
 //!   no reading of the clock to anything that a contract could name.
 //! - Whom the guard keeps out while a server serves or takes leave: the turns say nothing of the wire but what it told and how often it failed.
@@ -46,11 +46,10 @@
 mod alone;
 mod leaving;
 mod lone_turn;
-mod registrar;
 mod server;
 mod threads;
 
 pub use enet_chat::{Gauge, TOO_SLOW, end_of_slow};
-pub use enet_guard::{Register, Rules};
+pub use enet_guard::{PassedOver, Rules};
 pub use enet_service::{Met, Note, RunLength, SendLimit, Unopened, Unwatched, Watch, WatchedHost};
 pub use server::{ChatServer, Settings};

@@ -6,12 +6,11 @@ ghost use Rattle.enet_serve.specs.Private.Threads.{IsLeft, returned};
 
 use crate::alone::Alone;
 use crate::leaving::take_leave;
-use crate::registrar::Registrar;
 use crate::threads::{Carryover, begin_alone, begin_relay, end_alone, left_or_nothing, relay_on};
 use enet_chat::{Gauge, RelayParts};
 use enet_codec::{Addr, Config, MAX_PEERS, Refusal, Secret};
 use enet_events::Poster;
-use enet_guard::{Guarded, Register, Rules};
+use enet_guard::{Guarded, PassedOver, Rules};
 use enet_host::HostCore;
 use enet_service::{
     BoundService, Ends, EventReceiver, MioWire, OrderSender, QueueSink, QueueSource, Queues,
@@ -128,7 +127,7 @@ impl ChatServer {
         }
         let wire = MioWire::open(rt, settings.address)?;
         ask_for_buffer(&wire, settings.receive_buffer);
-        let wire = Guarded::new(alloc, wire, settings.rules, settings.slots())?;
+        let wire = Guarded::new(alloc, wire, settings.rules)?;
         let mut bound = BoundService::open(alloc, wire, config)?;
         bound.set_send_limit(settings.send_limit);
         Ok(ChatServer {
@@ -171,8 +170,6 @@ impl ChatServer {
         ensures other { IfErr result (λ why. why ≢ Refusal.WireFault → faults_of self.new ≡ faults_of self.old) }
     {
         let bell = self.bound.wire.wire().bell()?;
-        let register = self.bound.wire.register()?;
-        let mut watch = Registrar { register, watch };
         let Queues {
             orders,
             events,
@@ -184,7 +181,7 @@ impl ChatServer {
             bell: &bell,
             signals: &Signals::new(),
         };
-        self.run_turns(rt, shared, ends, run_length, gauge, &mut watch)
+        self.run_turns(rt, shared, ends, run_length, gauge, watch)
     }
 
     /// Serves for a run, as [`ChatServer::serve`] does, in one thread: in each turn this thread expands what the service told, and the
@@ -213,8 +210,6 @@ impl ChatServer {
         ensures other { IfErr result (λ why. why ≢ Refusal.WireFault → faults_of self.new ≡ faults_of self.old) }
     {
         let bell = self.bound.wire.wire().bell()?;
-        let register = self.bound.wire.register()?;
-        let mut watch = Registrar { register, watch };
         let kept = mem::replace(&mut self.kept, Carryover::new(self.alloc));
         let mut alone = Alone {
             relay: begin_alone(self.alloc, kept, gauge),
@@ -222,7 +217,7 @@ impl ChatServer {
             gauge,
         };
         alone.relay.expand()?;
-        let served = alone.run(rt, &mut self.bound, run_length, &mut watch);
+        let served = alone.run(rt, &mut self.bound, run_length, watch);
         self.kept = end_alone(alone.relay);
         served
     }
@@ -337,10 +332,10 @@ impl ChatServer {
     }
 
     /// What tells how many CONNECTs the guard passed over. E1 where so many of it are held that no more can be counted.
-    pub fn register(&self) -> Result<Arc<Register, Global>, Refusal>
+    pub fn passed_over(&self) -> Result<Arc<PassedOver, Global>, Refusal>
         ensures { IfErr result (λ why. why ≡ Refusal.Memory) }
     {
-        self.bound.wire.register()
+        self.bound.wire.passed_over()
     }
 
     /// The host, which tells how much went through it.

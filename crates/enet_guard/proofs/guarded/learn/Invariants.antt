@@ -1,5 +1,0 @@
-use Rattle.enet_guard.specs.Guarding.{HasLearned}
-use Rattle.enet_guard.proofs.guarded.learn.Given as goal
-
-abbrev pub invariant-loop-slot : goal.invariant-loop-slot
-invariant-loop-slot l = HasLearned l.fn.guard l.guard
