@@ -2,7 +2,8 @@
 # Runs the built program `enet_relay inspect`: on the datagrams of the files in trials/captured, of which it must tell what
 # inspected.awk derives from the remarks that stand beside them; on lines that are cut short, compressed, unreadable or passed over; and on
 # captures in pcap format that are made here, byte by byte. With `--timeline` it must tell and draw of captures what timeline.py finds in
-# them, and mark what stands in the rows of marks.rows. Of captures in pcapng that pcapng.py makes it must tell and draw what it does of
+# them, and mark what stands in the rows of marks.rows; so it must of each script of scripts/rows and docs/lessons with `lab --timeline`, and say of
+# which datagrams it is known that they were never delivered. Of captures in pcapng that pcapng.py makes it must tell and draw what it does of
 # classic ones with their packets. The last line is 'N passed, M failed'; the status is 1 where one fails. The
 # program is the one that `rt ci`, or `rt run` in crates/enet_relay, leaves; another can be named as argument.
 cd "$(dirname "$0")/../.." || exit 1
@@ -235,15 +236,50 @@ marks() {
         || fail marks "$wrong"
 }
 
-# The picture of each lesson is drawn of the script beside it.
+# The picture of each lesson is drawn of the script beside it; a capture of what its hosts put out is drawn, too.
 pictures_of_lessons() {
     local lab kept
     for lab in docs/lessons/*.lab; do
         kept=${lab%.lab}
         timeout 600 "$program" lab < "$lab" | python3 scripts/lib/timeline.py lab "$lab" "$room/made" || { fail "picture of $lab" "$lab"; continue; }
         timeline "$(basename "$kept")" "$room/made" '' 0
+        drawn_script "$lab"
         cmp -s "$room/picture" "$kept.svg" && passed=$((passed + 1)) || differ "picture of $lab" 'what is drawn of it' "$kept.svg" "$room/picture"
     done
+}
+
+# A script that is drawn, also where each line is explained: what it writes and its status are those of the script, and the picture has what
+# timeline.py finds in it.
+drawn_script() {
+    local explain status found
+    for explain in '' --explain; do
+        rm -f "$room/picture"
+        # shellcheck disable=SC2086 # a word or none
+        timeout 120 "$program" lab $explain < "$1" > "$room/out" 2> "$room/err"
+        status=$?
+        # shellcheck disable=SC2086
+        timeout 120 "$program" lab $explain --timeline "$room/picture" < "$1" > "$room/drawn" 2> "$room/drawn.err"
+        [ $? -eq "$status" ] && cmp -s "$room/out" "$room/drawn" && cmp -s "$room/err" "$room/drawn.err" && passed=$((passed + 1)) \
+            || differ "$1 drawn $explain" 'what is written' "$room/out" "$room/drawn"
+        [ -n "$explain" ] || cp "$room/out" "$room/answers"
+        found=$(python3 scripts/lib/timeline.py drawn "$1" "$room/picture" < "$room/answers" 2>&1) && passed=$((passed + 1)) || fail "$1 drawn $explain" "$found"
+    done
+}
+
+drawn_scripts() {
+    local lab
+    for lab in scripts/rows/*.lab; do
+        drawn_script "$lab"
+    done
+    # In rounds without losses nothing is lost.
+    printf 'pair 1\nsubmit A 0.0 0 1 "hello"\nturn A\ncalm 3 10\nsubmit B 0.0 0 1 "hi"\ncalm 30 20\n' > "$room/calm.lab"
+    timeout 60 "$program" lab --timeline "$room/picture" < "$room/calm.lab" > "$room/out"
+    timeout 60 "$program" lab < "$room/calm.lab" > "$room/answers"
+    [ "$(grep -c '^<path class="lost"' "$room/picture")" -eq 2 ] && cmp -s "$room/out" "$room/answers" && passed=$((passed + 1)) \
+        || fail 'calm rounds drawn' "$(head -c 200 "$room/out")"
+    timeout 60 "$program" lab --timeline "$room/no-such-folder/picture" < scripts/rows/one-reliable-packet.lab > "$room/out" 2> "$room/err"
+    [ $? -eq 1 ] && cmp -s "$room/out" scripts/rows/one-reliable-packet.out && [ "$(<"$room/err")" = 'No such file or directory (os error 2)' ] \
+        && passed=$((passed + 1)) || fail 'no file for the picture' "$(<"$room/err")"
 }
 
 # What `inspect` writes of the file $1, to $2 and $2.err, with its status in the last line of that.
@@ -326,6 +362,7 @@ else
     timelines
     marks
     pictures_of_lessons
+    drawn_scripts
     pcapng
     refused_timelines
     files

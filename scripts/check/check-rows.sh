@@ -99,7 +99,7 @@ at_once() {
     local row=$rows/$1
     if [ "$1" = fleet-and-strangers ]; then
         printf 'run\nfleet\n' > "$room/list"
-    elif [ -r "$row.lab" ] && [ ! -e "$row.status" ] && grep -a -m 1 -v '^#' "$row.lab" | grep -Eq '^(pair|open) ' && ! grep -q '^calm ' "$row.lab"; then
+    elif [ -r "$row.lab" ] && [ ! -e "$row.status" ] && grep -a -m 1 -v '^#' "$row.lab" | grep -Eq '^(pair|open) ' && ! grep -Eq '^(calm .*|deliver .* last.*)$' "$row.lab"; then
         { echo run; grep -v '^#' "$row.lab"; echo =; cat "$row.out"; } > "$room/list"
     else
         return
@@ -260,6 +260,9 @@ demo --clients 0
 demo --clients 9
 demo --turns 1000001
 demo --port 0
+demo --timeline
+lab --timeline
+lab --timeline one --timeline two
 END
 }
 
@@ -427,12 +430,21 @@ demo_prints() {
     echo "demo $3"
 }
 
+# With `--timeline` it prints the same, and draws the connection of each of $1 clients.
+demo_drawn() {
+    local found
+    service_line "demo-drawn-$1" 0 '' "$(demo_prints "$1" $((3 * ($1 - 1))) done 47100 'a server in this process')" \
+        demo --clients "$1" --turns 1000 --timeline "$room/demo.svg"
+    found=$(python3 scripts/lib/timeline.py demo "$room/demo.svg" "$1" 2>&1) && passed=$((passed + 1)) || fail "demo-drawn-$1" "$found"
+}
+
 # Each client chats once the server has all of them for peers, so each gets three packets of each other one, whichever came first.
 demonstrations() {
     local clients own='a server in this process' there='a server that is there'
     for clients in 1 2 8; do
         demo_line "demo-$clients" 0 '' "$(demo_prints "$clients" $((3 * (clients - 1))) done 47100 "$own")" demo --clients "$clients" --turns 1000
     done
+    demo_drawn 2
     demo_line demo-no-turn 3 '' "$(demo_prints 2 0 late 47100 "$own")" demo --turns 0
     port=47100
     await start_service --turns 1000000 || fail demo-server-port-taken "$(<"$room/first.err")"
@@ -465,6 +477,10 @@ command_lines() {
     command_line version-of-a-command 2 'bad command line' /dev/null "$room/out" serve --version
     command_line help-of-serve 0 '' /dev/null "$room/out" serve --help
     grep -q -- '--queue-capacity' "$room/out" && grep -q -- '--threads' "$room/out" && grep -q -- '--no-secret' "$room/out" && grep -q -- '--control' "$room/out" && grep -q -- '--per-address' "$room/out" && grep -q -- '--max-packet' "$room/out" && grep -q -- '--max-waiting' "$room/out" && grep -q -- '--max-unsent' "$room/out" && grep -q -- '--metrics' "$room/out" || fail help-of-serve 'an option is missing'
+    command_line help-of-lab 0 '' /dev/null "$room/out" lab --help
+    grep -q -- '--explain' "$room/out" && grep -q -- '--timeline' "$room/out" || fail help-of-lab 'an option is missing'
+    command_line help-of-demo 0 '' /dev/null "$room/out" demo --help
+    grep -q -- '--timeline' "$room/out" || fail help-of-demo 'an option is missing'
     command_line input-that-cannot-be-read 1 'input or output failed' / "$room/out" lab
     command_line output-that-cannot-be-written 1 'input or output failed' "$rows/one-reliable-packet.lab" /dev/full lab
     command_line input-to-explain-that-cannot-be-read 1 'input or output failed' / "$room/out" lab --explain

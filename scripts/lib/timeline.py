@@ -2,8 +2,11 @@
 """For scripts/check/check-inspect.sh: captures for `enet_relay inspect --timeline`, and what it must tell of them.
 
     timeline.py capture FILE OUT        makes a capture in pcap format of a file of trials/captured: its datagrams, at its times
-    timeline.py lab SCRIPT OUT          makes one of a lab's script and of its answers on standard input: what each host puts out, by its clock,
-                                        and in a fleet what strangers send to the server, by the server's clock
+    timeline.py lab SCRIPT OUT          makes one of a lab's script and of its answers on standard input: what each host puts out, and in a fleet
+                                        what strangers send, at the time of the clock that has gone on furthest
+    timeline.py drawn SCRIPT SVG        compares the picture of a lab's script with what it finds in that and in its answers on standard input:
+                                        which datagrams there are, what they are called, what is marked of each, and which were never delivered
+    timeline.py demo SVG CLIENTS        looks for each client's connection in the picture of a demonstration, of which no datagram was lost
     timeline.py crowd OUT               makes one of 30 connections, and 600 datagrams of one of them
     timeline.py random SEED OUT         makes one of random datagrams at random times, between few addresses
     timeline.py check CAPTURE WORDS SVG [--connection N] [--channel C] [--from S] [--to S]
@@ -25,14 +28,14 @@ REACH = 4096
 CONNECTIONS = 24
 DATAGRAMS = 500
 KEPT = 256
-LAB_ENDS = {'A': '10.0.0.1:4660', 'B': '10.0.0.2:47001', 'S': '10.0.0.2:47001'}
+LAB_ENDS = {'A': '10.0.0.1:7001', 'B': '10.0.0.2:7002', 'S': '10.0.0.1:7001'}
 SVG = '{http://www.w3.org/2000/svg}'
 NEVER = 1 << 60
 OTHER = {'right': 'left', 'left': 'right'}
 VAIN = 'lost or late behind this point, or not yet read'
 MARKED = {'none', 'early', 'vain', 'again', 'twice'}
-CLASSES = {'none': 'cross', 'early': 'early', 'vain': 'vain', 'again': 'again', 'twice': 'twice'}
-WORDS = {'none': 'no acknowledgement seen', 'early': 'sent again too early', 'vain': 'what it acknowledges was sent again all the same: ',
+CLASSES = {'none': 'cross', 'lost': 'lost', 'early': 'early', 'vain': 'vain', 'again': 'again', 'twice': 'twice'}
+WORDS = {'none': 'no acknowledgement seen', 'lost': 'never delivered', 'early': 'sent again too early', 'vain': 'what it acknowledges was sent again all the same: ',
          'twice': 'the same datagram, seen before'}
 ROW_KINDS = {'ack': 1, 'connect': 2, 'verify': 3, 'ping': 5, 'reliable': 6, 'say': 7}
 
@@ -72,22 +75,75 @@ def end_of(name):
     """The address of a host of the lab: that of A and B, or of a fleet's server and clients."""
     if name in LAB_ENDS:
         return LAB_ENDS[name]
-    return f'10.0.1.{name[1:]}:7000'
+    return f'10.0.0.2:{7002 + int(name[1:])}'
 
 
-def put_out(path, answers):
-    clocks = {}
-    lines = [line.split() for line in open(path) if line.strip() and not line.startswith('#')]
-    for words, answer in zip(lines, answers, strict=True):
-        name, answer = words[1], answer.split()
-        at = 1000000000 + 1000 * clocks.get(name, 0)
-        if words[0] == 'tick':
-            clocks[name] = clocks.get(name, 0) + int(words[2])
-        elif words[0] == 'turn' and answer != ['none']:
+class PutOut:
+    """What the hosts of a script put out, by its lines and their answers, and whether it was delivered."""
+
+    def __init__(self, path, answers):
+        self.datagrams, self.names, self.undelivered, self.calm = [], [], {}, False
+        self.clocks, self.sent = {}, {}
+        lines = [line.split() for line in open(path, encoding='latin-1') if line.strip() and not line.startswith('#')]
+        for words, answer in zip(lines, answers):
+            self.follow(words, answer.split())
+
+    def note(self, source, target, payload, name, may_be_lost):
+        if may_be_lost:
+            self.undelivered[name] = len(self.datagrams)
+        at = 1000000000 + 1000 * max(self.clocks.values(), default=0)
+        self.datagrams.append((at, source, target, payload))
+        self.names.append(name)
+
+    def follow(self, words, answer):
+        self.calm |= words[0] == 'calm'
+        name = words[1] if len(words) > 1 else ''
+        if words[0] == 'tick' and answer == ['ok']:
+            self.clocks[name] = self.clocks.get(name, 0) + min(int(words[2]), 60000)
+        elif words[0] == 'turn' and '#' in answer[0]:
             target = answer[2] if len(answer) == 4 else 'B' if name == 'A' else 'A'
-            yield (at, end_of(name), target if ':' in target else end_of(target), bytes.fromhex(answer[-1]))
-        elif words[0] == 'stranger':
-            yield (at, f'{words[2]}:{words[3]}', end_of(name), bytes.fromhex(words[4]))
+            host = answer[0].partition('#')[0]
+            self.sent[host] = self.sent.get(host, 0) + 1
+            self.note(end_of(host), target if ':' in target else end_of(target), bytes.fromhex(answer[-1]), answer[0], ':' not in target)
+        elif words[0] == 'stranger' and answer[0] == 'handled':
+            self.note(f'{words[2]}:{words[3]}', end_of(name), bytes.fromhex(words[4].replace('-', '')), '', False)
+        elif words[0] == 'deliver' and answer[0] == 'handled':
+            k = 3 if len(words) > 3 and words[2][0] in 'SC' else 2
+            host = words[2] if k == 3 else 'B' if name == 'A' else 'A'
+            host = host if host in LAB_ENDS else f'C{int(host[1:])}'
+            number = self.sent[host] - 1 if words[k] == 'last' else int(words[k])
+            self.undelivered.pop(f'{host}#{number}', None)
+
+
+def check_script(path, picture, answers):
+    put_out = PutOut(path, answers)
+    drawn, lost = marks_drawn(picture), set(put_out.undelivered.values())
+    if put_out.calm:
+        return
+    count = 0
+    for connection in connections(put_out.datagrams)[0][:CONNECTIONS]:
+        for (number, *_), fate in list(zip(connection.datagrams, connection.fates()))[:DATAGRAMS]:
+            wanted = (fate & MARKED) - ({'none'} if number in lost else set()) | ({'lost'} if number in lost else set())
+            count += 1
+            if drawn.get(number) != wanted:
+                sys.exit(f'datagram {number} is drawn as {drawn.get(number)} where {wanted} is wanted')
+    if len(drawn) != count:
+        sys.exit(f'{len(drawn)} arrows where {count} are wanted')
+    for group in xml.etree.ElementTree.parse(picture).iter(SVG + 'g'):
+        title, *_, words = (each.text for each in group if each.text)
+        number, called = int(title.split()[1].rstrip(',')), title.split()[2]
+        name = put_out.names[number]
+        if name and (called != name + ',' or not words.startswith(name + ': ')):
+            sys.exit(f'datagram {number} is called {called} {words} where {name} is wanted')
+
+
+def check_demo(picture, clients):
+    drawn = marks_drawn(picture)
+    ends = [each.text for each in xml.etree.ElementTree.parse(picture).iter(SVG + 'text') if each.get('class') == 'end']
+    if set(ends[::2]) != {f'client {client}' for client in range(clients)} or not all(end.startswith('the server at 127.0.0.1:') for end in ends[1::2]):
+        sys.exit(f'the ends are {ends}')
+    if len(drawn) < 4 * clients or any('lost' in marks for marks in drawn.values()):
+        sys.exit(f'{drawn} is drawn')
 
 
 def connect(identifier):
@@ -355,7 +411,7 @@ def marks_drawn(picture):
         heads = [names for names in classes if 'head' in names]
         marks = {mark for mark, name in CLASSES.items() if any(name in names for names in classes)}
         told = {mark for mark, words in WORDS.items() if any(line.startswith(words) for line in title)}
-        if len(heads) != 1 or marks - {'again', 'twice'} != told - {'twice'} or 'twice' in marks - told:
+        if len(heads) != ('lost' not in marks) or marks - {'again', 'twice'} != told - {'twice'} or 'twice' in marks - told:
             sys.exit(f'{title} has {classes}')
         found[int(title[0].split()[1].rstrip(','))] = marks | told
     return found
@@ -435,7 +491,11 @@ def main():
         case ['capture', path, out]:
             write(out, captured(path))
         case ['lab', script, out]:
-            write(out, put_out(script, sys.stdin))
+            write(out, PutOut(script, sys.stdin).datagrams)
+        case ['drawn', script, picture]:
+            check_script(script, picture, sys.stdin)
+        case ['demo', picture, clients]:
+            check_demo(picture, int(clients))
         case ['crowd', out]:
             write(out, crowd())
         case ['random', seed, out]:

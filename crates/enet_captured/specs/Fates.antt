@@ -136,3 +136,7 @@ was_early way one = same_way one.seen.way way && one.fate.is_early
 
 abbrev pub was_in_vain : Way → Marked → Bool
 was_in_vain way one = same_way one.seen.way way && one.fate.is_in_vain
+
+-- Of these it is known that they were never delivered.
+abbrev pub was_lost : Way → Marked → Bool
+was_lost way one = same_way one.seen.way way && one.seen.is_lost

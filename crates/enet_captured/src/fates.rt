@@ -4,7 +4,7 @@ ghost use Rattle.std.specs.Prelude.{◌≡◌, ◌<◌, ℕ, List, length, map, 
 ghost use Rattle.std.specs.BTreeMap as tree;
 ghost use Rattle.std.specs.Ordering.{nat_cmp};
 ghost use Rattle.std.specs.Option.{unwrap_or};
-ghost use Rattle.enet_captured.specs.Fates.{fate_at, fate_by, fate_of, has_ended, is_behind, is_verified, join, leads_behind, marked_as, nothing, outcome_of, same_outcome, waits_as, was_early, was_in_vain, was_resent};
+ghost use Rattle.enet_captured.specs.Fates.{fate_at, fate_by, fate_of, has_ended, is_behind, is_verified, join, leads_behind, marked_as, nothing, outcome_of, same_outcome, waits_as, was_early, was_in_vain, was_lost, was_resent};
 ghost use Rattle.enet_captured.specs.declared.timeline.Mark.{Mark};
 ghost use Rattle.enet_captured.specs.Private.Tables.{AreLinks, item};
 
@@ -149,6 +149,16 @@ pub fn in_vain(marked: &[Marked], way: Way) -> usize
     marked
         .iter()
         .filter(|one| one.seen.way.is(way) && one.fate.is_in_vain)
+        .count()
+}
+
+/// How many go one way of which it is known that they were never delivered.
+pub fn lost(marked: &[Marked], way: Way) -> usize
+    ensures { result ≡ count_by (was_lost way) marked.now }
+{
+    marked
+        .iter()
+        .filter(|one| one.seen.way.is(way) && one.seen.is_lost)
         .count()
 }
 

@@ -10,9 +10,10 @@
 //! of a command (`told_of`), and that those of a datagram stand behind one another (`push_marks`); when it was captured (`moment_of`);
 //! between which connections' ends it goes, which is the last such connection, and whether it goes on with that (`way_in`, `last_between`,
 //! `goes_on`).
-//! Only tested, by scripts/check/check-inspect.sh over 446 captured datagrams, crowds, random datagrams, captures that are cut short, and
-//! the rows of trials/captured/marks.rows: that a datagram is put into the connection that was found (`connection_for`, `note`), and that
-//! the capture begins with its first packet (`begun_at`).
+//! Only tested, by scripts/check/check-inspect.sh over 446 captured datagrams, crowds, random datagrams, captures that are cut short, the
+//! rows of trials/captured/marks.rows, and scripts of the lab: that a datagram is put into the connection that was found (`connection_for`,
+//! `note`), that the capture begins with its first packet (`begun_at`), and that datagrams which were noted in place of a capture are taken in
+//! (`timeline_of`).
 #![tactic(auto)]
 
 mod connections;
@@ -20,6 +21,7 @@ mod counting;
 mod fates;
 mod fault;
 mod filter;
+mod noted;
 mod part;
 mod reading;
 mod sends;
@@ -27,9 +29,10 @@ mod timeline;
 mod told;
 
 pub use counting::{answers, count_of, going, is_same, longest_gap, stopped_by};
-pub use fates::{Fate, Marked, Outcome, early, ended, in_vain, mark_all, resent};
+pub use fates::{Fate, Marked, Outcome, early, ended, in_vain, lost, mark_all, resent};
 pub use fault::TimelineFault;
 pub use filter::Filter;
+pub use noted::{Noted, timeline_of};
 pub use part::{Part, parts_of};
-pub use timeline::{Connection, Mark, Seen, Timeline, Way, read_timeline};
+pub use timeline::{Connection, HostName, Mark, Seen, Source, Timeline, Way, read_timeline};
 pub use told::{Detail, Kind, Told};

@@ -81,6 +81,8 @@ pub struct Seen {
     pub len: usize,
     /// Why what stands behind its last command can't be read.
     pub stop: Option<Stop>,
+    /// Whether it is known that it was never delivered, which no capture tells.
+    pub is_lost: bool,
 }
 
 /// A command of a datagram.
@@ -98,9 +100,29 @@ pub struct Mark {
     pub told: Told,
 }
 
-/// What a capture holds.
+/// Whence a timeline is.
+#[derive(Clone, Copy, PartialEq, Eq)]
+pub enum Source {
+    /// A capture.
+    Capture,
+    /// A script of the lab, whose network says what was delivered.
+    Script,
+    /// The sockets of a demonstration's clients.
+    Sockets,
+}
+
+/// What the host at an address is called, where it is drawn.
+#[derive(Drop)]
+pub struct HostName {
+    pub at: Addr,
+    pub name: String,
+}
+
+/// What a capture holds, or datagrams that were noted in place of one.
 #[derive(Drop)]
 pub struct Timeline {
+    /// Whence it is.
+    pub source: Source,
     /// The connections, in the order of their first datagrams.
     pub connections: Vec<Connection>,
     /// The datagrams of these, in order.
@@ -117,6 +139,10 @@ pub struct Timeline {
     pub others: u64,
     /// Whether the last packet is cut short.
     pub is_cut: bool,
+    /// What its hosts are called; none of a capture's is.
+    pub hosts: Vec<HostName>,
+    /// What its datagrams are called, by their numbers; none of a capture's is.
+    pub names: Vec<String>,
 }
 
 /// Reads a capture in the classic pcap format, to its end or to a packet that is cut short. NoCapture where the input isn't one, Unread
@@ -133,7 +159,7 @@ pub fn read_timeline(alloc: Global, input: &[u8]) -> Result<Timeline, TimelineFa
 
 // Reads the packets of a capture.
 fn read_packets(alloc: Global, format: Format, packets: &[u8]) -> Result<Timeline, AllocError> {
-    let mut timeline = empty(alloc);
+    let mut timeline = empty(alloc, Source::Capture);
     timeline.begun = begun_at(format, packets);
     let mut told = Vec::new(alloc);
     let mut rest = packets;
@@ -150,6 +176,7 @@ fn read_packets(alloc: Global, format: Format, packets: &[u8]) -> Result<Timelin
                     &mut told,
                     moment_of(captured, format.nanoseconds),
                     datagram,
+                    false,
                 )?;
             }
             None => timeline.others = timeline.others.saturating_add(1),
@@ -158,8 +185,10 @@ fn read_packets(alloc: Global, format: Format, packets: &[u8]) -> Result<Timelin
     Ok(timeline)
 }
 
-fn empty(alloc: Global) -> Timeline {
+/// A timeline of nothing, which begins at 0.
+pub(crate) fn empty(alloc: Global, source: Source) -> Timeline {
     Timeline {
+        source,
         connections: Vec::new(alloc),
         seen: Vec::new(alloc),
         marks: Vec::new(alloc),
@@ -168,6 +197,8 @@ fn empty(alloc: Global) -> Timeline {
         unkept: 0,
         others: 0,
         is_cut: false,
+        hosts: Vec::new(alloc),
+        names: Vec::new(alloc),
     }
 }
 
@@ -187,12 +218,13 @@ fn moment_of(captured: Captured<'_>, nanoseconds: bool) -> u64
     u64::from(captured.seconds) * 1_000_000 + if nanoseconds { parts / 1_000 } else { parts }
 }
 
-// Takes a datagram in.
-fn note(
+/// Takes a datagram in, of which it may be known that it was never delivered.
+pub(crate) fn note(
     timeline: &mut Timeline,
     told: &mut Vec<Told>,
     at: u64,
     datagram: Datagram<'_>,
+    is_lost: bool,
 ) -> Result<(), AllocError> {
     let number = timeline.datagrams;
     timeline.datagrams = number.saturating_add(1);
@@ -210,6 +242,7 @@ fn note(
                 at,
                 len,
                 stop,
+                is_lost,
             })?;
             push_marks(
                 &mut timeline.marks,

@@ -86,7 +86,7 @@ pub enum ServerThreads {
 }
 
 /// What `demo` was told.
-#[derive(Clone, Copy)]
+#[derive(Drop)]
 pub struct DemoOptions {
     /// How many clients there are, 1 to 8.
     pub clients: u8,
@@ -94,6 +94,8 @@ pub struct DemoOptions {
     pub turns: u32,
     /// The port of the server that is there; None where one is to be started.
     pub port: Option<u16>,
+    /// The file to draw into; None where nothing is drawn.
+    pub picture: Option<String>,
 }
 
 /// What `inspect` was told.
@@ -139,6 +141,8 @@ pub enum Task {
     Lab {
         /// Whether each line is explained.
         is_explained: bool,
+        /// The file to draw into; None where nothing is drawn.
+        picture: Option<String>,
     },
     /// To tell what datagrams say.
     Inspect(InspectOptions),
@@ -213,7 +217,8 @@ fn command<'a>(alloc: Global) -> Result<Command<'a>, AllocError> {
 fn lab_command<'a>(alloc: Global) -> Result<Command<'a>, AllocError> {
     Command::new(alloc, "lab")
         .about("Runs a script from standard input and writes one answer per line")
-        .arg(explain(alloc))
+        .arg(explain(alloc))?
+        .arg(script_picture(alloc))
 }
 
 fn explain<'a>(alloc: Global) -> Arg<'a> {
@@ -223,6 +228,12 @@ fn explain<'a>(alloc: Global) -> Arg<'a> {
             "Write each line, its answer, datagrams in words, what changed at its host, and what was expected of a bad line",
         )
         .action(ArgAction::SetTrue)
+}
+
+fn script_picture<'a>(alloc: Global) -> Arg<'a> {
+    Arg::new(alloc, "timeline").long("timeline").help(
+        "Draw what the hosts put out into this file, as an SVG, with what was never delivered",
+    )
 }
 
 fn inspect_command<'a>(alloc: Global) -> Result<Command<'a>, AllocError> {
@@ -266,7 +277,8 @@ fn demo_command<'a>(alloc: Global) -> Result<Command<'a>, AllocError> {
         .about("Runs a server and its clients in one process, on 127.0.0.1")
         .arg(clients(alloc))?
         .arg(server_port(alloc))?
-        .arg(turns(alloc))
+        .arg(turns(alloc))?
+        .arg(demo_picture(alloc))
 }
 
 fn file<'a>(alloc: Global) -> Arg<'a> {
@@ -326,6 +338,12 @@ fn to<'a>(alloc: Global) -> Result<Arg<'a>, AllocError> {
         .long("to")
         .help("End so many seconds after the first packet")
         .requires_arg("timeline")
+}
+
+fn demo_picture<'a>(alloc: Global) -> Arg<'a> {
+    Arg::new(alloc, "timeline").long("timeline").help(
+        "Draw what the clients' sockets sent and received into this file, as an SVG",
+    )
 }
 
 fn clients<'a>(alloc: Global) -> Arg<'a> {
@@ -477,6 +495,7 @@ fn task_of(alloc: Global, found: &ArgMatches<'_>) -> Result<Option<Task>, Unread
     match name {
         "lab" => Ok(Some(Task::Lab {
             is_explained: found.get_flag("explain"),
+            picture: word_named(alloc, found, "timeline")?,
         })),
         "inspect" => Ok(inspect_options(alloc, found)?.map(Task::Inspect)),
         "serve" => match (read_admission(alloc, found)?, length_of(found)) {
@@ -486,7 +505,7 @@ fn task_of(alloc: Global, found: &ArgMatches<'_>) -> Result<Option<Task>, Unread
             }
             _ => Ok(None),
         },
-        "demo" => Ok(demo_options(found).map(Task::Demo)),
+        "demo" => Ok(demo_options(alloc, found)?.map(Task::Demo)),
         _ => Ok(None),
     }
 }
@@ -647,10 +666,17 @@ fn metrics_at(found: &ArgMatches<'_>) -> Option<Option<SocketAddrV4>> {
     Some(Some(address))
 }
 
-fn demo_options(found: &ArgMatches<'_>) -> Option<DemoOptions> {
-    Some(DemoOptions {
-        clients: found.get_one::<u8>("clients")?,
-        turns: found.get_one::<u32>("turns")?,
+fn demo_options(alloc: Global, found: &ArgMatches<'_>) -> Result<Option<DemoOptions>, AllocError> {
+    let (Some(clients), Some(turns)) = (
+        found.get_one::<u8>("clients"),
+        found.get_one::<u32>("turns"),
+    ) else {
+        return Ok(None);
+    };
+    Ok(Some(DemoOptions {
+        clients,
+        turns,
         port: found.get_one::<u16>("port"),
-    })
+        picture: word_named(alloc, found, "timeline")?,
+    }))
 }

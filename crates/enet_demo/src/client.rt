@@ -7,6 +7,7 @@ ghost use Rattle.enet_demo.specs.Private.Playing.{HasPlayed, IsFresh, IsGuest, I
 
 use crate::orders::{CHANNELS, Plan};
 use crate::player::{Company, Played, Player, Visit};
+use crate::record::TappedWire;
 use enet_codec::{Addr, Config, Refusal};
 use enet_events::Poster;
 use enet_service::{
@@ -35,7 +36,7 @@ pub(crate) struct Part {
 #[derive(Drop)]
 pub(crate) struct Guest {
     pub(crate) part: Part,
-    wire: MioWire,
+    wire: TappedWire,
 }
 
 impl Guest {
@@ -49,8 +50,8 @@ impl Guest {
         ensures guest { IfOk result (IsGuest plan turns) }
         ensures refused { IfErr result EndsRun }
     {
-        let wire = MioWire::bind(rt, address)?;
         let alloc = rt.alloc();
+        let wire = TappedWire::new(alloc, plan.number, MioWire::bind(rt, address)?);
         Ok(Guest {
             part: Part { alloc, plan, turns },
             wire,
@@ -67,8 +68,9 @@ where
     ensures visits { IfOk result (Visits (beginning guest.part.plan.secret) guest.part.plan guest.part.turns) }
     ensures refused { IfErr result EndsRun }
 {
-    let Guest { part, wire } = guest;
-    let bell = wire.bell()?;
+    let Guest { part, mut wire } = guest;
+    let bell = wire.wire.bell()?;
+    wire.begin(rt, company.record);
     let Queues {
         orders,
         events,
@@ -85,6 +87,7 @@ where
     config.secret = part.plan.secret;
     let mut bound = BoundService::open(part.alloc, wire, config)?;
     let visit = run_client(rt, &mut bound, shared, ends, part, company);
+    bound.wire.hand_over(rt, company.record);
     bound.close();
     visit
 }
@@ -92,7 +95,7 @@ where
 // A client between these queues.
 fn run_client<R: Threads + Wait + Clock + Sync>(
     rt: &R,
-    bound: &mut BoundService<MioWire>,
+    bound: &mut BoundService<TappedWire>,
     shared: Shared<'_>,
     ends: Ends,
     part: Part,
@@ -113,6 +116,7 @@ fn run_client<R: Threads + Wait + Clock + Sync>(
         present,
         all,
         counts_itself,
+        record: _,
     } = company;
     let sender = OrderSender::new(part.alloc, queue, ends.seat, bell);
     let receiver = EventReceiver::new(events, ends.taker);
@@ -141,6 +145,7 @@ fn run_client<R: Threads + Wait + Clock + Sync>(
                     present,
                     all,
                     counts_itself,
+                    record: None,
                 },
             )
         },

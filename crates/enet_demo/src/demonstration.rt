@@ -10,6 +10,7 @@ ghost use Rattle.enet_demo.specs.Private.Playing.{AreGuests};
 use crate::client::{Guest, visit};
 use crate::orders::{CHANNELS, Plan};
 use crate::player::{Company, Visit};
+use crate::record::Record;
 use enet_codec::{Addr, Refusal, Secret};
 use enet_serve::{ChatServer, Gauge, Rules, Settings, Unwatched};
 use enet_service::{Report, RunLength};
@@ -63,13 +64,18 @@ pub struct Demonstration {
 /// A server that was there before doesn't tell that: there, they are once each has had its connection for a hundred rests of its game
 /// thread, a tenth of a second. So where the turns suffice, each client gets of a server that was started here the three packets of each
 /// other one, whichever connected first; so it does of a relay that was there, unless that takes over a tenth of a second to note a peer.
-/// Where the turns end early, it gets fewer; where one client has no connection, none chats.
+/// Where the turns end early, it gets fewer; where one client has no connection, none chats. What the clients' wires sent and received is
+/// noted in `record`, if one is given, when they have ended.
 ///
 /// E8 where `clients` is out of its range; E14 where the server's port or one for a client can't be had, before anything is sent; then
 /// E14 where a wire fails, E1 for want of memory, E10 where the server's run is so long that its relay has submitted as many orders as it
 /// may, E16 where threads ended and a queue isn't empty. The server's refusal is told before a client's, and that of a client before
 /// that of a later one.
-pub fn demonstrate<R>(rt: &R, shown: Demonstration) -> Result<Vec<Visit>, Refusal>
+pub fn demonstrate<R>(
+    rt: &R,
+    shown: Demonstration,
+    record: Option<&Record>,
+) -> Result<Vec<Visit>, Refusal>
 where
     R: Threads + Wait + Net + Clock + Sync + AllocGlobal,
     ensures range { ¬ (IsInRange shown) → result ≡ Err Refusal.BadConfig }
@@ -80,7 +86,7 @@ where
         return Err(Refusal::BadConfig);
     }
     if shown.server.is_some() {
-        return visit_server(rt, shown);
+        return visit_server(rt, shown, record);
     }
     let settings = Settings {
         address: address(PORT),
@@ -102,7 +108,7 @@ where
         Err(unopened) => return Err(unopened.why),
     };
     let visits = match open_guests(rt, shown) {
-        Ok(guests) => run_all(rt, rt.alloc(), &mut server, guests, shown),
+        Ok(guests) => run_all(rt, rt.alloc(), &mut server, guests, shown, record),
         Err(why) => Err(why),
     };
     server.close();
@@ -110,7 +116,11 @@ where
 }
 
 // The clients of a server that is there.
-fn visit_server<R>(rt: &R, shown: Demonstration) -> Result<Vec<Visit>, Refusal>
+fn visit_server<R>(
+    rt: &R,
+    shown: Demonstration,
+    record: Option<&Record>,
+) -> Result<Vec<Visit>, Refusal>
 where
     R: Threads + Wait + Net + Clock + Sync + AllocGlobal,
     requires { shown.clients ≤ 8 }
@@ -119,7 +129,7 @@ where
 {
     let guests = open_guests(rt, shown)?;
     let present = AtomicUsize::new(0);
-    let outcomes = visit_all(rt, guests, shown, &present)?;
+    let outcomes = visit_all(rt, guests, shown, &present, record)?;
     first_fault_or_all(rt.alloc(), outcomes.as_slice())
 }
 
@@ -161,6 +171,7 @@ fn run_all<R: Threads + Wait + Clock + Sync>(
     server: &mut ChatServer,
     guests: Vec<Guest>,
     shown: Demonstration,
+    record: Option<&Record>,
 ) -> Result<Vec<Visit>, Refusal>
     requires guests { AreGuests shown guests.items × (shown.clients ≤ 8) }
     requires capacity { queue_capacity_of server.old ≡ 1024 }
@@ -174,7 +185,7 @@ fn run_all<R: Threads + Wait + Clock + Sync>(
         move || -> Result<Vec<Result<Visit, Refusal>>, Refusal>
             requires { IsSync R.row × AreGuests shown guests.items × (shown.clients ≤ 8) }
             ensures { IfOk result (λ outcomes. AreOutcomes shown outcomes.items) × IfErr result (λ why. why ≡ Refusal.Memory) }
-        { visit_all(rt, guests, shown, &gauge.peers) },
+        { visit_all(rt, guests, shown, &gauge.peers, record) },
         move || -> Result<Report, Refusal>
             requires { IsSync R.row × (queue_capacity_of server.now ≡ 1024) }
             ensures { IfErr result EndsRun }
@@ -197,6 +208,7 @@ fn visit_all<R: Threads + Wait + Clock + Sync>(
     guests: Vec<Guest>,
     shown: Demonstration,
     present: &AtomicUsize,
+    record: Option<&Record>,
 ) -> Result<Vec<Result<Visit, Refusal>>, Refusal>
     requires { AreGuests shown guests.items × (shown.clients ≤ 8) }
     ensures outcomes { IfOk result (λ outcomes. AreOutcomes shown outcomes.items) }
@@ -218,6 +230,7 @@ fn visit_all<R: Threads + Wait + Clock + Sync>(
                     present,
                     all,
                     counts_itself,
+                    record,
                 },
             )
         },

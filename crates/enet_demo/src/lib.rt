@@ -13,6 +13,7 @@
 //!
 //! # Only tested, or neither
 //!
+//! - By scripts/check/check-rows.sh: that what the clients' sockets sent and received is noted ([`Record`]).
 //! - By scripts/check/check-rows.sh and scripts/check/check-clients.sh: that each client gets all packets of the others, also of a relay
 //!   that was there before, that a port that is taken is a refusal, and that the threads end.
 //! - Neither: whose refusal is told of several; when a client sees that the others are there; that a client hands over what it asks for (one
@@ -24,7 +25,9 @@ mod demonstration;
 mod orders;
 mod patience;
 mod player;
+mod record;
 mod stage;
 
 pub use demonstration::{Demonstration, demonstrate};
 pub use player::Visit;
+pub use record::{Heard, Notes, Record};

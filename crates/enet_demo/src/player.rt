@@ -5,6 +5,7 @@ ghost use Rattle.enet_demo.specs.Visits.{packets};
 
 use crate::orders::{Plan, chat_orders, connect_order};
 use crate::patience::Patience;
+use crate::record::Record;
 use crate::stage::Stage;
 use enet_codec::{Event, Refusal};
 use enet_events::Taker;
@@ -33,6 +34,8 @@ pub(crate) struct Company<'a> {
     pub(crate) all: usize,
     /// Each client counts itself; where it doesn't, the server counts its peers.
     pub(crate) counts_itself: bool,
+    /// Where it notes what its wire sends and receives.
+    pub(crate) record: Option<&'a Record>,
 }
 
 /// The game thread of a client: it connects, chats once, and counts what comes.

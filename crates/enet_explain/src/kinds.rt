@@ -24,6 +24,7 @@ pub(crate) fn fits(alloc: Global, made: Made, name: &str, word: &[u8]) -> Result
             Some(rounds) => rounds <= MOST_ROUNDS,
             None => false,
         },
+        "<k>" => u64_of(word).is_some() || word == b"last".as_slice(),
         _ => u64_of(word).is_some(),
     })
 }
@@ -43,6 +44,7 @@ pub(crate) fn told(made: Made, name: &str) -> &'static str {
         "<n>" => "a number from 1 to that of the host's slots",
         "<ms>" | "<data>" => "a number up to 4294967295",
         "<rounds>" => "a number up to 16777216",
+        "<k>" => "a number up to 18446744073709551615, or last",
         _ => "a number up to 18446744073709551615",
     }
 }

@@ -8,14 +8,16 @@ use Rattle.enet_codec.specs.declared.config.Admission.TheVariants.{GiveWay, Most
 use Rattle.enet_codec.specs.declared.event.DisconnectMode.{DisconnectMode}
 use Rattle.enet_codec.specs.declared.event.DisconnectMode.TheVariants.{Now, Ask, Later}
 use Rattle.enet_codec.specs.declared.event.PeerRef.{PeerRef}
+use Rattle.law_network.specs.declared.event.Side.{Side}
 use Rattle.law_network.specs.declared.event.WorldEvent.TheVariants as world
 use Rattle.enet_fleet.specs.declared.event.FleetEvent.TheVariants as fleet
+use Rattle.law_headline.specs.declared.node.Node.{Node}
 use Rattle.law_headline.specs.declared.node.Node.TheVariants.{Server, Client}
 use Rattle.enet_text.specs.Words.{line_words, number_below, peer_of, ip_of, bytes_of, id_of, of_one, of_two, of_three, of_four, of_five, ◌>>=◌}
 use Rattle.enet_lab.specs.declared.host.Host.{Host}
 use Rattle.enet_lab.specs.declared.host.Host.TheVariants.{OfWorld, OfFleet}
 use Rattle.enet_lab.specs.declared.line.Line.{Line}
-use Rattle.enet_lab.specs.declared.line.Line.TheVariants.{PassedOver, Pair, Open, Fleet, InWorld, InFleet, Calm, RoundsNeeded}
+use Rattle.enet_lab.specs.declared.line.Line.TheVariants.{PassedOver, Pair, Open, Fleet, InWorld, InFleet, Calm, RoundsNeeded, DeliverLast, DeliverLastFrom}
 use Rattle.enet_lab.specs.Hosts.{side_named, node_named, host_named}
 
 -- How a connection is ended, by the first word of the line.
@@ -90,19 +92,26 @@ submit_of others = of_five (λ host peer channel flags body. do
   body ← bytes_of body
   Some (submit_at host peer channel flags body)) others
 
--- `deliver <side> <k>` in a world, `deliver <host> <from> <k>` in a fleet
+-- `deliver <side> <k>` in a world, `deliver <host> <from> <k>` in a fleet; in the place of a number `last` is the newest datagram's
+abbrev pub deliver_at : Side → List ℕ → Option Line
+deliver_at side k =
+    if bytes_eq k (codes "last") then Some (DeliverLast side) else option_map (λ k. InWorld (world.Deliver side k)) (number_below (2 ^ 64) k)
+
 abbrev pub deliver_side_of : List (List ℕ) → Option Line
 deliver_side_of others = of_two (λ side k. do
   side ← side_named side
-  k ← number_below (2 ^ 64) k
-  Some (InWorld (world.Deliver side k))) others
+  deliver_at side k) others
+
+abbrev pub deliver_from_at : Node → Node → List ℕ → Option Line
+deliver_from_at to from k =
+    if bytes_eq k (codes "last") then Some (DeliverLastFrom to from)
+    else option_map (λ k. InFleet (fleet.Deliver to from k)) (number_below (2 ^ 64) k)
 
 abbrev pub deliver_from_of : List (List ℕ) → Option Line
 deliver_from_of others = of_three (λ to from k. do
   to ← node_named to
   from ← node_named from
-  k ← number_below (2 ^ 64) k
-  Some (InFleet (fleet.Deliver to from k))) others
+  deliver_from_at to from k) others
 
 abbrev pub deliver_of : List (List ℕ) → Option Line
 deliver_of others = option_or (deliver_side_of others) (deliver_from_of others)

@@ -1,5 +1,5 @@
 -- What a line of a script does to what the lines so far have made.
-use Rattle.std.specs.Prelude.{◌≡◌, ℕ, ◌&&◌, Bool, true, false, List, [], codes, Option, Some, None, option_map, Result, Ok, Err, IfSome, length, replicate, slice_get}
+use Rattle.std.specs.Prelude.{◌≡◌, ◌⊎◌, ℕ, ◌+◌, ◌&&◌, Bool, true, false, List, [], codes, Option, Some, None, is_some, option_map, Result, Ok, Err, IfSome, length, replicate, slice_get}
 use Rattle.enet_codec.specs.declared.address.Addr.{Addr}
 use Rattle.enet_codec.specs.declared.config.Config.{Config}
 use Rattle.enet_codec.specs.declared.refusal.Refusal.{Refusal}
@@ -117,6 +117,18 @@ abbrev pub Opens : Stage → (Result Stage Refusal → Type 0) → Option (List 
 Opens Empty Made text new = (made : Result Stage Refusal) × Made made × Begins made text new
 Opens old Made text new = ⊥
 
+-- The number of the newest datagram: no datagram has the next number. Where there is none it is 0, which is refused.
+pub record IsNewest (there : ℕ → Bool) (k : ℕ) : Type 0 where
+  pub last : there (k + 1) ≡ false
+  pub it : (there k ≡ true) ⊎ (k ≡ 0)
+
+-- A side has put out a datagram of this number, or a host of a fleet has.
+abbrev pub has_sent : World → Side → ℕ → Bool
+has_sent w side k = is_some (slice_get (site_of w side).log k)
+
+abbrev pub has_sent_from : Fleet → Node → ℕ → Bool
+has_sent_from f from k = is_some (sent_by (place_of f from) k)
+
 -- What a line does that can be read after those so far: the line that makes a network comes first and once, its events then, and
 -- nothing where the first was refused.
 abbrev pub Does : Stage → Line → Option (List ℕ) → Stage → Type 0
@@ -137,6 +149,14 @@ Does old (spelled.RoundsNeeded connection ms) text new = ⊥
 Does (InFleet old) (spelled.InFleet event) text new =
     (f : Fleet) × (bytes : List ℕ) × StepsTo (FleetSteps old event) (fleet_text event) bytes f × (text ≡ Some bytes) × (new ≡ InFleet f)
 Does old (spelled.InFleet event) text new = ⊥
+Does (InWorld old) (spelled.DeliverLast side) text new =
+    (k : ℕ) × (w : Begun) × (bytes : List ℕ) × IsNewest (has_sent old.world (world.other side)) k
+    × StepsTo (WorldSteps old (world_event.Deliver side k)) (world_text (world_event.Deliver side k)) bytes w × (text ≡ Some bytes) × (new ≡ InWorld w)
+Does old (spelled.DeliverLast side) text new = ⊥
+Does (InFleet old) (spelled.DeliverLastFrom to from) text new =
+    (k : ℕ) × (f : Fleet) × (bytes : List ℕ) × IsNewest (has_sent_from old from) k
+    × StepsTo (FleetSteps old (fleet_event.Deliver to from k)) (fleet_text (fleet_event.Deliver to from k)) bytes f × (text ≡ Some bytes) × (new ≡ InFleet f)
+Does old (spelled.DeliverLastFrom to from) text new = ⊥
 
 -- Whether nothing was made yet.
 abbrev pub is_empty : Stage → Bool
@@ -173,6 +193,10 @@ can_do (InWorld w) (spelled.RoundsNeeded connection ms) = true
 can_do stage (spelled.RoundsNeeded connection ms) = false
 can_do (InFleet f) (spelled.InFleet event) = is_in_fleet f event
 can_do stage (spelled.InFleet event) = false
+can_do (InWorld w) (spelled.DeliverLast side) = true
+can_do stage (spelled.DeliverLast side) = false
+can_do (InFleet f) (spelled.DeliverLastFrom to from) = true
+can_do stage (spelled.DeliverLastFrom to from) = false
 can_do stage line = is_empty stage
 
 abbrev pub can_read_as : Stage → Option Line → Bool

@@ -2,16 +2,16 @@
 
 ghost use Rattle.std.specs.Prelude.{◌≡◌, ◌∷◌, IfOk};
 ghost use Rattle.enet_text.specs.Words.{words};
-ghost use Rattle.enet_lab.specs.EnetLines.{mode_named, pair_of, open_of, fleet_of, calm_of, rounds_of, connect_of, submit_of, deliver_of, deliver_side_of, deliver_from_of, stranger_of, turn_of, tick_of, take_of, give_way_of, most_of, of_address_of, send_limit_of, disconnect_of, event_of, line_of, spells};
+ghost use Rattle.enet_lab.specs.EnetLines.{mode_named, pair_of, open_of, fleet_of, calm_of, rounds_of, connect_of, submit_of, deliver_of, deliver_at, deliver_side_of, deliver_from_at, deliver_from_of, stranger_of, turn_of, tick_of, take_of, give_way_of, most_of, of_address_of, send_limit_of, disconnect_of, event_of, line_of, spells};
 
 use crate::host::{host_named, is, node_named, side_named};
 use enet_codec::{Addr, Admission, DisconnectMode};
-use enet_fleet::FleetEvent;
+use enet_fleet::{FleetEvent, Node};
 use enet_text::{
     bytes_of, first_word, five, four, id_of, ip_of, one, peer_of, three, two, u8_of, u16_of,
     u32_of, u64_of,
 };
-use law_network::WorldEvent;
+use law_network::{Side, WorldEvent};
 use std::alloc::{AllocError, Global};
 
 /// How many rounds a line makes happen at most, so that each line ends within some minutes: a round takes some microseconds at least.
@@ -65,6 +65,18 @@ pub enum Line {
     },
     /// Something happens in a fleet.
     InFleet(FleetEvent),
+    /// The newest datagram of the other side comes to a side of a world.
+    DeliverLast {
+        /// The side to which it comes.
+        side: Side,
+    },
+    /// The newest datagram of a host comes to another host of a fleet.
+    DeliverLastFrom {
+        /// The host to which it comes.
+        to: Node,
+        /// The host that put it out.
+        from: Node,
+    },
 }
 
 /// What a line spells, without the line feed that ends it; None where it can't be read. An error where there is no memory for
@@ -252,6 +264,15 @@ fn deliver_side(text: &[u8]) -> Option<Line>
 {
     let (side, k) = two(text)?;
     let side = side_named(side)?;
+    deliver_at(side, k)
+}
+
+fn deliver_at(side: Side, k: &[u8]) -> Option<Line>
+    ensures { result ≡ deliver_at side k.now }
+{
+    if is(k, b"last") {
+        return Some(Line::DeliverLast { side });
+    }
     let k = u64_of(k)?;
     Some(Line::InWorld(WorldEvent::Deliver { side, k }))
 }
@@ -263,6 +284,15 @@ fn deliver_from(text: &[u8]) -> Option<Line>
     let (to, from, k) = three(text)?;
     let to = node_named(to)?;
     let from = node_named(from)?;
+    deliver_from_at(to, from, k)
+}
+
+fn deliver_from_at(to: Node, from: Node, k: &[u8]) -> Option<Line>
+    ensures { result ≡ deliver_from_at to from k.now }
+{
+    if is(k, b"last") {
+        return Some(Line::DeliverLastFrom { to, from });
+    }
     let k = u64_of(k)?;
     Some(Line::InFleet(FleetEvent::Deliver { to, from, k }))
 }

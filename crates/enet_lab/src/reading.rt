@@ -111,9 +111,10 @@ fn run_script<R: Read, W: Write>(
 /// `open <peers A> <channels A> <peers B> <channels B>` or `fleet <clients> <peers> <channels>` comes first and once; then
 /// `connect <host> <channels> <data> <id>`, `submit <host> <peer> <channel> <flags> <bytes>`, `turn <host>`, `tick <host> <ms>`,
 /// `take <host>`, and `now`, `ask` or `later <host> <peer> <data>`, which disconnect. The hosts behind `pair` and `open` are `A` and
-/// `B`; `deliver <host> <k>` brings a host a datagram of the other, `calm <rounds> <ms>` makes rounds happen in which none is lost, at
-/// most 16,777,216, and `rounds <connection> <ms>` tells how many of them are enough. Those of a fleet are the server `S`, which doesn't connect, and
-/// the clients `C0`, `C1` and on; `deliver <host> <from> <k>` brings a host a datagram of another, and
+/// `B`; `deliver <host> <k>` brings a host a datagram of the other, with `last` in the place of `<k>` the newest, `calm <rounds> <ms>` makes
+/// rounds happen in which none is lost, at most 16,777,216, and `rounds <connection> <ms>` tells how many of them are enough. Those of a fleet
+/// are the server `S`, which doesn't connect, and the clients `C0`, `C1` and on; `deliver <host> <from> <k>` brings a host a datagram of
+/// another, or with `last` the newest of that host, and
 /// `stranger <host> <ip> <port> <bytes>` one that a stranger sends. Words are separated by spaces, numbers are decimal, a peer is
 /// `slot.generation`, bytes are hex of either case, text in quotes, or `-` for none, a connect id is 8 hex digits, an ip four numbers with
 /// points between them. Behind a line's words a word that begins with `#` begins a comment. A refusal of the world or the fleet is answered by its number and its name, and the script goes on.

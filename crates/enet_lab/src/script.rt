@@ -11,12 +11,15 @@ ghost use Rattle.enet_lab.specs.Refused.{IsRefused};
 
 use crate::fault::LabFault;
 use crate::stage::Stage;
-use crate::step::{fleet_step, is_in_fleet, is_in_world, world_calm, world_rounds, world_step};
+use crate::step::{
+    fleet_step, is_in_fleet, is_in_world, newest, newest_from, other, world_calm, world_rounds,
+    world_step,
+};
 use crate::{Line, read_line};
 use enet_codec::{Config, Refusal};
-use enet_fleet::FleetEvent;
+use enet_fleet::{FleetEvent, Node};
 use enet_text::refusal_text;
-use law_network::WorldEvent;
+use law_network::{Side, WorldEvent};
 use std::alloc::Global;
 use std::mem::replace;
 
@@ -68,6 +71,8 @@ impl Script {
             Line::InFleet(event) => self.step_fleet(event),
             Line::Calm { rounds, ms } => self.calm(rounds, ms),
             Line::RoundsNeeded { connection, ms } => self.rounds_needed(connection, ms),
+            Line::DeliverLast { side } => self.deliver_last(side),
+            Line::DeliverLastFrom { to, from } => self.deliver_last_from(to, from),
             Line::Pair { channels } => self.pair(Config::standard(1, channels)),
             Line::Open {
                 peers_a,
@@ -210,6 +215,38 @@ impl Script {
         if !is_in_fleet(fleet, &event) {
             return Err(LabFault::BadScript(self.lines));
         }
+        Ok(Some(fleet_step(self.alloc, fleet, event)?))
+    }
+
+    /// Brings a side of the world the newest datagram of the other.
+    fn deliver_last(&mut self, side: Side) -> Result<Option<String>, LabFault>
+        ensures lines { self.new.lines ≡ self.old.lines }
+        ensures does { IfOk result (λ answer. Does self.old.stage (spelled.DeliverLast side) (option_map string_bytes answer) self.new.stage) }
+        ensures unreadable { IfErr result (IsRefused self.old.lines (can_do self.old.stage (spelled.DeliverLast side))) }
+    {
+        let Stage::InWorld(world) = &mut self.stage else {
+            return Err(LabFault::BadScript(self.lines));
+        };
+        let Some(k) = newest(world, other(side)) else {
+            return Err(LabFault::Memory);
+        };
+        let event = WorldEvent::Deliver { side, k };
+        Ok(Some(world_step(self.alloc, world, event)?))
+    }
+
+    /// Brings a host of the fleet the newest datagram of another.
+    fn deliver_last_from(&mut self, to: Node, from: Node) -> Result<Option<String>, LabFault>
+        ensures lines { self.new.lines ≡ self.old.lines }
+        ensures does { IfOk result (λ answer. Does self.old.stage (spelled.DeliverLastFrom to from) (option_map string_bytes answer) self.new.stage) }
+        ensures unreadable { IfErr result (IsRefused self.old.lines (can_do self.old.stage (spelled.DeliverLastFrom to from))) }
+    {
+        let Stage::InFleet(fleet) = &mut self.stage else {
+            return Err(LabFault::BadScript(self.lines));
+        };
+        let Some(k) = newest_from(fleet, from) else {
+            return Err(LabFault::Memory);
+        };
+        let event = FleetEvent::Deliver { to, from, k };
         Ok(Some(fleet_step(self.alloc, fleet, event)?))
     }
 

@@ -1,9 +1,10 @@
 //! One event of a network, or rounds without losses, and the text of the answer.
 
-ghost use Rattle.std.specs.Prelude.{◌≡◌, IfOk};
+ghost use Rattle.std.specs.Prelude.{◌≡◌, IfOk, IfSome};
 ghost use Rattle.std.specs.Option.{option_map};
+ghost use Rattle.law_network.specs.World.{other};
 ghost use Rattle.std.specs.String.{string_bytes};
-ghost use Rattle.enet_lab.specs.Lines.{FleetSteps, StaysCalm, StepsTo, TellsRounds, WorldSteps, bytes_shown, fleet_text, is_in_fleet, is_in_world, may_be, sent_shown, world_text};
+ghost use Rattle.enet_lab.specs.Lines.{FleetSteps, IsNewest, StaysCalm, StepsTo, TellsRounds, WorldSteps, bytes_shown, fleet_text, has_sent, has_sent_from, is_in_fleet, is_in_world, may_be, sent_shown, world_text};
 
 use crate::answer::outcome_shown;
 use crate::{Host, Recipient, calm_text, outcome_text, rounds_text};
@@ -68,6 +69,60 @@ fn bytes_shown<'a>(world: &'a World, side: Side, outcome: &Result<Answer, Refusa
     match outcome {
         Ok(Answer::Sent(Some(k))) => world.datagram(side, *k).unwrap_or(&[]),
         _ => &[],
+    }
+}
+
+/// Whether a side has put out a datagram of this number.
+fn has_sent(world: &World, side: Side, k: u64) -> bool
+    ensures { result ≡ has_sent world.now.world side k }
+{
+    match world.datagram(side, k) {
+        Some(_) => true,
+        None => false,
+    }
+}
+
+/// Whether a host of a fleet has.
+fn has_sent_from(fleet: &Fleet, from: Node, k: u64) -> bool
+    ensures { result ≡ has_sent_from fleet.now from k }
+{
+    match fleet.datagram(from, k) {
+        Some(_) => true,
+        None => false,
+    }
+}
+
+/// The number of the newest datagram of a side; None where it has put out 2^64 - 1.
+pub(crate) fn newest(world: &World, side: Side) -> Option<u64>
+    ensures { IfSome result (IsNewest (has_sent world.now.world side)) }
+{
+    for k in 0..u64::MAX {
+        if !has_sent(world, side, k + 1) {
+            return Some(k);
+        }
+    }
+    None
+}
+
+/// The same of a host of a fleet.
+pub(crate) fn newest_from(fleet: &Fleet, from: Node) -> Option<u64>
+    ensures { IfSome result (IsNewest (has_sent_from fleet.now from)) }
+{
+    for k in 0..u64::MAX {
+        if !has_sent_from(fleet, from, k + 1) {
+            return Some(k);
+        }
+    }
+    None
+}
+
+/// The other side.
+pub(crate) fn other(side: Side) -> Side
+    ensures { result ≡ other side }
+{
+    match side {
+        Side::A => Side::B,
+        Side::B => Side::A,
     }
 }
 

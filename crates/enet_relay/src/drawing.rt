@@ -1,8 +1,8 @@
-//! What `inspect --timeline` draws.
+//! What `inspect`, `lab` and `demo` draw where they are told `--timeline`.
 
 use crate::failure::Failure;
 use crate::reading::read_input;
-use enet_captured::{Filter, Way, read_timeline};
+use enet_captured::{Filter, Timeline, Way, read_timeline};
 use enet_console::{Asked, End};
 use enet_text::InspectFault;
 use enet_timeline::show;
@@ -33,6 +33,26 @@ where
         return Err(Failure::Inspect(InspectFault::CutShort(packets)));
     }
     Ok(())
+}
+
+/// Draws all of a timeline into the file that `picture` names. The way leads to the end at which it was noted, if it was at one.
+pub fn draw_all<R>(
+    rt: &R,
+    picture: &str,
+    timeline: &Timeline,
+    at: Option<Way>,
+) -> Result<(), Failure>
+where
+    R: Files + AllocGlobal,
+{
+    let all = Filter {
+        connection: None,
+        channel: None,
+        from: None,
+        to: None,
+    };
+    let shown = show(rt.alloc(), timeline, all, at)?;
+    fs::write(rt, picture, shown.picture.as_str()).map_err(Failure::File)
 }
 
 // No connection of a capture has the number that a machine of fewer bits couldn't hold.

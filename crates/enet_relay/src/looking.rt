@@ -24,6 +24,8 @@ pub fn hosts_of(line: &Line) -> [Option<Host>; 2] {
         }
         Line::InWorld(event) => [Some(Host::OfWorld(side_of(event))), None],
         Line::InFleet(event) => [Some(Host::OfFleet(node_of(event))), None],
+        Line::DeliverLast { side } => [Some(Host::OfWorld(*side)), None],
+        Line::DeliverLastFrom { to, .. } => [Some(Host::OfFleet(*to)), None],
         Line::PassedOver | Line::Open { .. } | Line::Fleet { .. } | Line::RoundsNeeded { .. } => {
             [None, None]
         }

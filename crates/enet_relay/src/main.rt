@@ -4,8 +4,8 @@
 //!
 //! Proved: that it is safe; what a run of the server did is said by `enet_serve`, what came of each client of the demonstration by
 //! `enet_demo`, how a script of the lab is answered by `enet_lab`, and what is told of a datagram by `enet_text`.
-//! Only tested, by scripts/check/check-inspect.sh: what `inspect` writes and its status. By scripts/check/check-rows.sh: the scripts of
-//! scripts/rows, also explained; the command lines `--help`, `--version`, no subcommand, an unknown one, a word too many, and those of `serve` and `demo`
+//! Only tested, by scripts/check/check-inspect.sh: what `inspect` writes and its status, and what `lab --timeline` draws. By
+//! scripts/check/check-rows.sh: the scripts of scripts/rows, also explained; the command lines `--help`, `--version`, no subcommand, an unknown one, a word too many, and those of `serve` and `demo`
 //! with numbers out of range; what both print; the answers to the lines of `serve --control`, and that a standard output that takes nothing
 //! holds up nothing; an input that can't be read, an output that can't be written, a port that is taken, an address that isn't there, a
 //! system that makes no threads. By scripts/check/check-clients.sh: what clients of the reference library get from `serve`, and those of
@@ -22,18 +22,19 @@ mod desk;
 mod drawing;
 mod explaining;
 mod failure;
+mod following;
 mod inspecting;
 mod looking;
 mod monitor;
 mod reading;
 mod serving;
+mod telling;
 mod watching;
 
 use demonstrating::demonstrate;
 use drawing::draw_capture;
 use enet_console::{InspectOptions, Task, read_task};
 use enet_lab::lab;
-use explaining::explain;
 use failure::Failure;
 use inspecting::inspect_input;
 use serving::serve;
@@ -43,6 +44,7 @@ use std::process::ExitCode;
 use std::rt::{Clock, Env, Files};
 use std::sync::Wait;
 use std::thread::Threads;
+use telling::tell;
 
 /// The status where a line of an explained script can't be read.
 const UNREADABLE: u8 = 2;
@@ -58,18 +60,22 @@ where
         Task::Nothing => {}
         Task::Lab {
             is_explained: false,
+            picture: None,
         } => {
             lab(rt.alloc(), &mut rt.reader(), &mut io::writer(rt)).map_err(Failure::Lab)?;
         }
-        Task::Lab { is_explained: true } => {
-            if !explain(rt)? {
+        Task::Lab {
+            is_explained,
+            picture,
+        } => {
+            if !tell(rt, is_explained, picture)? {
                 return Ok(ExitCode::from(UNREADABLE));
             }
         }
         Task::Inspect(options) => inspect(rt, options)?,
         Task::Serve(options) => serve(rt, options)?,
         Task::Demo(options) => {
-            if !demonstrate(rt, options)? {
+            if !demonstrate(rt, &options)? {
                 return Ok(ExitCode::from(LATE));
             }
         }

@@ -13,7 +13,7 @@ use Rattle.enet_captured.specs.declared.timeline.Way.{Way}
 use Rattle.enet_captured.specs.declared.timeline.Way.TheVariants.{Right, Left}
 use Rattle.enet_captured.specs.declared.fates.Marked.{Marked}
 use Rattle.enet_captured.specs.declared.fates.Outcome.TheVariants.{Acknowledged, NoneSeen, Open}
-use Rattle.enet_captured.specs.Fates.{has_ended, was_early, was_in_vain, was_resent}
+use Rattle.enet_captured.specs.Fates.{has_ended, was_early, was_in_vain, was_lost, was_resent}
 use Rattle.enet_captured.specs.declared.timeline.Seen.{Seen}
 use Rattle.enet_captured.specs.declared.timeline.Mark.{Mark}
 use Rattle.enet_captured.specs.declared.timeline.Timeline.{Timeline}
@@ -168,10 +168,15 @@ vain_line count name words =
 unfoldable pub vain_text : Option Way → Way → ℕ → List ℕ
 vain_text at way count = if count == 0 then [] else vain_line count (way_name way) (vain_words at way)
 
+-- How many were never delivered, where that is known of any.
+unfoldable pub lost_text : List ℕ → ℕ → List ℕ
+lost_text name count = if count == 0 then [] else (codes "  " ++ decimal count ++ codes " to the " ++ name ++ codes " never delivered\n")
+
 unfoldable pub fates_text : Option Way → List Marked → List ℕ
 fates_text at marked =
     outcomes_text (codes "right") Right marked ++ outcomes_text (codes "left") Left marked
     ++ vain_text at Right (count_by (was_in_vain Right) marked) ++ vain_text at Left (count_by (was_in_vain Left) marked)
+    ++ lost_text (codes "right") (count_by (was_lost Right) marked) ++ lost_text (codes "left") (count_by (was_lost Left) marked)
 
 -- A longest gap between two datagrams, and the later one: of gaps that are as long, any.
 unfoldable pub before_text : ℕ → List ℕ

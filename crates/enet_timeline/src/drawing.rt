@@ -6,14 +6,16 @@ ghost use Rattle.std.specs.String.{string_bytes};
 ghost use Rattle.enet_timeline.specs.Pictures.{opening_text, ground_text, lines_text, IsPicture};
 
 use crate::element::{
-    push_cross, push_diamond, push_left_head, push_line, push_right_head, push_ring, push_title,
-    push_words,
+    push_cross, push_diamond, push_full_cross, push_left_head, push_line, push_right_head,
+    push_ring, push_title, push_words,
 };
-use crate::labels::{label, push_seconds, title};
+use crate::labels::{label, name_of, push_seconds, title};
+use crate::legend::{IN_VAIN, LEGEND, LOST, NONE_SEEN, TOO_EARLY, help_of};
 use crate::places::{LEFT, PAGE, PAGE_LENGTH, RIGHT, is_long, step_of};
 use crate::queue::Queue;
 use crate::summary::{push_part, push_whole, vain_words};
-use enet_captured::{Filter, Kind, Mark, Marked, Outcome, Part, Seen, Timeline, Way};
+use enet_captured::{Filter, Kind, Mark, Marked, Outcome, Part, Seen, Source, Timeline, Way};
+use enet_codec::Addr;
 use enet_text::address_text;
 use std::alloc::{AllocError, Global};
 
@@ -31,8 +33,10 @@ const COMMANDS: usize = 64;
 struct Pen {
     text: String,
     y: u64,
-    /// When the capture's first packet was captured.
+    /// When it begins.
     begun: u64,
+    /// Whence it is.
+    source: Source,
     queue: Queue,
     /// The next command.
     next: usize,
@@ -63,16 +67,17 @@ pub(crate) fn draw(
         text: String::new(alloc),
         y,
         begun: timeline.begun,
+        source: timeline.source,
         queue: Queue::new(alloc),
         next: 0,
         head: y,
         bands: String::new(alloc),
         at,
     };
-    pen.y = push_legend(&mut pen.text, pen.y)?;
-    push_summary(&mut pen, HELP)?;
+    pen.y = push_legend(&mut pen.text, pen.y, pen.source)?;
+    push_summary(&mut pen, help_of(timeline.source))?;
     for part in parts.iter().take(CONNECTIONS) {
-        draw_part(alloc, &mut pen, part)?;
+        draw_part(alloc, &mut pen, timeline, part)?;
     }
     picture(alloc, top.as_str(), &pen)
 }
@@ -136,6 +141,7 @@ path{fill:none;stroke:#333;stroke-width:1.3}
 .open{stroke:#d33;stroke-dasharray:4 2}
 .dot{fill:#e58a1f;stroke:#fff}
 .cross{fill:#fff;stroke:#d11;stroke-width:1.2}
+.lost{fill:#d11;stroke:#fff;stroke-width:1}
 .early{fill:#e58a1f;stroke:#fff;stroke-width:1}
 .vain{fill:#fff;stroke:#e58a1f;stroke-width:2}
 .twice{stroke-dasharray:2 3}
@@ -169,24 +175,13 @@ fn push_lines(text: &mut String, top: u64, words: &str) -> Result<u64, AllocErro
     Ok(y)
 }
 
-/// What the looks of arrows say: where each stands, its class and its words.
-const LEGEND: [(u64, &str, &str); 8] = [
-    (16, "data", "reliable"),
-    (120, "plain", "unreliable, unsequenced"),
-    (306, "control", "connection"),
-    (414, "ping", "ping"),
-    (484, "ack", "acknowledgements"),
-    (640, "unread", "can't be read"),
-    (768, "data again", "sent again"),
-    (880, "data twice", "the same datagram, seen before"),
-];
-
 // What the looks of arrows and the marks on them say, from there on. Where that ends.
-fn push_legend(text: &mut String, top: u64) -> Result<u64, AllocError> {
+fn push_legend(text: &mut String, top: u64, source: Source) -> Result<u64, AllocError> {
     let y = top.saturating_add(4);
     push_samples(text, y)?;
     let y = y.saturating_add(17);
     push_mark_samples(text, y)?;
+    push_lost_sample(text, y, source)?;
     Ok(y.saturating_add(20))
 }
 
@@ -207,19 +202,14 @@ fn push_mark_samples(text: &mut String, y: u64) -> Result<(), AllocError> {
     push_words(text, "sum", 380, base, IN_VAIN)
 }
 
-/// What the marks say.
-const NONE_SEEN: &str = "no acknowledgement seen";
-
-const TOO_EARLY: &str = "sent again too early";
-
-const IN_VAIN: &str =
-    "what it acknowledges was sent again all the same: lost or late behind this point, or not yet read";
-
-const HELP: &str =
-    "Time runs down, in seconds since the first packet; a pause is cut short where its length stands. At an arrow: what its commands are, channel:number (bytes).
-Beside each end: the reliable numbers it sent (c is the channel of the connection itself), each from its sending to its acknowledgement: orange went again, of red no acknowledgement was seen.
-No acknowledgement seen, and sent again: it was lost, refused, or its acknowledgement was lost on the far side of the capture. Whatever isn't sent again has no mark.
-";
+// The mark that no capture has.
+fn push_lost_sample(text: &mut String, y: u64, source: Source) -> Result<(), AllocError> {
+    if source == Source::Capture {
+        return Ok(());
+    }
+    push_full_cross(text, "lost", 990, y)?;
+    push_words(text, "sum", 1002, y.saturating_add(4), LOST)
+}
 
 fn push_sample(
     text: &mut String,
@@ -239,17 +229,22 @@ fn push_sample(
 }
 
 // A connection below what is there.
-fn draw_part(alloc: Global, pen: &mut Pen, part: &Part) -> Result<(), AllocError> {
+fn draw_part(
+    alloc: Global,
+    pen: &mut Pen,
+    timeline: &Timeline,
+    part: &Part,
+) -> Result<(), AllocError> {
     pen.y = pen.y.saturating_add(18);
     push_line(&mut pen.text, "rule", (16, pen.y), (PAGE - 16, pen.y))?;
     pen.y = pen.y.saturating_add(22);
     push_part_summary(alloc, pen, part)?;
-    pen.y = push_heads(alloc, &mut pen.text, part, pen.y)?;
+    pen.y = push_heads(alloc, &mut pen.text, timeline, part, pen.y)?;
     let top = pen.y;
     pen.head = top;
     pen.queue = Queue::new(alloc);
     pen.next = 0;
-    draw_datagrams(alloc, pen, part)?;
+    draw_datagrams(alloc, pen, timeline, part)?;
     pen.y = pen.y.saturating_add(14);
     pen.queue.push_left_over(&mut pen.text, pen.y)?;
     push_line(&mut pen.text, "axis", (LEFT, top), (LEFT, pen.y))?;
@@ -266,10 +261,16 @@ fn push_part_summary(alloc: Global, pen: &mut Pen, part: &Part) -> Result<(), Al
 }
 
 // The heads of the columns, below there: the ends, and what stands beside them. Where they end.
-fn push_heads(alloc: Global, text: &mut String, part: &Part, top: u64) -> Result<u64, AllocError> {
+fn push_heads(
+    alloc: Global,
+    text: &mut String,
+    timeline: &Timeline,
+    part: &Part,
+    top: u64,
+) -> Result<u64, AllocError> {
     let y = top.saturating_add(10);
-    let left = address_text(alloc, part.connection.left)?;
-    let right = address_text(alloc, part.connection.right)?;
+    let left = end_text(alloc, timeline, part.connection.left)?;
+    let right = end_text(alloc, timeline, part.connection.right)?;
     push_words(text, "time", 16, y, "seconds")?;
     push_words(text, "end", LEFT, y, left.as_str())?;
     push_words(text, "end", RIGHT, y, right.as_str())?;
@@ -277,29 +278,47 @@ fn push_heads(alloc: Global, text: &mut String, part: &Part, top: u64) -> Result
     Ok(y.saturating_add(6))
 }
 
+// What an end is called: by its address where it has no name.
+fn end_text(alloc: Global, timeline: &Timeline, at: Addr) -> Result<String, AllocError> {
+    match timeline.hosts.iter().find(|host| host.at == at) {
+        None => address_text(alloc, at),
+        Some(host) => String::from_str(alloc, host.name.as_str()),
+    }
+}
+
 // The legend and the heads once more, where the last ones are out of sight.
-fn push_heads_again(alloc: Global, pen: &mut Pen, part: &Part) -> Result<(), AllocError> {
+fn push_heads_again(
+    alloc: Global,
+    pen: &mut Pen,
+    timeline: &Timeline,
+    part: &Part,
+) -> Result<(), AllocError> {
     if pen.y.saturating_sub(pen.head) < PAGE_LENGTH {
         return Ok(());
     }
     let top = pen.y.saturating_add(30);
     push_band(&mut pen.bands, top)?;
-    let y = push_legend(&mut pen.bands, top.saturating_add(12))?;
-    pen.y = push_heads(alloc, &mut pen.bands, part, y)?;
+    let y = push_legend(&mut pen.bands, top.saturating_add(12), pen.source)?;
+    pen.y = push_heads(alloc, &mut pen.bands, timeline, part, y)?;
     pen.head = pen.y;
     Ok(())
 }
 
 // The datagrams of a connection.
-fn draw_datagrams(alloc: Global, pen: &mut Pen, part: &Part) -> Result<(), AllocError> {
+fn draw_datagrams(
+    alloc: Global,
+    pen: &mut Pen,
+    timeline: &Timeline,
+    part: &Part,
+) -> Result<(), AllocError> {
     let mut before: Option<u64> = None;
     for one in part.marked.iter().take(DATAGRAMS) {
         let gap = one.seen.at.saturating_sub(before.unwrap_or(one.seen.at));
         before = Some(one.seen.at);
-        push_heads_again(alloc, pen, part)?;
+        push_heads_again(alloc, pen, timeline, part)?;
         push_pause(alloc, pen, gap)?;
         pen.y = pen.y.saturating_add(step_of(gap));
-        draw_seen(alloc, pen, part, one)?;
+        draw_seen(alloc, pen, timeline, part, one)?;
     }
     Ok(())
 }
@@ -330,14 +349,20 @@ fn push_pause(alloc: Global, pen: &mut Pen, gap: u64) -> Result<(), AllocError> 
 }
 
 // A datagram, with what it does to what waits.
-fn draw_seen(alloc: Global, pen: &mut Pen, part: &Part, one: &Marked) -> Result<(), AllocError> {
+fn draw_seen(
+    alloc: Global,
+    pen: &mut Pen,
+    timeline: &Timeline,
+    part: &Part,
+    one: &Marked,
+) -> Result<(), AllocError> {
     let marks = part.marks.as_slice();
     let first = pen.next.min(marks.len());
     let count = count_in(&marks[first..], one.seen.number);
     let marks = marks.get(first..first.saturating_add(count)).unwrap_or(&[]);
     pen.next = first.saturating_add(count);
     push_moment(alloc, pen, &one.seen)?;
-    push_arrow(alloc, pen, one, marks)?;
+    push_arrow(alloc, pen, name_of(timeline, one.seen.number), one, marks)?;
     let followed = marks.get(..COMMANDS).unwrap_or(marks);
     pen.queue
         .follow(alloc, &mut pen.text, followed, one.fate, pen.y)
@@ -406,12 +431,13 @@ fn push_moment(alloc: Global, pen: &mut Pen, seen: &Seen) -> Result<(), AllocErr
 fn push_arrow(
     alloc: Global,
     pen: &mut Pen,
+    name: &str,
     one: &Marked,
     marks: &[Mark],
 ) -> Result<(), AllocError> {
     let seen = one.seen;
-    let words = label(alloc, &seen, marks)?;
-    let mut more = title(alloc, &seen, marks)?;
+    let words = label(alloc, name, &seen, marks)?;
+    let mut more = title(alloc, name, &seen, marks)?;
     push_reasons(&mut more, one, pen.at)?;
     let line = line_class(one);
     let class = class_of(&seen, marks);
@@ -419,7 +445,11 @@ fn push_arrow(
     let text = &mut pen.text;
     text.push_str("<g>")?;
     push_title(text, more.as_str())?;
-    push_shaft(text, class.as_str(), seen.way, pen.y)?;
+    if seen.is_lost {
+        push_lost_shaft(text, class.as_str(), seen.way, pen.y)?;
+    } else {
+        push_shaft(text, class.as_str(), seen.way, pen.y)?;
+    }
     push_marks(text, one, pen.y)?;
     let x = match seen.way {
         Way::Right => LEFT + 10,
@@ -463,17 +493,31 @@ fn push_shaft(text: &mut String, class: &str, way: Way, y: u64) -> Result<(), Al
     }
 }
 
+// The line of an arrow that doesn't arrive: it ends where its cross stands.
+fn push_lost_shaft(text: &mut String, class: &str, way: Way, y: u64) -> Result<(), AllocError> {
+    let end = behind_head(way, LOST_AT);
+    match way {
+        Way::Right => push_line(text, class, (LEFT, y), (end, y)),
+        Way::Left => push_line(text, class, (end, y), (RIGHT, y)),
+    }
+}
+
+/// How far behind the other end a datagram's arrow ends that was never delivered.
+const LOST_AT: u64 = 60;
+
 // The marks of a datagram, near its arrow's head.
 fn push_marks(text: &mut String, one: &Marked, y: u64) -> Result<(), AllocError> {
     let way = one.seen.way;
-    if one.fate.outcome().is(Outcome::NoneSeen) {
+    if one.seen.is_lost {
+        push_full_cross(text, "lost", behind_head(way, LOST_AT), y)?;
+    } else if one.fate.outcome().is(Outcome::NoneSeen) {
         push_cross(text, "cross", behind_head(way, 40), y)?;
     }
     if one.fate.is_early {
         push_diamond(text, "early", behind_head(way, 22), y)?;
     }
     if one.fate.is_in_vain {
-        push_ring(text, "vain", behind_head(way, 58), y)?;
+        push_ring(text, "vain", behind_head(way, 80), y)?;
     }
     Ok(())
 }
@@ -488,7 +532,10 @@ fn behind_head(way: Way, far: u64) -> u64 {
 
 // What the marks of a datagram say, a line each.
 fn push_reasons(text: &mut String, one: &Marked, at: Option<Way>) -> Result<(), AllocError> {
-    if one.fate.outcome().is(Outcome::NoneSeen) {
+    if one.seen.is_lost {
+        text.push_str("\n")?;
+        text.push_str(LOST)?;
+    } else if one.fate.outcome().is(Outcome::NoneSeen) {
         text.push_str("\n")?;
         text.push_str(NONE_SEEN)?;
     }

@@ -56,6 +56,19 @@ pub(crate) fn push_cross(text: &mut String, class: &str, x: u64, y: u64) -> Resu
     )
 }
 
+/// A full cross whose middle is there.
+pub(crate) fn push_full_cross(
+    text: &mut String,
+    class: &str,
+    x: u64,
+    y: u64,
+) -> Result<(), AllocError> {
+    write!(
+        text,
+        "<path class=\"{class}\" d=\"M{x} {y}m-8 -5l3 -3l5 5l5 -5l3 3l-5 5l5 5l-3 3l-5 -5l-5 5l-3 -3l5 -5z\"/>\n"
+    )
+}
+
 /// A diamond whose middle is there.
 pub(crate) fn push_diamond(
     text: &mut String,

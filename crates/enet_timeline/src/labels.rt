@@ -4,7 +4,7 @@ ghost use Rattle.std.specs.Prelude.{◌≡◌, ◌++◌, OnOk};
 ghost use Rattle.std.specs.String.{string_bytes};
 ghost use Rattle.enet_timeline.specs.Summaries.{seconds_text};
 
-use enet_captured::{Detail, Kind, Mark, Seen, Told};
+use enet_captured::{Detail, Kind, Mark, Seen, Timeline, Told};
 use enet_codec::CONTROL_CHANNEL;
 use std::alloc::{AllocError, Global};
 
@@ -14,9 +14,28 @@ const WIDTH: usize = 84;
 /// So many commands of a datagram are told in full at most.
 const COMMANDS: usize = 64;
 
-/// The commands of a datagram in short: the first, and of the others those that find room. The rest is counted.
-pub(crate) fn label(alloc: Global, seen: &Seen, marks: &[Mark]) -> Result<String, AllocError> {
+/// What a datagram is called; nothing where its number does.
+pub(crate) fn name_of(timeline: &Timeline, number: u64) -> &str {
+    let Ok(place) = usize::try_from(number) else {
+        return "";
+    };
+    match timeline.names.get(place) {
+        Some(name) => name.as_str(),
+        None => "",
+    }
+}
+
+/// What a datagram is called, and its commands in short: the first, and of the others those that find room. The rest is counted.
+pub(crate) fn label(
+    alloc: Global,
+    name: &str,
+    seen: &Seen,
+    marks: &[Mark],
+) -> Result<String, AllocError> {
     let mut text = String::new(alloc);
+    if !name.is_empty() {
+        write!(text, "{name}: ")?;
+    }
     let mut before = None;
     let mut left = marks.len();
     for mark in marks {
@@ -111,12 +130,21 @@ pub(crate) fn push_channel(text: &mut String, channel: u8) -> Result<(), AllocEr
     write!(text, "{channel}:")
 }
 
-/// A datagram in full: its number and length, and each command by the name that ENet gives it.
-pub(crate) fn title(alloc: Global, seen: &Seen, marks: &[Mark]) -> Result<String, AllocError> {
+/// A datagram in full: its number, what it is called, its length, and each command by the name that ENet gives it.
+pub(crate) fn title(
+    alloc: Global,
+    name: &str,
+    seen: &Seen,
+    marks: &[Mark],
+) -> Result<String, AllocError> {
     let mut text = String::new(alloc);
     let number = seen.number;
     let len = seen.len;
-    write!(text, "datagram {number}, {len} bytes")?;
+    write!(text, "datagram {number}, ")?;
+    if !name.is_empty() {
+        write!(text, "{name}, ")?;
+    }
+    write!(text, "{len} bytes")?;
     for mark in marks.iter().take(COMMANDS) {
         text.push_str("\n")?;
         push_long(&mut text, mark.told)?;

@@ -3,13 +3,13 @@
 ghost use Rattle.std.specs.Prelude.{◌≡◌, ◌++◌, ℕ, List, Option, codes, IfOk, OnOk};
 ghost use Rattle.std.specs.List.{flat_map};
 ghost use Rattle.std.specs.String.{string_bytes};
-ghost use Rattle.enet_timeline.specs.Summaries.{counts_text, unkept_text, cut_text, first_connections_text, whole_text, asked_text, is_all, words_asked_text, number_asked_text, time_asked_text, names_text, id_text, began_text, ends_text, ways_text, going_text, lasting, unread_text, stopped_text, stops_text, counted_text, kind_text, all_text, commands_text, outcomes_text, ended_text, resent_text, way_name, vain_words, vain_text, vain_line, fates_text, before_text, longest_text, gap_text, first_datagrams_text, TellsPart, Summarizes};
+ghost use Rattle.enet_timeline.specs.Summaries.{counts_text, unkept_text, cut_text, first_connections_text, whole_text, asked_text, is_all, words_asked_text, number_asked_text, time_asked_text, names_text, id_text, began_text, ends_text, ways_text, going_text, lasting, unread_text, stopped_text, stops_text, counted_text, kind_text, all_text, commands_text, outcomes_text, ended_text, resent_text, way_name, vain_words, vain_text, vain_line, lost_text, fates_text, before_text, longest_text, gap_text, first_datagrams_text, TellsPart, Summarizes};
 
 use crate::drawing::{CONNECTIONS, DATAGRAMS};
 use crate::labels::push_seconds;
 use enet_captured::{
     Filter, Kind, Mark, Marked, Outcome, Part, Seen, Timeline, Way, count_of, early, ended, going,
-    in_vain, longest_gap, resent, stopped_by,
+    in_vain, longest_gap, lost, resent, stopped_by,
 };
 use enet_codec::Stop;
 use enet_text::{address_text, bytes_text};
@@ -348,6 +348,8 @@ fn push_fates(text: &mut String, marked: &[Marked], at: Option<Way>) -> Result<(
     push_outcomes(text, "left", Way::Left, marked)?;
     push_vain(text, at, Way::Right, in_vain(marked, Way::Right))?;
     push_vain(text, at, Way::Left, in_vain(marked, Way::Left))?;
+    push_lost(text, "right", lost(marked, Way::Right))?;
+    push_lost(text, "left", lost(marked, Way::Left))?;
     Ok(())
 }
 
@@ -411,6 +413,16 @@ fn push_vain_count(
         text,
         "  {count} to the {name} acknowledge what is sent again all the same: {words}\n"
     )
+}
+
+// How many that go one way were never delivered, where that is known of any.
+fn push_lost(text: &mut String, name: &str, count: usize) -> Result<(), AllocError>
+    ensures { OnOk result (string_bytes text.new ≡ string_bytes text.old ++ lost_text name.now count) }
+{
+    if count == 0 {
+        return Ok(());
+    }
+    write!(text, "  {count} to the {name} never delivered\n")
 }
 
 fn way_name(way: Way) -> &'static str

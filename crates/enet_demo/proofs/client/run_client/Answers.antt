@@ -8,7 +8,7 @@ use Rattle.enet_demo.proofs.client.run_client.Goals as goal
 
 pub returns-clause-visits : goal.returns-clause-visits
 returns-clause-visits g c =
-    let turned : HasTurned (Turns c.args.part.turns) (record { service = c.args.bound.now.service; queue = c.args.shared.queue.now; drain = c.args.ends.drain; poster = c.args.ends.poster; told = Some (told_of c.args.bound.now.wire); faults = failures_of c.args.bound.now.wire })
-    (record { service = c.beside_turns-played.new.bound.service; queue = c.args.shared.queue.now; drain = c.into_drain.result; poster = c.into_poster.result; told = Some (told_of c.beside_turns-played.new.bound.wire); faults = failures_of c.beside_turns-played.new.bound.wire }) c.in_ok-report.field-0 = search rules in
+    let turned : HasTurned (Turns c.args.part.turns) (record { service = c.args.bound.now.service; queue = c.args.shared.queue.now; drain = c.args.ends.drain; poster = c.args.ends.poster; told = Some (told_of c.args.bound.now.wire.wire); faults = failures_of c.args.bound.now.wire.wire })
+    (record { service = c.beside_turns-played.new.bound.service; queue = c.args.shared.queue.now; drain = c.into_drain.result; poster = c.into_poster.result; told = Some (told_of c.beside_turns-played.new.bound.wire.wire); faults = failures_of c.beside_turns-played.new.bound.wire.wire }) c.in_ok-report.field-0 = search rules in
     let visited : HasVisited c.args.shared.queue.now c.args.shared.events.now.id c.args.part.plan c.into_played.result = search rules in
     visited_or_fault _ _ _ _ _ _ _ _ _ c.requires.new.drain.1 c.requires.new.poster.1 turned visited c.after_visit.ensures.settled

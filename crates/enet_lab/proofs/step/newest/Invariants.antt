@@ -1,0 +1,7 @@
+use Rattle.std.specs.Prelude.{◌≡◌, ◌⊎◌, true}
+use Rattle.enet_lab.specs.Lines.{has_sent}
+use Rattle.enet_lab.proofs.step.newest.Given as goal
+
+-- a datagram has this number, or it is the first
+abbrev pub invariant-loop-k : goal.invariant-loop-k
+invariant-loop-k l = (has_sent l.world.world l.side l.k ≡ true) ⊎ (l.k ≡ 0)
