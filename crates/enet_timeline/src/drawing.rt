@@ -514,12 +514,17 @@ fn push_marks(text: &mut String, one: &Marked, y: u64) -> Result<(), AllocError>
         push_cross(text, "cross", behind_head(way, 40), y)?;
     }
     if one.fate.is_early {
-        push_diamond(text, "early", behind_head(way, 22), y)?;
+        push_diamond(text, "early", behind_head(way, early_at(one)), y)?;
     }
     if one.fate.is_in_vain {
         push_ring(text, "vain", behind_head(way, 80), y)?;
     }
     Ok(())
+}
+
+// How far behind the other end the mark stands of what was sent again too early: on the line, which ends before if it was lost.
+fn early_at(one: &Marked) -> u64 {
+    if one.seen.is_lost { LOST_AT + 40 } else { 22 }
 }
 
 // So far behind the head of an arrow.
