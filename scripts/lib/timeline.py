@@ -130,7 +130,7 @@ def check_script(path, picture, answers):
     if len(drawn) != count:
         sys.exit(f'{len(drawn)} arrows where {count} are wanted')
     for group in xml.etree.ElementTree.parse(picture).iter(SVG + 'g'):
-        title, *_, words = (each.text for each in group if each.text)
+        title, words = group[0].text, group[-1].text or ''
         number, called = int(title.split()[1].rstrip(',')), title.split()[2]
         name = put_out.names[number]
         if name and (called != name + ',' or not words.startswith(name + ': ')):
