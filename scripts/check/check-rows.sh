@@ -433,7 +433,7 @@ demo_prints() {
 # With `--timeline` it prints the same, and draws the connection of each of $1 clients.
 demo_drawn() {
     local found
-    service_line "demo-drawn-$1" 0 '' "$(demo_prints "$1" $((3 * ($1 - 1))) done 47100 'a server in this process')" \
+    demo_line "demo-drawn-$1" 0 '' "$(demo_prints "$1" $((3 * ($1 - 1))) done 47100 'a server in this process')" \
         demo --clients "$1" --turns 1000 --timeline "$room/demo.svg"
     found=$(python3 scripts/lib/timeline.py demo "$room/demo.svg" "$1" 2>&1) && passed=$((passed + 1)) || fail "demo-drawn-$1" "$found"
 }
