@@ -1,5 +1,6 @@
 -- The false lists are refuted.
-use Rattle.std.proofs.Common.{◌≡◌, inl, inr, ℕ, zero, suc, ◌+◌, ◌<◌, ◌≤◌, ◌%◌, ◌&&◌, arith, Bool, true, false, cond, refl, sym, ap, subst, ◌∙◌, Option, Some, None, List, [], ◌∷◌, ◌++◌, length, take, slice_get}
+use Rattle.std.proofs.Common.{◌≡◌, inl, inr, ℕ, zero, suc, ◌+◌, ◌<◌, ◌≤◌, ◌%◌, ◌&&◌, arith, Bool, true, false, cond, nat_le, not, refl, sym, ap, subst, ◌∙◌, Option, Some, None, List, [], ◌∷◌, ◌++◌, length, take, slice_get}
+use Rattle.std.proofs.lemmas.Bool.Decides.{nat_tests}
 use Rattle.std.proofs.lemmas.List.{length-append}
 use Rattle.enet_codec.specs.declared.address.Addr.{Addr}
 use Rattle.enet_codec.specs.declared.event.PeerRef.{PeerRef}
@@ -9,12 +10,13 @@ use Rattle.law_unsequenced.specs.Unsequenced.{TakenAs, Each}
 use Rattle.law_network.specs.Network.{is_same_name}
 use Rattle.law_network.proofs.Submitting.{same-some}
 use Rattle.law_headline.specs.declared.node.Node.TheVariants.{Server, Client}
-use Rattle.law_headline.specs.Page.{Follows, IsInOrder, submitted_if}
+use Rattle.law_headline.specs.Page.{Follows, in_order, IsInOrder, submitted_if}
+use Rattle.law_headline.proofs.Page.{back-follows}
 use Rattle.law_headline.proofs.Kept.{name-slot, name-generation}
 use Rattle.enet_fleet.specs.Fleets.{address_of}
 use Rattle.enet_fleet.specs.Transcript.{Happened, IsOnTranscript, user, asked, placed}
 use Rattle.enet_fleet.specs.Examples.{stranger}
-use Rattle.enet_fleet.specs.Refuted.{first, second, lie, swap, loan, early, slip, cross, NamesAreTied, OwnNamesAlone, LieIsRefuted, SwapIsRefuted, LoanIsRefuted, EarlyIsRefuted, AstrayIsRefuted, MirrorIsRefuted, SlipIsRefuted, CrossIsRefuted, TwiceIsRefuted}
+use Rattle.enet_fleet.specs.Refuted.{first, second, lie, swap, loan, early, slip, cross, double, NamesAreTied, OwnNamesAlone, LieIsRefuted, SwapIsRefuted, LoanIsRefuted, EarlyIsRefuted, AstrayIsRefuted, MirrorIsRefuted, SlipIsRefuted, CrossIsRefuted, DoubleIsRefuted, TwiceIsRefuted}
 
 pub tied : NamesAreTied
 tied clients hs h p k i low told all =
@@ -67,7 +69,7 @@ lent h = by (h.headline.here 1) refl
     comes o here =
         let q : IsInOrder (user (Client 0) loan) (user Server loan) second o =
         subst (λ (z : Option PeerRef). IsInOrder (user (Client 0) loan) (user Server loan) second z) here (h.headline.each 1 0 second refl) in
-        q.back 0 (let l : 0 < 256 = omega arith in l)
+        back-follows (user (Client 0) loan) (user Server loan) second o q 0 (let l : 0 < 256 = omega arith in l)
 
     -- the stranger's peer is told to be elsewhere, and to nobody else the server's user submitted
     at : (p : PeerRef) → h.headline.here 1 ≡ Some p → (b : Bool) → is_same_name p first ≡ b → Follows (cond (b && true) (packet 7 ∷ []) [] ++ []) ((7 ∷ []) ∷ []) → ⊥
@@ -108,19 +110,17 @@ pub mirrored : MirrorIsRefuted
 mirrored h = h.no_server first 0 refl
 
 pub slipped : SlipIsRefuted
-slipped h = by w.0 w.1 w.2 w.3
+slipped h = by w.0 w.1 w.2
   where
     o : IsInOrder (user (Client 0) slip) (user Server slip) first (Some first)
     o = in-order slip h refl (only-one slip h refl refl)
 
-    w : (j : ℕ) × (s : Packet) × (slice_get (packet 1 ∷ []) j ≡ Some s) × (s.body ≡ 2 ∷ []) × (s.flags % 4 ≡ 2)
+    -- nothing was submitted to go so
+    w : (j : ℕ) × (s : Packet) × (slice_get {X = Packet} [] j ≡ Some s) × (s.body ≡ 2 ∷ []) × (s.flags % 4 ≡ 2)
     w = o.unsequenced_forth 0 (let l : 0 < 256 = omega arith in l) 1 first (record { channel = 0; flags = 2; body = 2 ∷ [] }) refl refl refl
 
-    by : (j : ℕ) (s : Packet) → slice_get (packet 1 ∷ []) j ≡ Some s → s.body ≡ 2 ∷ [] → ⊥
-    by zero s at body =
-        let e : ◌≡◌ {A = List ℕ} (1 ∷ []) (2 ∷ []) = ap (λ (z : Packet). z.body) (same-some (packet 1) s at) ∙ body in
-        let n : ◌≡◌ {A = ℕ} 1 2 = cc in omega arith
-    by (suc j) s at body = absurd (let z : ◌≡◌ {A = Option Packet} None (Some s) = at in cc)
+    by : (j : ℕ) (s : Packet) → slice_get {X = Packet} [] j ≡ Some s → ⊥
+    by j s at = absurd (let z : ◌≡◌ {A = Option Packet} None (Some s) = at in cc)
 
 pub crossed : CrossIsRefuted
 crossed h = by (o.forth 0 (let l : 0 < 256 = omega arith in l))
@@ -134,6 +134,23 @@ crossed h = by (o.forth 0 (let l : 0 < 256 = omega arith in l))
     by : Follows (packet 1 ∷ packet 3 ∷ []) ((1 ∷ []) ∷ (2 ∷ []) ∷ []) → ⊥
     by (inl same) = not-first 3 2 [] (λ (e : 3 ≡ 2). (omega arith)) same.1
     by (inr skip) = absurd (let z : 1 % 2 ≡ 0 = skip.0 in omega arith)
+
+-- a packet that goes unsequenced
+abbrev loose : Packet
+loose = record { channel = 0; flags = 2; body = 7 ∷ [] }
+
+pub doubled : DoubleIsRefuted
+doubled h = by o.room_forth o.is_room_forth.least (o.forth 0 (let l : 0 < 256 = omega arith in l))
+  where
+    o : IsInOrder (user (Client 0) double) (user Server double) first (Some first)
+    o = in-order double h refl (only-one double h refl refl)
+
+    fits : (room : ℕ) → 512 ≤ room → nat_le 1 room ≡ true
+    fits room least = grind (arith, nat_tests)
+
+    -- it fits a command, so it doesn't go in order
+    by : (room : ℕ) → 512 ≤ room → Follows (in_order room (loose ∷ [])) ((7 ∷ []) ∷ []) → ⊥
+    by room least f = subst (λ (b : Bool). Follows (cond (not b) (loose ∷ []) []) ((7 ∷ []) ∷ [])) (fits room least) f
 
 -- of one packet none is another than the first
 the-first : (p q : Packet) (n : ℕ) → TakenAs (p ∷ []) n q → n ≡ 1

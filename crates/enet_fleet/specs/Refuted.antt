@@ -124,6 +124,15 @@ cross = asks 0 first ∷ submits (Client 0) first 1 ∷ intrudes Server ∷ begi
 abbrev pub CrossIsRefuted : Type 0
 CrossIsRefuted = IsOnEachFront 1 cross → ⊥
 
+-- client 0 submits 7 once, to go unsequenced; a stranger is taken in; of its peer at client 0's address the server's user takes 7 twice, unsequenced
+-- and in order
+abbrev pub double : List Happened
+double = asks 0 first ∷ (happen.Submit (Client 0) first 0 2 (7 ∷ []), Ok answers.Done) ∷ intrudes Server ∷ begins Server (address_of (Client 0)) first
+    ∷ gets_unsequenced Server (address_of (Client 0)) first 7 ∷ takes Server (address_of (Client 0)) (events.Receive first (record { channel = 0; flags = 0; body = 7 ∷ [] })) ∷ []
+
+abbrev pub DoubleIsRefuted : Type 0
+DoubleIsRefuted = IsOnTranscript 1 double → ⊥
+
 -- ---- of packets that go unsequenced
 -- of one that was submitted two are taken
 abbrev pub TwiceIsRefuted : Type 0

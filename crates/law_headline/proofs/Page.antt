@@ -1,10 +1,13 @@
 -- The page follows from the headline of the lists that are kept, and from their being those of the users.
-use Rattle.std.proofs.Common.{◌≡◌, ◌≢◌, ℕ, zero, suc, ◌+◌, ◌/◌, ◌%◌, ◌<◌, ◌⊎◌, inl, inr, ◌==◌, ◌&&◌, ◌||◌, not, Bool, true, false, cond, List, [], ◌∷◌, ◌++◌, map, length, refl, sym, ap, subst, ◌∙◌, arith, Option, Some, None, Result, slice_get}
+use Rattle.std.proofs.Common.{◌≡◌, ◌≢◌, ℕ, zero, suc, ◌+◌, ◌/◌, ◌%◌, ◌<◌, ◌≤◌, ◌⊎◌, inl, inr, ◌==◌, ◌&&◌, ◌||◌, nat_le, nat_lt, not, Bool, true, false, cond, List, [], ◌∷◌, ◌++◌, map, length, refl, sym, ap, subst, ◌∙◌, arith, Option, Some, None, Result, slice_get}
 use Rattle.std.proofs.lemmas.Bool.Decides.{nat_tests}
+use Rattle.std.proofs.lemmas.List.Elements.{filter-append}
 use Rattle.enet_codec.specs.declared.event.Event.{Event}
 use Rattle.enet_codec.specs.declared.event.Event.TheVariants as events
 use Rattle.enet_codec.specs.declared.event.PeerRef.{PeerRef}
 use Rattle.enet_codec.specs.declared.packet.Packet.{Packet}
+use Rattle.enet_fragment.specs.Cutting.{piece_length}
+use Rattle.enet_fragment.proofs.Cuts.{at-least, at-most}
 use Rattle.enet_sender.specs.CommandChoice as command_choice
 use Rattle.enet_sender.specs.CommandChoice.{goes_reliable, carried_from, is_long, is_flagged_unreliable_fragment}
 use Rattle.enet_outbox.specs.Outbox.{is_unsequenced, is_flagged_unsequenced}
@@ -27,7 +30,7 @@ use Rattle.law_network.proofs.Channels.{same-come}
 use Rattle.law_network.proofs.Submitting.{same-some}
 use Rattle.law_headline.specs.Kept.{Tells, IsRecorded, IsCovered}
 use Rattle.law_headline.proofs.Telling.{get-front}
-use Rattle.law_headline.specs.Page.{Follows, came, WereSubmitted, AreLast, IsOneLife, User, submitted_if, taken_if, IsInOrder, IsHeadline, IsBehind, HoldsBehind}
+use Rattle.law_headline.specs.Page.{Follows, came, goes_unsequenced, in_order, unsequenced, WereSubmitted, AreLast, IsOneLife, User, submitted_if, taken_if, IsRoom, IsInOrder, IsHeadline, IsBehind, HoldsBehind}
 
 -- ---- order
 
@@ -42,44 +45,67 @@ or-left false b h = refl
 unflagged : (mtu count : ℕ) (p : command_choice.Packet) → goes_reliable mtu count p ≡ false → p.flags % 2 ≡ 0
 unflagged mtu count p h = even p.flags (or-left (p.flags % 2 == 1) (count == 65535) (or-left ((p.flags % 2 == 1) || count == 65535) (is_long mtu p && not (is_flagged_unreliable_fragment p)) h))
 
--- nor is one that goes unsequenced
-and-not : (a b c : Bool) → (a && not b && not c) ≡ true → b ≡ false
-and-not true true c h = absurd (let y : false ≡ true = h in cc)
-and-not true false c h = refl
-and-not false b c h = absurd (let y : false ≡ true = h in cc)
+-- what goes unsequenced on the page is what the outbox sends so
 
-unsequenced-unflagged : (mtu : ℕ) (p : command_choice.Packet) → is_unsequenced mtu p ≡ true → p.flags % 2 ≡ 0
-unsequenced-unflagged mtu p h = even p.flags (and-not (is_flagged_unsequenced p) (p.flags % 2 == 1) (is_long mtu p) h)
-
-left-out : (mtu channel : ℕ) (p : Packet) → p.channel ≡ channel → (p.channel == channel && not (is_unsequenced mtu (record { flags = p.flags; body = p.body }))) ≡ false → p.flags % 2 ≡ 0
-left-out mtu channel p same h = unsequenced-unflagged mtu (record { flags = p.flags; body = p.body }) (by (p.channel == channel) (is_unsequenced mtu (record { flags = p.flags; body = p.body })) (let t : (p.channel == channel) ≡ true = grind (arith, nat_tests) in t) h)
-  where
-    by : (a b : Bool) → a ≡ true → (a && not b) ≡ false → b ≡ true
-    by true true t e = refl
-    by true false t e = absurd (let y : true ≡ false = e in cc)
-    by false b t e = absurd (let y : false ≡ true = t in cc)
-
-content : Packet → command_choice.Packet
+abbrev content : Packet → command_choice.Packet
 content p = record { flags = p.flags; body = p.body }
 
--- what one packet of the list may be, by whether it goes in sequence
-abbrev Goes : Packet → List Packet → List ℕ → List (List ℕ) → Type 0
-Goes p ps b bs = ((p.body ≡ b) × Follows ps bs) ⊎ ((p.flags % 2 ≡ 0) × Follows ps (b ∷ bs))
+flags-are : (n : ℕ) → ((n / 2 % 2 == 1) && not (n % 2 == 1)) ≡ (n % 4 == 2)
+flags-are n = by (n / 2 % 2 == 1) (n % 2 == 1) (n % 4 == 2) refl refl refl
+  where
+    by : (a b c : Bool) → (n / 2 % 2 == 1) ≡ a → (n % 2 == 1) ≡ b → (n % 4 == 2) ≡ c → (a && not b) ≡ c
+    by true true true x y z = (let one : n % 2 ≡ 1 = grind (arith, nat_tests) in let two : n % 4 ≡ 2 = grind (arith, nat_tests) in absurd (omega arith))
+    by true true false x y z = refl
+    by true false true x y z = refl
+    by true false false x y z =
+        let one : n / 2 % 2 ≡ 1 = grind (arith, nat_tests) in
+        let none : n % 2 ≡ 0 = even n y in
+        let two : n % 4 ≢ 2 = grind (arith, nat_tests) in absurd (two (omega arith))
+    by false b true x y z = (let no-two : n / 2 % 2 ≢ 1 = grind (arith, nat_tests) in let two : n % 4 ≡ 2 = grind (arith, nat_tests) in absurd (no-two (omega arith)))
+    by false b false x y z = refl
 
-goes : (mtu count channel : ℕ) (p : Packet) (ps : List Packet) (b : List ℕ) (bs : List (List ℕ)) → p.channel ≡ channel
-    → ((n : ℕ) (ds : List (List ℕ)) → FollowsCarried (carried_from mtu n (of_channel mtu channel ps)) ds → Follows ps ds)
-    → (t : Bool) → (p.channel == channel && not (is_unsequenced mtu (record { flags = p.flags; body = p.body }))) ≡ t
-    → FollowsCarried (carried_from mtu count (cond t ((record { flags = p.flags; body = p.body }) ∷ of_channel mtu channel ps) (of_channel mtu channel ps))) (b ∷ bs) → Goes p ps b bs
-goes mtu count channel p ps b bs same more true e (inl here) = inl (here.0, more (cond (goes_reliable mtu count (record { flags = p.flags; body = p.body })) 0 (count + 1)) bs here.1)
-goes mtu count channel p ps b bs same more true e (inr skip) =
-    inr (unflagged mtu count (record { flags = p.flags; body = p.body }) skip.0, more (cond (goes_reliable mtu count (record { flags = p.flags; body = p.body })) 0 (count + 1)) (b ∷ bs) skip.1)
-goes mtu count channel p ps b bs same more false e rest = inr (left-out mtu channel p same e, more count (b ∷ bs) rest)
+fits-are : (a b : ℕ) → not (nat_lt a b) ≡ nat_le b a
+fits-are a b = by (nat_lt a b) (nat_le b a) refl refl
+  where
+    by : (x y : Bool) → nat_lt a b ≡ x → nat_le b a ≡ y → not x ≡ y
+    by true true e f = (let above : a < b = grind (arith, nat_tests) in let below : b ≤ a = grind (arith, nat_tests) in absurd (omega arith))
+    by true false e f = refl
+    by false true e f = refl
+    by false false e f = (let below : b ≤ a = grind (arith, nat_tests) in let above : a < b = grind (arith, nat_tests) in absurd (omega arith))
 
-follows : (mtu count channel : ℕ) (ps : List Packet) (bs : List (List ℕ)) → AreOn channel ps → FollowsCarried (carried_from mtu count (of_channel mtu channel ps)) bs → Follows ps bs
-follows mtu count channel ps [] all h = tt
-follows mtu count channel [] (b ∷ bs) all h = absurd h
-follows mtu count channel (p ∷ ps) (b ∷ bs) all h =
-    goes mtu count channel p ps b bs (all p (inl refl)) (λ n ds k. follows mtu n channel ps ds (λ q has. all q (inr has)) k) (p.channel == channel && not (is_unsequenced mtu (record { flags = p.flags; body = p.body }))) refl h
+each-is : (a b c d e : Bool) → (a && not b) ≡ d → not c ≡ e → (a && not b && not c) ≡ (d && e)
+each-is true true c d e x y = ap (λ z. z && e) x
+each-is true false c d e x y = (λ i. x i && y i)
+each-is false b c d e x y = ap (λ z. z && e) x
+
+goes-are : (mtu : ℕ) (p : Packet) → is_unsequenced mtu (content p) ≡ goes_unsequenced (piece_length mtu) p
+goes-are mtu p = each-is (is_flagged_unsequenced (content p)) (p.flags % 2 == 1) (is_long mtu (content p)) (p.flags % 4 == 2) (nat_le (length p.body) (piece_length mtu))
+    (flags-are p.flags) (fits-are (piece_length mtu) (length p.body))
+
+-- what goes in order is what the outbox sends in sequence
+in-order-are : (mtu channel : ℕ) (ps : List Packet) → AreOn channel ps → of_channel mtu channel ps ≡ map content (in_order (piece_length mtu) ps)
+in-order-are mtu channel [] all = refl
+in-order-are mtu channel (p ∷ ps) all =
+    by (p.channel == channel && not (is_unsequenced mtu (content p))) (not (goes_unsequenced (piece_length mtu) p)) same (in-order-are mtu channel ps (λ q has. all q (inr has)))
+  where
+    same : (p.channel == channel && not (is_unsequenced mtu (content p))) ≡ not (goes_unsequenced (piece_length mtu) p)
+    same =
+        let on : p.channel ≡ channel = all p (inl refl) in
+        let here : (p.channel == channel) ≡ true = grind (arith, nat_tests) in
+        ap (λ b. b && not (is_unsequenced mtu (content p))) here ∙ ap not (goes-are mtu p)
+
+    by : (t u : Bool) → t ≡ u → of_channel mtu channel ps ≡ map content (in_order (piece_length mtu) ps)
+        → cond t (content p ∷ of_channel mtu channel ps) (of_channel mtu channel ps) ≡ map content (cond u (p ∷ in_order (piece_length mtu) ps) (in_order (piece_length mtu) ps))
+    by true true e rest = ap (λ (l : List command_choice.Packet). content p ∷ l) rest
+    by true false e rest = absurd (let y : true ≡ false = e in cc)
+    by false true e rest = absurd (let y : false ≡ true = e in cc)
+    by false false e rest = rest
+
+follows : (mtu count : ℕ) (ps : List Packet) (bs : List (List ℕ)) → FollowsCarried (carried_from mtu count (map content ps)) bs → Follows ps bs
+follows mtu count ps [] h = tt
+follows mtu count [] (b ∷ bs) h = absurd h
+follows mtu count (p ∷ ps) (b ∷ bs) (inl here) = inl (here.0, follows mtu (cond (goes_reliable mtu count (content p)) 0 (count + 1)) ps bs here.1)
+follows mtu count (p ∷ ps) (b ∷ bs) (inr skip) = inr (unflagged mtu count (content p) skip.0, follows mtu (cond (goes_reliable mtu count (content p)) 0 (count + 1)) ps (b ∷ bs) skip.1)
 
 came-is : (channel : ℕ) (es : List Event) → bodies_of (in_sequence channel (received es)) ≡ came channel es
 came-is channel [] = refl
@@ -97,11 +123,37 @@ came-is channel (events.Disconnect p info ∷ es) = came-is channel es
 came-is channel (events.Refused seat number why ∷ es) = came-is channel es
 
 -- what follows, of the lists that are the transcript's
-order : (channel : ℕ) (from to : Option HostEnd) (sent : List Packet) (es : List Event) → submitted_at channel from ≡ sent → taken_at channel to ≡ on_channel channel (received es) → kept.IsInOrder from to channel → Follows sent (came channel es)
+order : (channel : ℕ) (from to : Option HostEnd) (sent : List Packet) (es : List Event) → submitted_at channel from ≡ sent → taken_at channel to ≡ on_channel channel (received es) → kept.IsInOrder from to channel
+    → Follows (in_order (piece_length (mtu_at from)) sent) (came channel es)
 order channel from to sent es a b k =
     let got : bodies_of (in_sequence channel (taken_at channel to)) ≡ came channel es = ap (λ (l : List Packet). bodies_of (in_sequence channel l)) b ∙ ap bodies_of (same-come channel (received es)) ∙ came-is channel es in
-    let f : Follows (submitted_at channel from) (bodies_of (in_sequence channel (taken_at channel to))) = follows (mtu_at from) 0 channel (submitted_at channel from) (bodies_of (in_sequence channel (taken_at channel to))) k.submitted k.follows in
-    subst (λ (l : List (List ℕ)). Follows sent l) got (subst (λ (l : List Packet). Follows l (bodies_of (in_sequence channel (taken_at channel to)))) a f)
+    let f : Follows (in_order (piece_length (mtu_at from)) (submitted_at channel from)) (bodies_of (in_sequence channel (taken_at channel to))) =
+    follows (mtu_at from) 0 (in_order (piece_length (mtu_at from)) (submitted_at channel from)) (bodies_of (in_sequence channel (taken_at channel to)))
+    (subst (λ (l : List command_choice.Packet). FollowsCarried (carried_from (mtu_at from) 0 l) (bodies_of (in_sequence channel (taken_at channel to)))) (in-order-are (mtu_at from) channel (submitted_at channel from) k.submitted) k.follows) in
+    subst (λ (l : List (List ℕ)). Follows (in_order (piece_length (mtu_at from)) sent) l) got
+    (subst (λ (l : List Packet). Follows (in_order (piece_length (mtu_at from)) l) (bodies_of (in_sequence channel (taken_at channel to)))) a f)
+
+-- what follows those that go in order follows all
+skipped : (room : ℕ) (p : Packet) → goes_unsequenced room p ≡ true → p.flags % 2 ≡ 0
+skipped room p h = (let two : p.flags % 4 ≡ 2 = grind (arith, nat_tests) in omega arith)
+  where
+    first : (a b : Bool) → (a && b) ≡ true → a ≡ true
+    first true b e = refl
+    first false b e = e
+
+    flagged-so : (p.flags % 4 == 2) ≡ true
+    flagged-so = first (p.flags % 4 == 2) (nat_le (length p.body) room) h
+
+pub all-follow : (room : ℕ) (ps : List Packet) (bs : List (List ℕ)) → Follows (in_order room ps) bs → Follows ps bs
+all-follow room ps [] h = tt
+all-follow room [] (b ∷ bs) h = absurd h
+all-follow room (p ∷ ps) (b ∷ bs) h = by (goes_unsequenced room p) refl (λ cs k. all-follow room ps cs k) h
+  where
+    by : (t : Bool) → goes_unsequenced room p ≡ t → ((cs : List (List ℕ)) → Follows (in_order room ps) cs → Follows ps cs)
+        → Follows (cond (not t) (p ∷ in_order room ps) (in_order room ps)) (b ∷ bs) → Follows (p ∷ ps) (b ∷ bs)
+    by true e rest k = inr (skipped room p e, rest (b ∷ bs) k)
+    by false e rest (inl same) = inl (same.0, rest bs same.1)
+    by false e rest (inr skip) = inr (skip.0, rest (b ∷ bs) skip.1)
 
 -- ---- packets without order
 
@@ -137,12 +189,14 @@ received-has (events.Refused seat number why ∷ es) (suc k) p q h = received-ha
 
 -- what was submitted, of the lists that are the transcript's
 were-submitted : (channel : ℕ) (from to : Option HostEnd) (sent : List Packet) (es : List Event) → submitted_at channel from ≡ sent → taken_at channel to ≡ on_channel channel (received es)
-    → kept.WereSubmitted from to channel → WereSubmitted sent channel es
+    → kept.WereSubmitted from to channel → WereSubmitted (unsequenced (piece_length (mtu_at from)) sent) channel es
 were-submitted channel from to sent es a b w k p q at on flags =
     let test : (q.channel == channel) ≡ true = grind (arith, nat_tests) in
     let has : Has (taken_at channel to) q = subst (λ (l : List Packet). Has l q) (sym b) (Has-filter (λ (z : Packet). z.channel == channel) (received es) q (received-has es k p q at) test) in
     let s = w q has flags in
-    let g = get-of sent s.0 (subst (λ (l : List Packet). Has l s.0) a s.1) in
+    let goes : goes_unsequenced (piece_length (mtu_at from)) s.0 ≡ true = sym (goes-are (mtu_at from) s.0) ∙ s.2.unsequenced in
+    let g = get-of (unsequenced (piece_length (mtu_at from)) sent) s.0
+    (Has-filter (goes_unsequenced (piece_length (mtu_at from))) sent s.0 (subst (λ (l : List Packet). Has l s.0) a s.1) goes) in
     (g.0, s.0, g.1, s.2.body, flagged (mtu_at from) (record { flags = s.0.flags; body = s.0.body }) s.2.unsequenced)
 
 -- ---- life
@@ -196,8 +250,15 @@ abbrev pub called : Option HostEnd → Option PeerRef
 called None = None
 called (Some e) = Some e.name
 
+is-room : (mtu : ℕ) → IsRoom (piece_length mtu)
+is-room mtu = record { least = at-least mtu; most = at-most mtu }
+
 pub kept-by : (client server : User) (e : HostEnd) (o : Option HostEnd) → IsEnd client e → ((t : HostEnd) → o ≡ Some t → IsEnd server t) → HasHeadlineBetween (Some e) o → IsInOrder client server e.name (called o)
 kept-by client server e None one two k = record {
+  room_forth = piece_length e.mtu;
+  room_back = piece_length 0;
+  is_room_forth = is-room e.mtu;
+  is_room_back = is-room 0;
   forth = λ channel low. tt;
   back = λ channel low. order channel None (Some e) [] (client.taken e.name) refl (one.taken_is channel low) (k.back channel);
   unsequenced_forth = λ channel low n p q at on flags. absurd (let y : ◌≡◌ {A = Option Event} None (Some (events.Receive p q)) = at in cc);
@@ -208,6 +269,10 @@ kept-by client server e None one two k = record {
 kept-by client server e (Some t) one two k =
     let far : IsEnd server t = two t refl in
     record {
+      room_forth = piece_length e.mtu;
+      room_back = piece_length t.mtu;
+      is_room_forth = is-room e.mtu;
+      is_room_back = is-room t.mtu;
       forth = λ channel low. order channel (Some e) (Some t) (client.submitted e.name channel) (server.taken t.name) (one.submitted_is channel low) (far.taken_is channel low) (k.forth channel);
       back = λ channel low. order channel (Some t) (Some e) (server.submitted t.name channel) (client.taken e.name) (far.submitted_is channel low) (one.taken_is channel low) (k.back channel);
       unsequenced_forth = λ channel low. were-submitted channel (Some e) (Some t) (client.submitted e.name channel) (server.taken t.name) (one.submitted_is channel low) (far.taken_is channel low) (k.unsequenced_forth channel);
@@ -292,6 +357,14 @@ pub page : (is_host : Addr → Bool) (server : Site) (su : User) (client : ℕ �
     → IsHeadline su cu asked
 page is_host server su client cu asked ks kc begun below none own = (named-page is_host server su client cu asked ks kc begun below none own).0
 
+-- ---- what follows those that go in order follows all that was submitted
+
+pub forth-follows : (client server : User) (there : PeerRef) (here : Option PeerRef) → IsInOrder client server there here → (channel : ℕ) → channel < 256 → Follows (client.submitted there channel) (came channel (taken_if server here))
+forth-follows client server there here k channel low = all-follow k.room_forth (client.submitted there channel) (came channel (taken_if server here)) (k.forth channel low)
+
+pub back-follows : (client server : User) (there : PeerRef) (here : Option PeerRef) → IsInOrder client server there here → (channel : ℕ) → channel < 256 → Follows (submitted_if server here channel) (came channel (client.taken there))
+back-follows client server there here k channel low = all-follow k.room_back (submitted_if server here channel) (came channel (client.taken there)) (k.back channel low)
+
 -- ---- users of whom less is known
 
 pub longer : (ps qs : List Packet) (bs : List (List ℕ)) → Follows ps bs → Follows (ps ++ qs) bs
@@ -337,15 +410,21 @@ life-first (events.Disconnect p info ∷ es) fs h = none-first es fs h
 life-first (events.Refused seat number why ∷ es) fs h = absurd h
 
 -- order between users of whom less is known
-order-behind : (channel : ℕ) (ps qs rest : List Packet) (es fs more : List Event) → qs ≡ ps ++ rest → es ≡ fs ++ more → Follows ps (came channel es) → Follows qs (came channel fs)
-order-behind channel ps qs rest es fs more a b h =
-    subst (λ (l : List Packet). Follows l (came channel fs)) (sym a)
-    (longer ps rest (came channel fs) (shorter ps (came channel fs) (came channel more) (subst (λ (l : List (List ℕ)). Follows ps l) (ap (came channel) b ∙ came-append channel fs more) h)))
+order-behind : (room channel : ℕ) (ps qs rest : List Packet) (es fs more : List Event) → qs ≡ ps ++ rest → es ≡ fs ++ more → Follows (in_order room ps) (came channel es) → Follows (in_order room qs) (came channel fs)
+order-behind room channel ps qs rest es fs more a b h =
+    subst (λ (l : List Packet). Follows l (came channel fs)) (sym (ap (in_order room) a ∙ filter-append (λ (p : Packet). not (goes_unsequenced room p)) ps rest))
+    (longer (in_order room ps) (in_order room rest) (came channel fs) (shorter (in_order room ps) (came channel fs) (came channel more)
+    (subst (λ (l : List (List ℕ)). Follows (in_order room ps) l) (ap (came channel) b ∙ came-append channel fs more) h)))
 
-submitted-behind : (channel : ℕ) (ps qs rest : List Packet) (es fs more : List Event) → qs ≡ ps ++ rest → es ≡ fs ++ more → WereSubmitted ps channel es → WereSubmitted qs channel fs
-submitted-behind channel ps qs rest es fs more a b w k p q at on flags =
-    let s = w k p q (ap (λ (l : List Event). slice_get l k) b ∙ get-front fs more k (events.Receive p q) at) on flags in
-    (s.0, s.1, ap (λ (l : List Packet). slice_get l s.0) a ∙ get-front ps rest s.0 s.1 s.2, s.3, s.4)
+submitted-behind : (room channel : ℕ) (ps qs rest : List Packet) (es fs more : List Event) → qs ≡ ps ++ rest → es ≡ fs ++ more → WereSubmitted (unsequenced room ps) channel es → WereSubmitted (unsequenced room qs) channel fs
+submitted-behind room channel ps qs rest es fs more a b w k p q at on flags =
+    let s = w k p q (ap (λ (l : List Event). slice_get l k) b ∙ get-front fs more k (events.Receive p q) at) on flags in (
+      s.0,
+      s.1,
+      ap (λ (l : List Packet). slice_get l s.0) (ap (unsequenced room) a ∙ filter-append (goes_unsequenced room) ps rest) ∙ get-front (unsequenced room ps) (unsequenced room rest) s.0 s.1 s.2,
+      s.3,
+      s.4,
+    )
 
 life-behind : (es fs more : List Event) → es ≡ fs ++ more → IsOneLife es → IsOneLife fs
 life-behind es fs more b h = life-first fs more (subst IsOneLife b h)
@@ -360,14 +439,18 @@ fewer-if u v (Some p) k = k.fewer p
 
 in-order-behind : (client server c s : User) (there : PeerRef) (here : Option PeerRef) → IsBehind client c → IsBehind server s → IsInOrder client server there here → IsInOrder c s there here
 in-order-behind client server c s there here kc ks h = record {
+  room_forth = h.room_forth;
+  room_back = h.room_back;
+  is_room_forth = h.is_room_forth;
+  is_room_back = h.is_room_back;
   forth = λ channel low. (let a = kc.more there channel in let b = fewer-if server s here ks in
-      order-behind channel (client.submitted there channel) (c.submitted there channel) a.0 (taken_if server here) (taken_if s here) b.0 a.1 b.1 (h.forth channel low));
+      order-behind h.room_forth channel (client.submitted there channel) (c.submitted there channel) a.0 (taken_if server here) (taken_if s here) b.0 a.1 b.1 (h.forth channel low));
   back = λ channel low. (let a = more-if server s here channel ks in let b = kc.fewer there in
-      order-behind channel (submitted_if server here channel) (submitted_if s here channel) a.0 (client.taken there) (c.taken there) b.0 a.1 b.1 (h.back channel low));
+      order-behind h.room_back channel (submitted_if server here channel) (submitted_if s here channel) a.0 (client.taken there) (c.taken there) b.0 a.1 b.1 (h.back channel low));
   unsequenced_forth = λ channel low. (let a = kc.more there channel in let b = fewer-if server s here ks in
-      submitted-behind channel (client.submitted there channel) (c.submitted there channel) a.0 (taken_if server here) (taken_if s here) b.0 a.1 b.1 (h.unsequenced_forth channel low));
+      submitted-behind h.room_forth channel (client.submitted there channel) (c.submitted there channel) a.0 (taken_if server here) (taken_if s here) b.0 a.1 b.1 (h.unsequenced_forth channel low));
   unsequenced_back = λ channel low. (let a = more-if server s here channel ks in let b = kc.fewer there in
-      submitted-behind channel (submitted_if server here channel) (submitted_if s here channel) a.0 (client.taken there) (c.taken there) b.0 a.1 b.1 (h.unsequenced_back channel low));
+      submitted-behind h.room_back channel (submitted_if server here channel) (submitted_if s here channel) a.0 (client.taken there) (c.taken there) b.0 a.1 b.1 (h.unsequenced_back channel low));
   client_life = (let b = kc.fewer there in life-behind (client.taken there) (c.taken there) b.0 b.1 h.client_life);
   server_life = (let b = fewer-if server s here ks in life-behind (taken_if server here) (taken_if s here) b.0 b.1 h.server_life);
 }

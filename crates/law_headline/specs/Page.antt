@@ -1,5 +1,5 @@
 -- The headline, said of what users submitted and took, and of nothing else.
-use Rattle.std.specs.Prelude.{◌≡◌, ◌≢◌, ◌<◌, ℕ, ◌%◌, ◌==◌, ◌&&◌, not, ◌⊎◌, Bool, false, if◌then◌else◌, List, [], ◌∷◌, ◌++◌, length, Option, Some, None, slice_get}
+use Rattle.std.specs.Prelude.{◌≡◌, ◌≢◌, ◌<◌, ◌≤◌, ℕ, ◌%◌, ◌==◌, ◌&&◌, nat_le, not, ◌⊎◌, Bool, false, if◌then◌else◌, List, [], ◌∷◌, ◌++◌, filter, length, Option, Some, None, slice_get}
 use Rattle.enet_codec.specs.declared.event.Event.{Event}
 use Rattle.enet_codec.specs.declared.event.Event.TheVariants as events
 use Rattle.enet_codec.specs.declared.event.PeerRef.{PeerRef}
@@ -11,6 +11,19 @@ abbrev pub Follows : List Packet → List (List ℕ) → Type 0
 Follows ps [] = Unit {0}
 Follows [] (b ∷ bs) = ⊥
 Follows (p ∷ ps) (b ∷ bs) = ((p.body ≡ b) × Follows ps bs) ⊎ ((p.flags % 2 ≡ 0) × Follows ps (b ∷ bs))
+
+-- A packet goes unsequenced if it is flagged UNSEQUENCED (2), not RELIABLE (1), and fits one command, where that has room for so many bytes. Each
+-- other packet goes in order
+abbrev pub goes_unsequenced : ℕ → Packet → Bool
+goes_unsequenced room p = p.flags % 4 == 2 && nat_le (length p.body) room
+
+-- those that go in order
+abbrev pub in_order : ℕ → List Packet → List Packet
+in_order room ps = filter (λ p. not (goes_unsequenced room p)) ps
+
+-- and the others
+abbrev pub unsequenced : ℕ → List Packet → List Packet
+unsequenced room ps = filter (goes_unsequenced room) ps
 
 -- whether an event is of the peer of this name
 abbrev pub is_of : PeerRef → Event → Bool
@@ -59,12 +72,22 @@ abbrev pub taken_if : User → Option PeerRef → List Event
 taken_if u None = []
 taken_if u (Some p) = u.taken p
 
--- a connection whose peer the client calls `there` and the server, if it has one, `here`
+-- so many bytes of a packet a command may have room for
+pub record IsRoom (room : ℕ) : Type 0 where
+  pub least : 512 ≤ room
+  pub most : room ≤ 4068
+
+-- A connection whose peer the client calls `there` and the server, if it has one, `here`. Each packet goes one way: what was taken in order follows
+-- those that go in order, and what was taken unsequenced is of those that go so
 pub record IsInOrder (client server : User) (there : PeerRef) (here : Option PeerRef) : Type 0 where
-  pub forth : (channel : ℕ) → channel < 256 → Follows (client.submitted there channel) (came channel (taken_if server here))
-  pub back : (channel : ℕ) → channel < 256 → Follows (submitted_if server here channel) (came channel (client.taken there))
-  pub unsequenced_forth : (channel : ℕ) → channel < 256 → WereSubmitted (client.submitted there channel) channel (taken_if server here)
-  pub unsequenced_back : (channel : ℕ) → channel < 256 → WereSubmitted (submitted_if server here channel) channel (client.taken there)
+  pub room_forth : ℕ
+  pub room_back : ℕ
+  pub is_room_forth : IsRoom room_forth
+  pub is_room_back : IsRoom room_back
+  pub forth : (channel : ℕ) → channel < 256 → Follows (in_order room_forth (client.submitted there channel)) (came channel (taken_if server here))
+  pub back : (channel : ℕ) → channel < 256 → Follows (in_order room_back (submitted_if server here channel)) (came channel (client.taken there))
+  pub unsequenced_forth : (channel : ℕ) → channel < 256 → WereSubmitted (unsequenced room_forth (client.submitted there channel)) channel (taken_if server here)
+  pub unsequenced_back : (channel : ℕ) → channel < 256 → WereSubmitted (unsequenced room_back (submitted_if server here channel)) channel (client.taken there)
   pub client_life : IsOneLife (client.taken there)
   pub server_life : IsOneLife (taken_if server here)
 

@@ -19,7 +19,7 @@ use Rattle.enet_service.specs.Queues.{given, accepted}
 use Rattle.enet_turn.specs.Run.{all_gave, all_puts}
 use Rattle.law_service.specs.Told.{packet_in, held_in, told}
 use Rattle.law_headline.specs.Page.{User, IsHeadline, Follows, came, AreLast, IsOneLife, submitted_if, taken_if, is_of}
-use Rattle.law_headline.proofs.Page.{longer, shorter, came-append, life-first}
+use Rattle.law_headline.proofs.Page.{longer, shorter, came-append, life-first, forth-follows}
 use Rattle.law_service.specs.EndToEnd.{rounds_of, Running, user_of}
 use Rattle.law_relay.specs.Relay.{Relaying, hears, heard, as_chat, chat_for, IsPart, BetweenClients}
 use Rattle.law_relay.specs.Pairs.{body_of, FollowsFrom, IsFront, TakesChat, BetweenPairs}
@@ -373,7 +373,8 @@ each-other hosts server l cu asked h x j there q is here channel low chat front 
 
     follows : Follows ((cu i).submitted away channel) (came channel (filter (is_of p) (l.expanded ++ t.more)))
     follows = subst (λ (es : List Event). Follows ((cu i).submitted away channel) (came channel (filter (is_of p) es))) t.all
-        (subst (λ (o : Option PeerRef). Follows ((cu i).submitted away channel) (came channel (taken_if (user_of hosts server) o))) here' ((h.each y i away is').forth channel low))
+        (subst (λ (o : Option PeerRef). Follows ((cu i).submitted away channel) (came channel (taken_if (user_of hosts server) o))) here'
+        (forth-follows (cu i) (user_of hosts server) away (h.here y) (h.each y i away is') channel low))
 
 -- what none is of, no part is of
 none-tail : (b : Bool) (y : Event) (l : List Event) → cond b (y ∷ l) l ≡ [] → (b ≡ false) × (l ≡ [])

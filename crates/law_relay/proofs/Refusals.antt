@@ -16,6 +16,7 @@ use Rattle.law_service.specs.Told.{told, packet_in, Answered, refusal, is_refuse
 use Rattle.law_service.specs.Law.{noted, setting, begun}
 use Rattle.law_service.proofs.Telling.{Ledger, nothing-sorted, setting-silent, sent-behind, told-refusals, spans-ledger}
 use Rattle.law_headline.specs.Page.{User, IsHeadline, Follows, came, submitted_if, is_of}
+use Rattle.law_headline.proofs.Page.{back-follows}
 use Rattle.law_service.specs.EndToEnd.{rounds_of, Running, user_of}
 use Rattle.law_relay.specs.Relay.{Relaying, heard, as_chat, chat_for}
 use Rattle.law_relay.specs.Pairs.{body_of, FollowsFrom, IsFront}
@@ -65,7 +66,8 @@ pub between-clients-unless : BetweenClientsUnless
 between-clients-unless hosts server l a cu asked h x j there q is here channel low = record {
   asked_is = ap (λ (ps : List Packet). ps ++ flat_map (packet_in q channel) l.waits) (packets-are q channel a.answered ∙ ap (λ xs. flat_map (packet_in q channel) (orders xs)) (sym a.given_is)) ∙ relay-rule server l q channel low;
   follows = unless q channel a.answered (came channel ((cu j).taken there)) (subst (λ (ps : List Packet). Follows ps (came channel ((cu j).taken there))) (a.accepted_is q channel)
-      (subst (λ (o : Option PeerRef). Follows (submitted_if (user_of hosts server) o channel) (came channel ((cu j).taken there))) here ((h.each x j there is).back channel (omega arith))));
+      (subst (λ (o : Option PeerRef). Follows (submitted_if (user_of hosts server) o channel) (came channel ((cu j).taken there))) here
+      (back-follows (cu j) (user_of hosts server) there (h.here x) (h.each x j there is) channel (omega arith))));
 }
 
 -- ---- pairs

@@ -19,7 +19,7 @@ use Rattle.enet_service.specs.Queues.{given}
 use Rattle.enet_turn.specs.Run.{all_gave}
 use Rattle.law_service.specs.Told.{packet_in}
 use Rattle.law_headline.specs.Page.{User, IsHeadline, Follows, came, submitted_if}
-use Rattle.law_headline.proofs.Page.{longer}
+use Rattle.law_headline.proofs.Page.{longer, back-follows}
 use Rattle.law_service.specs.EndToEnd.{rounds_of, Running, user_of}
 use Rattle.law_relay.specs.Relay.{AreEnds, AreMerged, Relaying, hears, heard, chat_flags, as_chat, chat_for, RelayRule, IsPart, BetweenClients}
 
@@ -213,7 +213,8 @@ heard-part q channel peers (e ∷ es) = by e (heard-part q channel (noted peers 
 pub between-clients : BetweenClients
 between-clients hosts server l cu asked h x j there q is here channel low none =
     let back : Follows ((user_of hosts server).submitted q channel) (came channel ((cu j).taken there)) =
-    subst (λ (o : Option PeerRef). Follows (submitted_if (user_of hosts server) o channel) (came channel ((cu j).taken there))) here ((h.each x j there is).back channel (omega arith)) in
+    subst (λ (o : Option PeerRef). Follows (submitted_if (user_of hosts server) o channel) (came channel ((cu j).taken there))) here
+    (back-follows (cu j) (user_of hosts server) there (h.here x) (h.each x j there is) channel (omega arith)) in
     let asked-for : chat_for q channel l.expanded ≡ (user_of hosts server).submitted q channel ++ flat_map (packet_in q channel) l.waits =
     sym (relay-rule server l q channel low) ∙ ap (λ (ps : List Packet). ps ++ flat_map (packet_in q channel) l.waits) (sym none) in (
       subst (λ (ps : List Packet). Follows ps (came channel ((cu j).taken there))) (sym asked-for) (longer ((user_of hosts server).submitted q channel) (flat_map (packet_in q channel) l.waits) (came channel ((cu j).taken there)) back),

@@ -1,4 +1,4 @@
-use Rattle.enet_fleet.proofs.Refuting.{tied, alone, lied, swapped, lent, too-early, led-astray, mirrored, slipped, crossed, taken-twice}
+use Rattle.enet_fleet.proofs.Refuting.{tied, alone, lied, swapped, lent, too-early, led-astray, mirrored, slipped, crossed, doubled, taken-twice}
 use Rattle.enet_fleet.proofs.false_lists_are_refuted.Goals as goal
 
 pub returns-clause-named : goal.returns-clause-named
@@ -30,6 +30,9 @@ returns-clause-slip c = slipped
 
 pub returns-clause-cross : goal.returns-clause-cross
 returns-clause-cross c = crossed
+
+pub returns-clause-double : goal.returns-clause-double
+returns-clause-double c = doubled
 
 pub returns-clause-twice : goal.returns-clause-twice
 returns-clause-twice c = taken-twice
