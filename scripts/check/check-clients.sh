@@ -261,9 +261,9 @@ turns_over() {
     trap end_attempt EXIT
     trap 'exit 1' TERM
     local name=turns-over-$2
-    receive_guests "$name" "$1" told --turns 5000 --threads "$2"
+    receive_guests "$name" "$1" told --turns 3000 --threads "$2"
     guests_fared "$name" 0 '' > "$room/$name.first" || return
-    server_ended "$name" 0 'served 5000 received ' > "$room/$name.first" && : > "$room/$name.passed"
+    server_ended "$name" 0 'served 3000 received ' > "$room/$name.first" && : > "$room/$name.passed"
 }
 
 # Receptions of the socket of a server of $2 threads fail.
