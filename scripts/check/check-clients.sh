@@ -242,15 +242,17 @@ server_ended() {
 no_memory() {
     trap end_attempt EXIT
     trap 'exit 1' TERM
-    local name=no-memory-$2
+    local name=no-memory-$2 i
     if [ "$2" = 2 ]; then
         receive_guests "$name" "$1" told --forever --threads 2
     else
         FAULTS_ANYWHERE=1 receive_guests "$name" "$1" told --forever --threads 1
     fi
-    for _ in {1..1200}; do
-        kill -USR1 "$relay" 2> /dev/null && ! grep -q '^E1' "$room/$name.err" || break
-        sleep 0.05
+    # One or two do mostly. A server that ends for want of memory is left alone: it still has to tell its guests.
+    for i in {1..1800}; do
+        ! grep -q '^E1' "$room/$name.err" || break
+        [ $((i % 30)) -ne 1 ] || kill -USR1 "$relay" 2> /dev/null || break
+        sleep 0.1
     done
     guests_fared "$name" 0 'E1 Memory' > "$room/$name.first" || return
     server_ended "$name" 1 '' > "$room/$name.first" && : > "$room/$name.passed"
