@@ -27,13 +27,30 @@ pub fn expected(alloc: Global, made: Made, line: &[u8]) -> Result<String, AllocE
             "no space before a comment that has its line to itself",
         );
     }
-    if line.contains(&b'\r') || line.contains(&b'\t') {
+    if has_other_space(first, rest) {
         return String::from_str(
             alloc,
             "spaces between words, and a line feed alone behind them: no tab, no carriage return",
         );
     }
     by_form(alloc, made, first, rest)
+}
+
+// Whether a word, if it isn't text in quotes, has a tab or a carriage return. A comment may have both.
+fn has_other_space(first: &[u8], rest: &[u8]) -> bool {
+    let mut given = first;
+    let mut others = rest;
+    for _ in 0..MOST_WORDS {
+        if !given.starts_with(b"\"") && (given.contains(&b'\r') || given.contains(&b'\t')) {
+            return true;
+        }
+        let Some((next, behind)) = word(others) else {
+            return false;
+        };
+        given = next;
+        others = behind;
+    }
+    false
 }
 
 // By the form that the first word names.

@@ -126,6 +126,10 @@ fn push_change(
 ) -> Result<(), AllocError> {
     match (was, is) {
         (Some(was), Some(is)) if was == is => Ok(()),
+        (Some(was), Some(is)) if was.name != is.name => {
+            push_line(text, gone_line(alloc, host, was.name)?.as_bytes())?;
+            push_line(text, peer_line(alloc, host, &is)?.as_bytes())
+        }
         (_, Some(is)) => push_line(text, peer_line(alloc, host, &is)?.as_bytes()),
         (Some(was), None) => push_line(text, gone_line(alloc, host, was.name)?.as_bytes()),
         (None, None) => Ok(()),
