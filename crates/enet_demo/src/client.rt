@@ -70,7 +70,7 @@ where
 {
     let Guest { part, mut wire } = guest;
     let bell = wire.wire.bell()?;
-    wire.begin(rt, company.record);
+    wire.begin(rt, company.notebook);
     let Queues {
         orders,
         events,
@@ -87,7 +87,7 @@ where
     config.secret = part.plan.secret;
     let mut bound = BoundService::open(part.alloc, wire, config)?;
     let visit = run_client(rt, &mut bound, shared, ends, part, company);
-    bound.wire.hand_over(rt, company.record);
+    bound.wire.hand_over(rt, company.notebook);
     bound.close();
     visit
 }
@@ -116,7 +116,7 @@ fn run_client<R: Threads + Wait + Clock + Sync>(
         present,
         all,
         counts_itself,
-        record: _,
+        notebook: _,
     } = company;
     let sender = OrderSender::new(part.alloc, queue, ends.seat, bell);
     let receiver = EventReceiver::new(events, ends.taker);
@@ -145,7 +145,7 @@ fn run_client<R: Threads + Wait + Clock + Sync>(
                     present,
                     all,
                     counts_itself,
-                    record: None,
+                    notebook: None,
                 },
             )
         },

@@ -65,7 +65,7 @@ pub struct Demonstration {
 /// thread, a tenth of a second. So where the turns suffice, each client gets of a server that was started here the three packets of each
 /// other one, whichever connected first; so it does of a relay that was there, unless that takes over a tenth of a second to note a peer.
 /// Where the turns end early, it gets fewer; where one client has no connection, none chats. What the clients' wires sent and received is
-/// noted in `record`, if one is given, when they have ended.
+/// noted in `notebook`, if one is given, when they have ended.
 ///
 /// E8 where `clients` is out of its range; E14 where the server's port or one for a client can't be had, before anything is sent; then
 /// E14 where a wire fails, E1 for want of memory, E10 where the server's run is so long that its relay has submitted as many orders as it
@@ -74,7 +74,7 @@ pub struct Demonstration {
 pub fn demonstrate<R>(
     rt: &R,
     shown: Demonstration,
-    record: Option<&Record>,
+    notebook: Option<&Record>,
 ) -> Result<Vec<Visit>, Refusal>
 where
     R: Threads + Wait + Net + Clock + Sync + AllocGlobal,
@@ -86,7 +86,7 @@ where
         return Err(Refusal::BadConfig);
     }
     if shown.server.is_some() {
-        return visit_server(rt, shown, record);
+        return visit_server(rt, shown, notebook);
     }
     let settings = Settings {
         address: address(PORT),
@@ -108,7 +108,7 @@ where
         Err(unopened) => return Err(unopened.why),
     };
     let visits = match open_guests(rt, shown) {
-        Ok(guests) => run_all(rt, rt.alloc(), &mut server, guests, shown, record),
+        Ok(guests) => run_all(rt, rt.alloc(), &mut server, guests, shown, notebook),
         Err(why) => Err(why),
     };
     server.close();
@@ -119,7 +119,7 @@ where
 fn visit_server<R>(
     rt: &R,
     shown: Demonstration,
-    record: Option<&Record>,
+    notebook: Option<&Record>,
 ) -> Result<Vec<Visit>, Refusal>
 where
     R: Threads + Wait + Net + Clock + Sync + AllocGlobal,
@@ -129,7 +129,7 @@ where
 {
     let guests = open_guests(rt, shown)?;
     let present = AtomicUsize::new(0);
-    let outcomes = visit_all(rt, guests, shown, &present, record)?;
+    let outcomes = visit_all(rt, guests, shown, &present, notebook)?;
     first_fault_or_all(rt.alloc(), outcomes.as_slice())
 }
 
@@ -171,7 +171,7 @@ fn run_all<R: Threads + Wait + Clock + Sync>(
     server: &mut ChatServer,
     guests: Vec<Guest>,
     shown: Demonstration,
-    record: Option<&Record>,
+    notebook: Option<&Record>,
 ) -> Result<Vec<Visit>, Refusal>
     requires guests { AreGuests shown guests.items × (shown.clients ≤ 8) }
     requires capacity { queue_capacity_of server.old ≡ 1024 }
@@ -185,7 +185,7 @@ fn run_all<R: Threads + Wait + Clock + Sync>(
         move || -> Result<Vec<Result<Visit, Refusal>>, Refusal>
             requires { IsSync R.row × AreGuests shown guests.items × (shown.clients ≤ 8) }
             ensures { IfOk result (λ outcomes. AreOutcomes shown outcomes.items) × IfErr result (λ why. why ≡ Refusal.Memory) }
-        { visit_all(rt, guests, shown, &gauge.peers, record) },
+        { visit_all(rt, guests, shown, &gauge.peers, notebook) },
         move || -> Result<Report, Refusal>
             requires { IsSync R.row × (queue_capacity_of server.now ≡ 1024) }
             ensures { IfErr result EndsRun }
@@ -208,7 +208,7 @@ fn visit_all<R: Threads + Wait + Clock + Sync>(
     guests: Vec<Guest>,
     shown: Demonstration,
     present: &AtomicUsize,
-    record: Option<&Record>,
+    notebook: Option<&Record>,
 ) -> Result<Vec<Result<Visit, Refusal>>, Refusal>
     requires { AreGuests shown guests.items × (shown.clients ≤ 8) }
     ensures outcomes { IfOk result (λ outcomes. AreOutcomes shown outcomes.items) }
@@ -230,7 +230,7 @@ fn visit_all<R: Threads + Wait + Clock + Sync>(
                     present,
                     all,
                     counts_itself,
-                    record,
+                    notebook,
                 },
             )
         },

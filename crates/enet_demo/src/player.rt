@@ -35,7 +35,7 @@ pub(crate) struct Company<'a> {
     /// Each client counts itself; where it doesn't, the server counts its peers.
     pub(crate) counts_itself: bool,
     /// Where it notes what its wire sends and receives.
-    pub(crate) record: Option<&'a Record>,
+    pub(crate) notebook: Option<&'a Record>,
 }
 
 /// The game thread of a client: it connects, chats once, and counts what comes.
