@@ -65,7 +65,7 @@ pub struct Demonstration {
 /// thread, a tenth of a second. So where the turns suffice, each client gets of a server that was started here the three packets of each
 /// other one, whichever connected first; so it does of a relay that was there, unless that takes over a tenth of a second to note a peer.
 /// Where the turns end early, it gets fewer; where one client has no connection, none chats. What the clients' wires sent and received is
-/// noted in `notebook`, if one is given, when they have ended.
+/// noted in `notebook` when they have ended, unless it is unused.
 ///
 /// E8 where `clients` is out of its range; E14 where the server's port or one for a client can't be had, before anything is sent; then
 /// E14 where a wire fails, E1 for want of memory, E10 where the server's run is so long that its relay has submitted as many orders as it
@@ -74,7 +74,7 @@ pub struct Demonstration {
 pub fn demonstrate<R>(
     rt: &R,
     shown: Demonstration,
-    notebook: Option<&Record>,
+    notebook: &Record,
 ) -> Result<Vec<Visit>, Refusal>
 where
     R: Threads + Wait + Net + Clock + Sync + AllocGlobal,
@@ -116,11 +116,7 @@ where
 }
 
 // The clients of a server that is there.
-fn visit_server<R>(
-    rt: &R,
-    shown: Demonstration,
-    notebook: Option<&Record>,
-) -> Result<Vec<Visit>, Refusal>
+fn visit_server<R>(rt: &R, shown: Demonstration, notebook: &Record) -> Result<Vec<Visit>, Refusal>
 where
     R: Threads + Wait + Net + Clock + Sync + AllocGlobal,
     requires { shown.clients ≤ 8 }
@@ -171,7 +167,7 @@ fn run_all<R: Threads + Wait + Clock + Sync>(
     server: &mut ChatServer,
     guests: Vec<Guest>,
     shown: Demonstration,
-    notebook: Option<&Record>,
+    notebook: &Record,
 ) -> Result<Vec<Visit>, Refusal>
     requires guests { AreGuests shown guests.items × (shown.clients ≤ 8) }
     requires capacity { queue_capacity_of server.old ≡ 1024 }
@@ -208,7 +204,7 @@ fn visit_all<R: Threads + Wait + Clock + Sync>(
     guests: Vec<Guest>,
     shown: Demonstration,
     present: &AtomicUsize,
-    notebook: Option<&Record>,
+    notebook: &Record,
 ) -> Result<Vec<Result<Visit, Refusal>>, Refusal>
     requires { AreGuests shown guests.items × (shown.clients ≤ 8) }
     ensures outcomes { IfOk result (λ outcomes. AreOutcomes shown outcomes.items) }
@@ -230,7 +226,7 @@ fn visit_all<R: Threads + Wait + Clock + Sync>(
                     present,
                     all,
                     counts_itself,
-                    notebook,
+                    notebook: Some(notebook),
                 },
             )
         },

@@ -41,16 +41,28 @@ pub struct Record {
 }
 
 impl Record {
-    /// A record that begins now, with nothing in it.
+    /// A record that begins now, with nothing in it. It stays empty if the system doesn't tell the time.
     pub fn new<R: Clock + AllocGlobal>(rt: &R) -> Record {
-        let notes = Notes {
-            heard: Vec::new(rt.alloc()),
-            is_short: false,
-        };
         Record {
             begun: Instant::now(rt).ok(),
-            notes: Mutex::new(notes),
+            notes: Mutex::new(no_notes(rt.alloc())),
         }
+    }
+
+    /// One in which nothing is noted.
+    pub fn unused<R: AllocGlobal>(rt: &R) -> Record {
+        Record {
+            begun: None,
+            notes: Mutex::new(no_notes(rt.alloc())),
+        }
+    }
+}
+
+// Notes of nothing.
+fn no_notes(alloc: Global) -> Notes {
+    Notes {
+        heard: Vec::new(alloc),
+        is_short: false,
     }
 }
 
@@ -117,10 +129,7 @@ impl TappedWire {
                 client,
                 begun: None,
                 at: 0,
-                notes: Notes {
-                    heard: Vec::new(alloc),
-                    is_short: false,
-                },
+                notes: no_notes(alloc),
             },
         }
     }

@@ -35,14 +35,15 @@ where
         server: options.port.map(|port| Addr { ip: HERE, port }),
         secret: system_secret(),
     };
-    let Some(picture) = &options.picture else {
-        let visits = enet_demo::demonstrate(rt, shown, None)?;
-        return tell_visits(rt, options, visits.as_slice());
+    let notebook = match options.picture {
+        Some(_) => Record::new(rt),
+        None => Record::unused(rt),
     };
-    let record = Record::new(rt);
-    let visits = enet_demo::demonstrate(rt, shown, Some(&record))?;
+    let visits = enet_demo::demonstrate(rt, shown, &notebook)?;
     let in_time = tell_visits(rt, options, visits.as_slice())?;
-    draw_record(rt, options, picture.as_str(), &record)?;
+    if let Some(picture) = &options.picture {
+        draw_record(rt, options, picture.as_str(), &notebook)?;
+    }
     Ok(in_time)
 }
 
