@@ -5,19 +5,28 @@ ghost use Rattle.example_game.specs.Guessing.{IsAnswer};
 
 use crate::rule::{answer, secret_of};
 use bytes::Bytes;
+use crossbeam_queue::ArrayQueue;
 use enet_codec::{DisconnectMode, Event, Outward, PeerRef, RELIABLE, Refusal};
-use enet_service::{EventReceiver, OrderSender, Pumped, Signals};
+use enet_service::{EventReceiver, Note, OrderSender, Pumped, Report, Signals, Watch, WatchedHost};
 use enet_submit::{Broadcast, Order};
 use rand_core::utils::NextWord;
 use rand_pcg::Pcg32;
 use std::alloc::{AllocError, Global};
 use std::collections::VecDeque;
+use std::rt::Clock;
 use std::str;
 use std::sync::Wait;
 use std::sync::atomic::Ordering::SeqCst;
+use std::time::{Duration, Instant};
 
 /// What players are told where another one has won.
 const NEWS: &[u8] = b"somebody won";
+
+/// A player's share: so many guesses in a second are heard.
+const SHARE: u32 = 100;
+
+/// What a player is told that is parted from because it was too slow.
+const TOO_SLOW: u32 = 1;
 
 /// A client that is connected.
 #[derive(Drop)]
@@ -26,6 +35,25 @@ struct Player {
     secret: u32,
     guesses: u32,
     has_won: bool,
+    // How many guesses more are heard in this second.
+    left: u32,
+}
+
+/// Tells the game's thread which players lack a reliable packet, since so much waits for them.
+#[derive(Drop)]
+pub struct Slow<'a, R> {
+    pub rt: &'a R,
+    pub slow: &'a ArrayQueue<PeerRef>,
+}
+
+impl<R: Wait> Watch for Slow<'_, R> {
+    fn look(&mut self, host: &WatchedHost, _report: Report) {
+        for note in host.notes() {
+            if let Note::Lacks { met } = note {
+                let _ = self.slow.push(self.rt, met.peer);
+            }
+        }
+    }
 }
 
 /// A game, with its ends of the two queues.
@@ -37,6 +65,10 @@ pub struct Game<'a> {
     wins: u32,
     // What all are to be told, and found no room yet.
     news: VecDeque<Broadcast>,
+    // When the players' shares were last filled.
+    filled_at: Option<Instant>,
+    // Who is too slow.
+    slow: &'a ArrayQueue<PeerRef>,
     sender: OrderSender<'a>,
     receiver: EventReceiver<'a>,
 }
@@ -46,6 +78,7 @@ impl<'a> Game<'a> {
     pub fn new(
         alloc: Global,
         seed: u64,
+        slow: &'a ArrayQueue<PeerRef>,
         sender: OrderSender<'a>,
         receiver: EventReceiver<'a>,
     ) -> Game<'a> {
@@ -55,6 +88,8 @@ impl<'a> Game<'a> {
             players: Vec::new(alloc),
             wins: 0,
             news: VecDeque::new(alloc),
+            filled_at: None,
+            slow,
             sender,
             receiver,
         }
@@ -67,15 +102,27 @@ impl<'a> Game<'a> {
 
     /// Plays until so many winners have gone, or the service has ended and no event is left; the service's thread is told then. E1 for
     /// want of memory, E10 after 4,294,967,295 orders.
-    pub fn play<R: Wait>(&mut self, rt: &R, signals: &Signals, wins: u32) -> Result<(), Refusal> {
+    pub fn play<R: Wait + Clock>(
+        &mut self,
+        rt: &R,
+        signals: &Signals,
+        wins: u32,
+    ) -> Result<(), Refusal> {
         let played = self.play_on(rt, signals, wins);
         signals.leave();
         played
     }
 
-    fn play_on<R: Wait>(&mut self, rt: &R, signals: &Signals, wins: u32) -> Result<(), Refusal> {
+    fn play_on<R: Wait + Clock>(
+        &mut self,
+        rt: &R,
+        signals: &Signals,
+        wins: u32,
+    ) -> Result<(), Refusal> {
         for _ in rt.forever() {
             let over = signals.ended.load(SeqCst);
+            self.fill_shares(rt);
+            self.part_from_slow(rt)?;
             self.submit(rt)?;
             match self.receiver.take(rt) {
                 Some(numbered) => self.note(&numbered.event)?,
@@ -89,8 +136,34 @@ impl<'a> Game<'a> {
         unreachable!()
     }
 
-    // Hands the service what was asked for, and wakes it. What finds no room waits, and events are taken on: a thread that waited for room
-    // here could wait for ever, since the service takes no orders while it has no room for a refusal.
+    // Each second the players have their shares anew; always where the clock can't be read.
+    fn fill_shares<R: Clock>(&mut self, rt: &R) {
+        let now = Instant::now(rt).ok();
+        if let (Some(now), Some(filled_at)) = (now, self.filled_at) {
+            if now.saturating_duration_since(filled_at) < Duration::from_secs(1) {
+                return;
+            }
+        }
+        self.filled_at = now;
+        for player in self.players.iter_mut() {
+            player.left = SHARE;
+        }
+    }
+
+    // A player that lacks a reliable packet is parted from: no later one may come to it without that.
+    fn part_from_slow<R: Wait>(&mut self, rt: &R) -> Result<(), Refusal> {
+        let Some(peer) = self.slow.pop(rt) else {
+            return Ok(());
+        };
+        self.sender.ask(Order::Disconnect {
+            peer,
+            how: DisconnectMode::Ask,
+            info: TOO_SLOW,
+        })
+    }
+
+    // Hands the service what was asked for, and wakes it. What finds no room (E9) waits, and events are taken on: a thread that waited for
+    // room here could wait for ever, since the service takes no orders while it has no room for a refusal.
     fn submit<R: Wait>(&mut self, rt: &R) -> Result<(), Refusal> {
         if self.sender.is_empty() && self.news.is_empty() {
             return Ok(());
@@ -130,6 +203,7 @@ impl<'a> Game<'a> {
                 self.part_from(*peer);
                 Ok(())
             }
+            // Its player has gone, or so much waits for it (E9): who lacks a reliable packet then is in `slow`.
             Event::Refused { .. } => Ok(()),
         }
     }
@@ -140,18 +214,20 @@ impl<'a> Game<'a> {
             secret: secret_of(self.dice.next_word()),
             guesses: 0,
             has_won: false,
+            left: SHARE,
         };
         self.players.push(player).map_err(|_| Refusal::Memory)
     }
 
-    // Answers a guess. Who is right is parted from, once the answer has come.
+    // Answers a guess, if it is within the player's share. Who is right is parted from, once the answer has come.
     fn judge(&mut self, peer: PeerRef, guess: u32) -> Result<(), Refusal> {
         let Some(player) = self.players.iter_mut().find(|player| player.peer == peer) else {
             return Ok(());
         };
-        if player.has_won {
+        if player.has_won || player.left == 0 {
             return Ok(());
         }
+        player.left -= 1;
         player.guesses = player.guesses.saturating_add(1);
         player.has_won = guess == player.secret;
         let won = player.has_won;

@@ -2,7 +2,8 @@
 //!
 //! `example_game PORT SEED WINS SECONDS` serves clients at 127.0.0.1. Each is to guess a number from 1 to 1,000, which is drawn from the
 //! seed: it sends guesses as text, reliably on channel 0, and is answered `lower`, `higher` or, after its N-th guess, `right after N`. The
-//! program ends once so many have won and gone, or so many seconds have passed; it tells none who is still there.
+//! program ends once so many have won and gone, or so many seconds have passed; it tells none who is still there. Of a player 100 guesses a
+//! second are heard, and one for whom 65,536 bytes or 1,024 packets wait when a reliable packet comes is parted from, with the number 1.
 //!
 //! Proved: that it is safe, which number is to be guessed for a drawn word (`secret_of`), and the text that answers a guess, for the
 //! secret and the count of the player that it is made for (`IsAnswer`, by `text`). Only tested, by its stored run and
@@ -15,12 +16,13 @@ ghost use Rattle.enet_service.specs.ServiceRuns.{AreNew};
 mod game;
 mod rule;
 
+use crossbeam_queue::ArrayQueue;
 use enet_codec::{Addr, Config, Refusal};
 use enet_service::{
     Bell, BoundService, Ends, EventReceiver, MioWire, OrderSender, QueueSink, QueueSource, Queues,
-    RunLength, Shared, Signals, Unwatched, beside_turns, system_secret,
+    RunLength, SendLimit, Shared, Signals, beside_turns, system_secret,
 };
-use game::Game;
+use game::{Game, Slow};
 use std::env;
 use std::net::Net;
 use std::process::ExitCode;
@@ -38,6 +40,12 @@ const CHANNELS: u8 = 2;
 
 /// How many places each of the two queues has.
 const CAPACITY: u32 = 1_024;
+
+/// A player is full where so many bytes or packets wait for it.
+const LIMIT: SendLimit = SendLimit {
+    bytes: 65_536,
+    commands: 1_024,
+};
 
 /// What the program was told.
 #[derive(Clone, Copy)]
@@ -76,6 +84,7 @@ where
     config.generations = u32::MAX;
     config.secret = system_secret();
     let mut bound = BoundService::open(rt.alloc(), wire, config)?;
+    bound.set_send_limit(Some(LIMIT));
     let won = begin(rt, &mut bound, &bell, settings);
     bound.close();
     won
@@ -118,9 +127,12 @@ fn play<R: Threads + Wait + Clock + Sync + AllocGlobal>(
         bell,
         signals,
     } = shared;
+    let Ok(slow) = ArrayQueue::new(rt.alloc(), usize::from(CLIENTS)) else {
+        return Err(Refusal::Memory);
+    };
     let sender = OrderSender::new(rt.alloc(), queue, ends.seat, bell);
     let receiver = EventReceiver::new(events, ends.taker);
-    let mut game = Game::new(rt.alloc(), settings.seed, sender, receiver);
+    let mut game = Game::new(rt.alloc(), settings.seed, &slow, sender, receiver);
     let mut source = QueueSource::new(queue, ends.drain, bell);
     let mut sink = QueueSink::new(events, ends.poster, &signals.bell);
     let (played, served) = beside_turns(
@@ -130,7 +142,7 @@ fn play<R: Threads + Wait + Clock + Sync + AllocGlobal>(
         &mut sink,
         RunLength::Time(settings.time),
         signals,
-        &mut Unwatched,
+        &mut Slow { rt, slow: &slow },
         &mut || -> Result<(), Refusal> { game.play(rt, signals, settings.wins) },
     );
     served.and(played)?;
