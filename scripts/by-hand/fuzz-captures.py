@@ -5,8 +5,8 @@ Each capture is made of libenet's datagrams in trials/captured, as classic pcap 
 cooked packets, in either order of bytes. Then bytes are turned, left out, repeated or taken from another one, or lengths are set to odd
 values. `inspect` reads each with and without `--timeline`. It must end by itself with the status 0, 1 or 2 and no word of the language's
 own, within 20 seconds, in at most 64 times the capture's length and 64 MB of memory, and what it draws must be well-formed XML. Each
-hundredth is made long by repetition, once to some 2 MB and once to 4 MB: the second may take at most three times the processor time, if it
-is twice as long (damage may cut it).
+hundredth is made long by repetition, once to some 10 MB and once to 20 MB: the second may take at most three times the processor time, if it
+is twice as long (damage may cut it). On a busy machine short times vary by more.
 
 Prints a line for each capture that fails, which it keeps beside the seed in out/fuzz-captures, then how many were read, and the greatest of
 those quotients. The status is 1 if one failed. It is run by hand: what it draws is random, and it looks at times.
@@ -147,7 +147,7 @@ def main():
         if count % 100 == 0:
             part = damaged(draw, text, other)
             tries = [part * (long // max(1, len(part))) if draw.random() < 0.5 else
-                     damaged(draw, make(order, link, frames * (long // len(text) + 1)), other) for long in (2_000_000, 4_000_000)]
+                     damaged(draw, make(order, link, frames * (long // len(text) + 1)), other) for long in (10_000_000, 20_000_000)]
         for way in (None, picture):
             times = []
             for it in tries:
@@ -160,7 +160,7 @@ def main():
                 if why is not None:
                     fail(it, way, why)
             # Damage may cut a capture, so what is compared is the time of a byte. One in which little is read ends soon, and tells nothing.
-            if len(times) == 2 and all(taken > 0.01 and length > 1_000_000 for taken, length in times):
+            if len(times) == 2 and all(taken > 0.05 and length > 5_000_000 for taken, length in times):
                 quotient = 2 * (times[1][0] / times[1][1]) / (times[0][0] / times[0][1])
                 steepest = max(steepest, quotient)
                 if quotient > 3:
