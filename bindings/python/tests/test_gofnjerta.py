@@ -115,11 +115,11 @@ class Hosts(unittest.TestCase):
             client.submit(here, 0, b"")
         self.assertEqual((raised.exception.number, raised.exception.name), (Why.FULL, "E9 Full"))
         self.assertEqual(client.broadcast_each([here, Peer(0, 7)], 0, b""), [Why.FULL, Why.NO_SUCH_PEER])
-        self.assertEqual(client.broadcast_each([here], 256, b""), [Why.NO_SUCH_CHANNEL])
         self.assertEqual(client.broadcast_each([], 0, b""), [])
-        with self.assertRaises(Error) as raised:
-            client.broadcast_each([here], 0, bytes(gofnjerta.MAX_PACKET + 1))
-        self.assertEqual(raised.exception.number, Why.TOO_LARGE)
+        for channel, data, why in ((256, b"", Why.NO_SUCH_CHANNEL), (0, bytes(gofnjerta.MAX_PACKET + 1), Why.TOO_LARGE)):
+            with self.assertRaises(Error) as raised:
+                client.broadcast_each([here], channel, data)
+            self.assertEqual(raised.exception.number, why)
         self.assertEqual(client.read_traffic(here), Traffic(0, 0, 0))
         line = client.read_line(here)
         self.assertEqual((line.commands, line.bytes, line.in_transit, line.throttle), (1, 5, 0, 32))
