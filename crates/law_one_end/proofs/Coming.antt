@@ -12,7 +12,7 @@ use Rattle.law_connection.proofs.CarriageLemmas.{Has-append_left, Has-append_rig
 use Rattle.law_connection.proofs.Lists.{Has-append_cases}
 use Rattle.law_network.specs.Deeds.{Deed}
 use Rattle.law_network.specs.Deeds as deed
-use Rattle.law_one_end.specs.OneEnd.{Heard, OneEnd, Event, Submit, Emit, Come, Tick, Take, Disconnect, Set, GiveWay, TellAgain, heard_as, Happens, Runs, beginning}
+use Rattle.law_one_end.specs.OneEnd.{Heard, OneEnd, Event, Submit, Emit, Come, Tick, Take, Disconnect, Set, GiveWay, TellAgain, heard_as, reliable_taken, Happens, Runs, beginning}
 use Rattle.law_one_end.specs.Hosts.{message_in, event_in}
 
 -- the command that came by an event
@@ -24,18 +24,18 @@ came_in event = []
 abbrev pub IsOf : List Message → Heard → Type 0
 IsOf ms h = (m : Message) × Has ms m × (h.channel ≡ m.head.channel) × (data_of m ≡ Some h.command)
 
-heard-is : (channel front : ℕ) (o : Option DataCommand) (h : Heard) → Has (heard_as channel front o) h → (h.channel ≡ channel) × (o ≡ Some h.command)
-heard-is channel front None h there = absurd there
-heard-is channel front (Some c) h (inl e) = (ap (λ (x : Heard). x.channel) (sym e), ap (λ (x : Heard). Some x.command) e)
-heard-is channel front (Some c) h (inr f) = absurd f
+heard-is : (channel front taken : ℕ) (o : Option DataCommand) (h : Heard) → Has (heard_as channel front taken o) h → (h.channel ≡ channel) × (o ≡ Some h.command)
+heard-is channel front taken None h there = absurd there
+heard-is channel front taken (Some c) h (inl e) = (ap (λ (x : Heard). x.channel) (sym e), ap (λ (x : Heard). Some x.command) e)
+heard-is channel front taken (Some c) h (inr f) = absurd f
 
 came-once : (event : Event) (e new : OneEnd) → Happens e event new → (h : Heard) → Has new.came h → Has e.came h ⊎ IsOf (came_in event) h
 came-once (Submit q) e new k h there = inl (subst (λ (x : OneEnd). Has x.came h) k.1 there)
 came-once (Emit now) e new k h there = inl (subst (λ (x : OneEnd). Has x.came h) k there)
 came-once (Come m now sent) e new k h there =
-    elim (Has-append_cases e.came (heard_as m.head.channel (e.fronts m.head.channel) (data_of m)) h (subst (λ (x : OneEnd). Has x.came h) k.2 there)) [
+    elim (Has-append_cases e.came (heard_as m.head.channel (e.fronts m.head.channel) (reliable_taken m.head.channel e.taken) (data_of m)) h (subst (λ (x : OneEnd). Has x.came h) k.2 there)) [
       | inl old ↦ inl old
-      | inr more ↦ (let i = heard-is m.head.channel (e.fronts m.head.channel) (data_of m) h more in inr (m, inl refl, i.0, i.1))
+      | inr more ↦ (let i = heard-is m.head.channel (e.fronts m.head.channel) (reliable_taken m.head.channel e.taken) (data_of m) h more in inr (m, inl refl, i.0, i.1))
     ]
 came-once (Tick now) e new k h there = inl (subst (λ (x : OneEnd). Has x.came h) k.1 there)
 came-once Take e new k h there = inl (subst (λ (x : OneEnd). Has x.came h) k.3 there)

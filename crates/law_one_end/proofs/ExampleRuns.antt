@@ -36,7 +36,7 @@ the-packet c (inr f) = absurd f
 even : IsEven 576 example_sent
 even = record { some_piece = omega arith; few = omega arith; covered = omega arith; tight = omega arith }
 
-in-reach : IsInReach 576 (example_sent ∷ []) (record { channel = 0; command = first_command; front = 0 })
+in-reach : IsInReach 576 (example_sent ∷ []) (record { channel = 0; command = first_command; front = 0; taken = 0 })
 in-reach = record {
   meant = first_command;
   piece = record {

@@ -83,13 +83,13 @@ new-flags c false e = ap (λ b. cond b 1 (cond (is_some c.fragment) 8 0) == 1) e
     by true = refl
     by false = refl
 
-abbrev pub heard_at : ℕ → DataCommand → ℕ → Heard
-heard_at channel c front = record { channel = channel; command = c; front = front }
+abbrev pub heard_at : ℕ → DataCommand → ℕ → ℕ → Heard
+heard_at channel c front taken = record { channel = channel; command = c; front = front; taken = taken }
 
-pub comes-more : (came' : List Heard) (channel : ℕ) (at : Place) (most front : ℕ) (c : DataCommand) (o : Option IncomingPacket) → Has came' (heard_at channel c front)
-    → Brings channel at (piece_of c).count (piece_of c).number c.body (heard_at channel c front) → is_piece most c ≡ true → agrees_with o c ≡ true → came o c ≡ false
+pub comes-more : (came' : List Heard) (channel : ℕ) (at : Place) (most front taken : ℕ) (c : DataCommand) (o : Option IncomingPacket) → Has came' (heard_at channel c front taken)
+    → Brings channel at (piece_of c).count (piece_of c).number c.body (heard_at channel c front taken) → is_piece most c ≡ true → agrees_with o c ≡ true → came o c ≡ false
     → ((e : IncomingPacket) → o ≡ Some e → Comes came' channel at e) → Comes came' channel at (with_more (earlier_or_new o c) c)
-comes-more came' channel at most front c o there b piece agrees missing old = go o agrees missing old
+comes-more came' channel at most front taken c o there b piece agrees missing old = go o agrees missing old
   where
     sound : is_sound (place_in_packet c) ≡ true
     sound = (piece_sound most c piece).0
@@ -105,11 +105,11 @@ comes-more came' channel at most front c o there b piece agrees missing old = go
           some_piece = omega arith;
           brought = λ i bytes e. subst (λ n. (h : Heard) × Has came' h × Brings channel at n i bytes h) (sym same) (elim (piece_cases m (place_in_packet c) c.body i bytes (omega arith) e) [
             | inl is ↦ (
-              heard_at channel c front,
+              heard_at channel c front taken,
               there,
-              subst (λ n. Brings channel at n i bytes (heard_at channel c front)) many
-                  (subst (λ j. Brings channel at (piece_of c).count j bytes (heard_at channel c front)) (sym is.0)
-                  (subst (λ x. Brings channel at (piece_of c).count (piece_of c).number x (heard_at channel c front)) is.1 b)),
+              subst (λ n. Brings channel at n i bytes (heard_at channel c front taken)) many
+                  (subst (λ j. Brings channel at (piece_of c).count j bytes (heard_at channel c front taken)) (sym is.0)
+                  (subst (λ x. Brings channel at (piece_of c).count (piece_of c).number x (heard_at channel c front taken)) is.1 b)),
             )
             | inr k ↦ g.brought i bytes k.1
           ]);
@@ -294,9 +294,9 @@ own-number most c t rel =
     equal : (a b : ℕ) → (a == b) ≡ true → a ≡ b
     equal a b e = grind (arith, nat_tests)
 
-hears-added : (came : List Heard) (channel most front : ℕ) (r : Receiver) (c : DataCommand) (place : ℕ) → c.number < 65536 → (c.reliable ≡ true → (piece_of c).start < 65536)
-    → Has came (heard_at channel c front) → IsTaken most r c place → Hears came channel r → Hears came channel (with_added r c place (grown r c place))
-hears-added came channel most front r c place small small_start there t h = by c.reliable refl
+hears-added : (came : List Heard) (channel most front taken : ℕ) (r : Receiver) (c : DataCommand) (place : ℕ) → c.number < 65536 → (c.reliable ≡ true → (piece_of c).start < 65536)
+    → Has came (heard_at channel c front taken) → IsTaken most r c place → Hears came channel r → Hears came channel (with_added r c place (grown r c place))
+hears-added came channel most front taken r c place small small_start there t h = by c.reliable refl
   where
     e : IncomingPacket
     e = grown r c place
@@ -308,7 +308,7 @@ hears-added came channel most front r c place small small_start there t h = by c
         sym (ap (λ b. cond b (start_read unbounded r.front (piece_of c).start c.number) (number_read unbounded r.front c.number)) rel) ∙ t.read in
         let start : (piece_of c).start ≡ place % 65536 = reads-start r.front (piece_of c).start c.number place (small_start rel) read in
         let own : c.number ≡ ((piece_of c).start + (piece_of c).number) % 65536 = own-number most c t.piece rel in
-        let b : Brings channel (reliable_at place) (piece_of c).count (piece_of c).number c.body (heard_at channel c front) = record {
+        let b : Brings channel (reliable_at place) (piece_of c).count (piece_of c).number c.body (heard_at channel c front taken) = record {
           channel_is = refl;
           kind = rel;
           number = omega arith;
@@ -317,7 +317,7 @@ hears-added came channel most front r c place small small_start there t h = by c
           index_is = refl;
           bytes_are = refl;
         } in
-        let new : Comes came channel (reliable_at place) e = comes-more came channel (reliable_at place) most front c (came_at r c place) there b t.piece t.agrees t.missing (λ x f. h.held place x (sym at ∙ f)) in
+        let new : Comes came channel (reliable_at place) e = comes-more came channel (reliable_at place) most front taken c (came_at r c place) there b t.piece t.agrees t.missing (λ x f. h.held place x (sym at ∙ f)) in
         subst (Hears came channel) (sym (added-reliable r c place e rel)) (record {
           next = h.next;
           low = h.low;
@@ -333,7 +333,7 @@ hears-added came channel most front r c place small small_start there t h = by c
         let read : number_read unbounded r.front c.number ≡ Some place =
         sym (ap (λ b. cond b (start_read unbounded r.front (piece_of c).start c.number) (number_read unbounded r.front c.number)) rel) ∙ t.read in
         let own : c.number ≡ place % 65536 = reads-number r.front c.number place small read in
-        let b : Brings channel (unreliable_at place c.unreliable) (piece_of c).count (piece_of c).number c.body (heard_at channel c front) = record {
+        let b : Brings channel (unreliable_at place c.unreliable) (piece_of c).count (piece_of c).number c.body (heard_at channel c front taken) = record {
           channel_is = refl;
           kind = rel;
           number = own;
@@ -343,7 +343,7 @@ hears-added came channel most front r c place small small_start there t h = by c
           bytes_are = refl;
         } in
         let new : Comes came channel (unreliable_at place c.unreliable) e =
-        comes-more came channel (unreliable_at place c.unreliable) most front c (came_at r c place) there b t.piece t.agrees t.missing (λ x f. h.waiting place c.unreliable x (sym at ∙ f)) in
+        comes-more came channel (unreliable_at place c.unreliable) most front taken c (came_at r c place) there b t.piece t.agrees t.missing (λ x f. h.waiting place c.unreliable x (sym at ∙ f)) in
         let packets : FinMap nat_cmp IncomingPacket = insert (line_at r.waiting place) c.unreliable e in
         subst (Hears came channel) (sym (added-unreliable r c place e rel)) (record {
           next = h.next;
@@ -361,8 +361,8 @@ hears-added came channel most front r c place small small_start there t h = by c
           ];
         })
 
-pub hears-received : (came : List Heard) (channel most front : ℕ) (r : Receiver) (c : DataCommand) (full : Bool) → c.number < 65536 → (c.reliable ≡ true → (piece_of c).start < 65536)
-    → Has came (heard_at channel c front) → Hears came channel r → Hears came channel (received unbounded most r c full)
-hears-received came channel most front r c full small small_start there h =
+pub hears-received : (came : List Heard) (channel most front taken : ℕ) (r : Receiver) (c : DataCommand) (full : Bool) → c.number < 65536 → (c.reliable ≡ true → (piece_of c).start < 65536)
+    → Has came (heard_at channel c front taken) → Hears came channel r → Hears came channel (received unbounded most r c full)
+hears-received came channel most front taken r c full small small_start there h =
     received-keeps (Hears came channel) (λ x p e w k. hears-dispatched came channel x p e w k) (λ x k. hears-flushed came channel (x.unreliable + 1) x k k.low) most r c full h
-    (λ place t. hears-added came channel most front r c place small small_start there t h)
+    (λ place t. hears-added came channel most front taken r c place small small_start there t h)

@@ -1,11 +1,12 @@
 -- The law of one end, by induction over what happens there.
-use Rattle.std.proofs.Common.{◌≡◌, ℕ, Bool, true, List, [], ◌∷◌, ◌++◌, refl, sym, ap, subst, ◌∙◌, inl, inr, ◌⊎◌, Option, Some, None, append_assoc}
+use Rattle.std.proofs.Common.{◌≡◌, ℕ, zero, suc, ◌+◌, ◌<◌, ◌≤◌, Bool, true, List, [], ◌∷◌, ◌++◌, take, refl, sym, ap, subst, ◌∙◌, inl, inr, ◌⊎◌, arith, Option, Some, None, append_assoc}
 use Rattle.std.proofs.lemmas.List.{append-nil, map-append}
 use Rattle.std.specs.List.{slice_get, range_with_len}
 use Rattle.enet_codec.specs.declared.packet.Packet.{Packet}
 use Rattle.enet_codec.specs.Message.{Message, IsMessage}
 use Rattle.enet_connect.specs.Terms.{granted}
 use Rattle.enet_connect.specs.Verification.{asked}
+use Rattle.enet_fragment.specs.declared.data.DataCommand.{DataCommand}
 use Rattle.enet_fragment.specs.DataCommand.{data_of}
 use Rattle.enet_packets.specs.declared.incoming_packet.Dispatched.{Dispatched}
 use Rattle.enet_receiver.specs.Foresight.{ReceivingEnd, new_end}
@@ -36,10 +37,10 @@ use Rattle.law_connection.proofs.Lists.{Has-append_cases}
 use Rattle.law_connection.proofs.Moves.{packets-push}
 use Rattle.law_connection.proofs.Runs.{get-map}
 use Rattle.law_connection.proofs.WireReceiver.{Shows-nothing}
-use Rattle.law_one_end.specs.OneEnd.{OneEnd, Event, Submit, Emit, Come, Tick, Take, Disconnect, Set, GiveWay, TellAgain, with_peer, with_come, with_submission, with_emission, loose_of, Happens, Runs, beginning}
+use Rattle.law_one_end.specs.OneEnd.{Heard, OneEnd, Event, Submit, Emit, Come, Tick, Take, Disconnect, Set, GiveWay, TellAgain, heard_as, reliable_taken, with_peer, with_come, with_submission, with_emission, loose_of, Happens, Runs, beginning}
 use Rattle.law_one_end.specs.Carried.{AreCarried}
-use Rattle.law_one_end.specs.Law.{taken_on, IsHeard, OfEachRun, OfEachAnswering, OfEachAsking, OfEachJoined}
-use Rattle.law_one_end.proofs.Rows.{carried-front}
+use Rattle.law_one_end.specs.Law.{taken_on, HasNumber, StoodBetween, IsHeard, OfEachRun, OfEachAnswering, OfEachAsking, OfEachJoined}
+use Rattle.law_one_end.proofs.Rows.{carried-front, reliable_in, reliable-front}
 use Rattle.law_one_end.proofs.Gathering.{hears-nothing}
 use Rattle.law_one_end.proofs.Following.{all-cut, ready-nothing}
 use Rattle.law_one_end.proofs.Turns.{core, StaysAt, stays, moved-stays, left-stays, set-stays, gone_on-stays, freed-stays, told_again-stays, heeded-becomes}
@@ -53,9 +54,35 @@ told_of e = record { came = e.came; fronts = e.fronts; taken = e.taken; opens = 
 abbrev told_packets : OneEnd → List Packet
 told_packets e = packets_of e.taken ++ e.peer.inbox.untaken
 
+-- the receivers stood well whenever one of these commands came
+abbrev AllStood : List Heard → Type 0
+AllStood came = (k : ℕ) (h : Heard) → slice_get came k ≡ Some h → StoodBetween (take k came) h
+
+-- also when one more came
+
+last-or-before : (hs : List Heard) (x : Heard) (k : ℕ) (h : Heard) → slice_get (hs ++ x ∷ []) k ≡ Some h → ((slice_get hs k ≡ Some h) × (take k (hs ++ x ∷ []) ≡ take k hs)) ⊎ ((x ≡ h) × (take k (hs ++ x ∷ []) ≡ hs))
+last-or-before [] x zero h e = inr ((let f : Some x ≡ Some h = e in cc), refl)
+last-or-before [] x (suc k) h e = absurd (let f : None ≡ Some h = e in cc)
+last-or-before (y ∷ hs) x zero h e = inl (e, refl)
+last-or-before (y ∷ hs) x (suc k) h e = elim (last-or-before hs x k h e) [
+  | inl old ↦ inl (old.0, ap (λ (l : List Heard). y ∷ l) old.1)
+  | inr new ↦ inr (new.0, ap (λ (l : List Heard). y ∷ l) new.1)
+]
+
+stood-more : (hs : List Heard) (x : Heard) → AllStood hs → StoodBetween hs x → AllStood (hs ++ x ∷ [])
+stood-more hs x all new k h e = elim (last-or-before hs x k h e) [
+  | inl old ↦ subst (λ (l : List Heard). StoodBetween l h) (sym old.1) (all k h old.0)
+  | inr last ↦ subst (λ (l : List Heard). StoodBetween l h) (sym last.1) (subst (StoodBetween hs) last.0 new)
+]
+
+stood-as : (hs : List Heard) (channel front taken : ℕ) (o : Option DataCommand) → AllStood hs → taken ≤ front → ((n : ℕ) → n < front → HasNumber hs channel (n + 1)) → AllStood (hs ++ heard_as channel front taken o)
+stood-as hs channel front taken None all low most = subst AllStood (sym (append-nil hs)) all
+stood-as hs channel front taken (Some c) all low most = stood-more hs (record { channel = channel; command = c; front = front; taken = taken }) all (record { least = low; most = most })
+
 -- what every run keeps
 record Kept (e : OneEnd) : Type 0 where
   hears : AllHear (told_of e)
+  stood : AllStood e.came
   loose : (q : Packet) → Has (told_packets e) q → q.flags ≡ 2 → Has e.loose q
 
 -- the law comes of it
@@ -64,6 +91,7 @@ heard e k = record {
   carried = λ channel. (let a = k.hears in let h = a.each channel in carried-front e.came channel 0 1 (taken_on channel e) (in_sequence channel e.peer.inbox.untaken) h.carried);
   follows = λ channel mtu cs rules. (let a = k.hears in let h = a.each channel in Follows-front cs (bodies_of (taken_on channel e)) (bodies_of (in_sequence channel e.peer.inbox.untaken))
       (subst (FollowsCarried cs) (map-append (λ (d : Dispatched). d.body) (taken_on channel e) (in_sequence channel e.peer.inbox.untaken)) (h.follows mtu cs rules)));
+  stood = k.stood;
   loose = λ q there two. k.loose q (Has-append_left (packets_of e.taken) e.peer.inbox.untaken q there) two;
 }
 
@@ -77,7 +105,8 @@ loose-stays e q s k x there two = elim s.untaken [
 -- also where what it submitted or put out is more
 kept-stays : (e new : OneEnd) → new.came ≡ e.came → new.fronts ≡ e.fronts → new.taken ≡ e.taken → new.loose ≡ e.loose → StaysAt e.peer new.peer → Kept e → Kept new
 kept-stays e new came fronts taken loose s k = record {
-  hears = told-stays (told_of e) (told_of new) (λ h there. subst (λ l. Has l h) (sym came) there) taken s (λ channel r open' there at. ap (λ f. f channel) fronts) k.hears;
+  hears = told-stays (told_of e) (told_of new) (λ h there. subst (λ l. Has l h) (sym came) there) taken s (λ channel wires. ap (λ f. f channel) fronts) k.hears;
+  stood = subst AllStood (sym came) k.stood;
   loose = λ x there two. subst (λ l. Has l x) (sym loose) (loose-stays e new.peer s k x (subst (λ l. Has (packets_of l ++ new.peer.inbox.untaken) x) taken there) two);
 }
 
@@ -94,15 +123,25 @@ kept-come e full m now sent is k = by (heeded-becomes full e.peer m.head now sen
     came : List Packet
     came = loose_of m.head.channel m.body
 
+    stood : AllStood (with_come e m q).came
+    stood =
+        let a = k.hears in
+        let h = a.each m.head.channel in
+        let least = h.least in
+        let some' : reliable_taken m.head.channel e.taken ≤ reliable_in (taken_on m.head.channel e ++ in_sequence m.head.channel e.peer.inbox.untaken) = reliable-front (taken_on m.head.channel e) (in_sequence m.head.channel e.peer.inbox.untaken) in
+        stood-as e.came m.head.channel (e.fronts m.head.channel) (reliable_taken m.head.channel e.taken) (data_of m) k.stood (omega arith) h.most
+
     by : StaysAt e.peer q ⊎ ((dispatches_in e.peer.state ≡ true) × (q.state ≡ e.peer.state) × (q.inbox ≡ (arrival e.peer.inbox m).after)) → Kept (with_come e m q)
     by (inl s) = record {
       hears = told-passed (told_of e) u m.head.channel (data_of m) s refl k.hears;
+      stood = stood;
       loose = λ x there two. Has-append_left e.loose came x (loose-stays e q s k x there two);
     }
     by (inr h) = record {
       hears = subst (λ (b : Inbox). AllHear (record (after (told_of e) m.head.channel (data_of m) b) { opens = dispatches_in q.state })) (sym h.2)
           (subst (λ o. AllHear (record (after (told_of e) m.head.channel (data_of m) (arrival e.peer.inbox m).after) { opens = o })) (sym (ap dispatches_in h.1))
           (told-arrival (told_of e) m.head m.body is h.0 k.hears));
+      stood = stood;
       loose = λ x there two. elim (Has-append_cases (packets_of e.taken) q.inbox.untaken x there) [
         | inl old ↦ Has-append_left e.loose came x (k.loose x (Has-append_left (packets_of e.taken) e.peer.inbox.untaken x old) two)
         | inr new ↦ (let a = k.hears in elim (arrival-loose e.peer.inbox m.head m.body (a.flat h.0) x (subst (λ (b : Inbox). Has b.untaken x) h.2 new) two) [
@@ -119,6 +158,7 @@ kept-told : (e : OneEnd) (q : Peering) (event : PeerEvent) → dispatches_in q.s
     → Kept e → Kept (record e { peer = q; taken = e.taken ++ event ∷ [] })
 kept-told e q event opens receivers all each k = record {
   hears = told-taken (told_of e) (told_of (record e { peer = q; taken = e.taken ++ event ∷ [] })) refl refl opens receivers each k.hears;
+  stood = k.stood;
   loose = λ x there two. k.loose x (subst (λ l. Has l x) all there) two;
 }
 
@@ -181,8 +221,12 @@ kept-beginning p channels max_packet max_waiting is = record {
             ready = λ mtu cs rules. ready-nothing mtu cs (all-cut mtu cs channel [] rules);
             front = refl;
           }));
+      least = subst (λ ds. reliable_in ds ≤ 0) (sym (none channel)) (let z : reliable_in [] ≤ 0 = omega arith in z);
+      most = λ n low. absurd (let z : n < 0 = low in omega arith);
+      wired = λ r there. (let x = new-at channel r there in ap (λ (y : ReceivingEnd). y.receiver.front) x.1);
     };
   };
+  stood = λ k h there. absurd (let z : None ≡ Some h = there in cc);
   loose = λ q there two. absurd (subst (λ (b : Inbox). Has b.untaken q) is there);
 }
   where

@@ -1,5 +1,5 @@
 -- What the law rules out.
-use Rattle.std.proofs.Common.{◌≡◌, ◌≢◌, ℕ, ◌+◌, ◌%◌, true, false, List, [], ◌∷◌, ◌++◌, length, refl, sym, ap, ◌∙◌, inl, inr, arith, Some}
+use Rattle.std.proofs.Common.{◌≡◌, ◌≢◌, ℕ, ◌+◌, ◌%◌, ◌≤◌, true, false, List, [], ◌∷◌, ◌++◌, take, length, refl, sym, ap, subst, ◌∙◌, inl, inr, arith, Some}
 use Rattle.std.specs.List.{concat, slice_get}
 use Rattle.std.proofs.lemmas.List.{append-nil}
 use Rattle.enet_fragment.specs.DataCommand.{piece_of}
@@ -7,7 +7,8 @@ use Rattle.enet_packets.specs.declared.incoming_packet.Dispatched.{Dispatched}
 use Rattle.enet_receiver.specs.Members.{Has}
 use Rattle.law_one_end.specs.OneEnd.{Heard}
 use Rattle.law_one_end.specs.Carried.{Place, Brings, IsCarried, reliable_at, unreliable_at, AreCarried}
-use Rattle.law_one_end.specs.Refuted.{CameElsewhere, IsRefused, command_of, packet_of}
+use Rattle.law_one_end.specs.Law.{HasNumber}
+use Rattle.law_one_end.specs.Refuted.{CameElsewhere, IsRefused, IsNoEnds, command_of, command_at, packet_of}
 
 -- the first piece of a packet that was carried
 record First (came : List Heard) (channel : ℕ) (at : Place) (count : ℕ) (body : List ℕ) : Type 0 where
@@ -102,3 +103,21 @@ swapped (inl h) =
         omega arith
     by x (inr (inr f)) bytes b rest many whole = absurd f
 swapped (inr h) = no-flag h.4
+
+-- where the receiver stood
+
+pub passed-by : IsNoEnds (command_of 1 7 ∷ command_at 0 1 ∷ [])
+passed-by e is h =
+    let s = h.stood 1 (command_at 0 1) (ap (λ (l : List Heard). slice_get l 1) is) in
+    let least : 1 ≤ 0 = s.least in
+    omega arith
+
+pub hurried : IsNoEnds (command_of 1 7 ∷ command_at 2 0 ∷ [])
+hurried e is h =
+    let s = h.stood 1 (command_at 2 0) (ap (λ (l : List Heard). slice_get l 1) is) in
+    by (subst (λ (l : List Heard). HasNumber (take 1 l) 0 2) is (s.most 1 (omega arith)))
+  where
+    by : HasNumber (command_of 1 7 ∷ []) 0 2 → ⊥
+    by x =
+        let n : 1 ≡ 2 % 65536 = ap (λ (y : Heard). y.command.number) (only (command_of 1 7) x.0 x.1) ∙ x.4 in
+        omega arith

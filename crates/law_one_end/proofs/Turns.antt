@@ -1,5 +1,5 @@
 -- What a peer keeps for its user, whatever comes, when time passes, and by the user's calls: it stays, or a data command comes to its inbox.
-use Rattle.std.proofs.Common.{◌≡◌, ℕ, ◌%◌, ◌^◌, Bool, true, false, cond, ltb, ◌&&◌, List, [], length, refl, sym, ap, subst, ◌∙◌, inl, inr, ◌⊎◌, Option, Some, None, Result, Ok, Err}
+use Rattle.std.proofs.Common.{◌≡◌, ℕ, ◌%◌, ◌^◌, Bool, true, false, cond, ltb, ◌&&◌, List, [], map, length, refl, sym, ap, subst, ◌∙◌, inl, inr, ◌⊎◌, Option, Some, None, Result, Ok, Err}
 use Rattle.std.specs.Prelude.{is_some}
 use Rattle.std.specs.List.{slice_get}
 use Rattle.enet_rtt.specs.Clock.{meant_time}
@@ -16,6 +16,7 @@ use Rattle.enet_connect.specs.Verification.{confirmed}
 use Rattle.enet_senders.specs.declared.control.Control.{Control}
 use Rattle.enet_senders.specs.declared.control.Control.TheVariants as control
 use Rattle.enet_receiver.specs.Foresight.{ReceivingEnd}
+use Rattle.enet_inbox.specs.Inbox.{cleared_receiver}
 use Rattle.enet_inbox.specs.DataEffect.{DataEffect, passed_over, arrival}
 use Rattle.enet_outbox.specs.declared.parts.Matched.{Matched}
 use Rattle.enet_outbox.specs.declared.parts.Matched.TheVariants as matched
@@ -35,7 +36,7 @@ use Rattle.enet_peer.specs.Calls.{left, after_timeouts, after_timeouts_by, expir
 use Rattle.law_connection.specs.Linked.{dispatches_in}
 use Rattle.law_connection.specs.Steps.{Way, Asking, Now, Later, leave_by, Setting, Bandwidth, Throttle, ThrottleLimit, PingInterval, Timeout, with_setting}
 use Rattle.law_connection.proofs.Arrivals.{get-take}
-use Rattle.law_connection.proofs.Runs.{either}
+use Rattle.law_connection.proofs.Runs.{either, get-map}
 
 -- what a peer has for its user, and whether it still dispatches
 pub record Core : Type 0 where
@@ -46,25 +47,42 @@ pub record Core : Type 0 where
 abbrev pub core : Peering → Core
 core p = record { opens = dispatches_in p.state; receivers = p.inbox.receivers; untaken = p.inbox.untaken }
 
+-- each receiver stands where one stood before
+abbrev pub Stood : List ReceivingEnd → List ReceivingEnd → Type 0
+Stood old new = (i : ℕ) (r : ReceivingEnd) → slice_get new i ≡ Some r → (q : ReceivingEnd) × (slice_get old i ≡ Some q) × (q.receiver.front ≡ r.receiver.front)
+
+stood-same : (rs : List ReceivingEnd) → Stood rs rs
+stood-same rs i r e = (r, e, refl)
+
+stood-cleared : (rs : List ReceivingEnd) → Stood rs (map cleared_receiver rs)
+stood-cleared rs i r e = (let c = get-map cleared_receiver rs i r e in (c.0, c.1, ap (λ (x : ReceivingEnd). x.receiver.front) c.2))
+
+stood-or-gone : (old new : List ReceivingEnd) → ((i : ℕ) → (slice_get new i ≡ slice_get old i) ⊎ (slice_get new i ≡ None)) → Stood old new
+stood-or-gone old new h i r e = elim (h i) [
+  | inl same ↦ (r, sym same ∙ e, refl)
+  | inr none ↦ absurd (let x : None ≡ Some r = sym none ∙ e in cc)
+]
+
 -- it stays, or ends, and then what wasn't taken may be dropped
 pub record Stays (a b : Core) : Type 0 where
   pub opens : b.opens ≡ true → a.opens ≡ true
   pub receivers : b.opens ≡ true → (i : ℕ) → (slice_get b.receivers i ≡ slice_get a.receivers i) ⊎ (slice_get b.receivers i ≡ None)
   pub untaken : (b.untaken ≡ a.untaken) ⊎ ((b.untaken ≡ []) × (b.opens ≡ false))
+  pub stood : Stood a.receivers b.receivers
 
 pub stays : (a : Core) → Stays a a
-stays a = record { opens = λ t. t; receivers = λ t i. inl refl; untaken = inl refl }
+stays a = record { opens = λ t. t; receivers = λ t i. inl refl; untaken = inl refl; stood = stood-same a.receivers }
 
 not-both : {A : Type 0} (b : Bool) → b ≡ false → b ≡ true → A
 not-both b e f = absurd (let x : true ≡ false = sym f ∙ e in cc)
 
 -- it ends
-shut : (a b : Core) → b.opens ≡ false → b.untaken ≡ a.untaken → Stays a b
-shut a b e same = record { opens = λ t. not-both b.opens e t; receivers = λ t. not-both b.opens e t; untaken = inl same }
+shut : (a b : Core) → b.opens ≡ false → b.untaken ≡ a.untaken → Stood a.receivers b.receivers → Stays a b
+shut a b e same stood = record { opens = λ t. not-both b.opens e t; receivers = λ t. not-both b.opens e t; untaken = inl same; stood = stood }
 
 -- and forgets what wasn't taken
-forgets : (a b : Core) → b.opens ≡ false → b.untaken ≡ [] → Stays a b
-forgets a b e none = record { opens = λ t. not-both b.opens e t; receivers = λ t. not-both b.opens e t; untaken = inr (none, e) }
+forgets : (a b : Core) → b.opens ≡ false → b.untaken ≡ [] → Stood a.receivers b.receivers → Stays a b
+forgets a b e none stood = record { opens = λ t. not-both b.opens e t; receivers = λ t. not-both b.opens e t; untaken = inr (none, e); stood = stood }
 
 pub stays-then : (a b c : Core) → Stays a b → Stays b c → Stays a c
 stays-then a b c f g = record {
@@ -80,6 +98,7 @@ stays-then a b c f g = record {
       | inr none ↦ inr (same ∙ none.0, elim (either c.opens) [ inl t ↦ not-both b.opens none.1 (g.opens t) | inr n ↦ n ])
     ]
   ];
+  stood = λ i r e. (let y = g.stood i r e in let x = f.stood i y.0 y.1 in (x.0, x.1, x.2 ∙ y.2));
 }
 
 if-peer : (P : Peering → Type 0) (b : Bool) (p q : Peering) → P p → P q → P (cond b p q)
@@ -95,16 +114,16 @@ abbrev pub StaysAt : Peering → Peering → Type 0
 StaysAt p q = Stays (core p) (core q)
 
 ended-stays : (p : Peering) (why : Ending) (info : ℕ) → StaysAt p (ended p why info)
-ended-stays p why info = shut (core p) (core (ended p why info)) refl refl
+ended-stays p why info = shut (core p) (core (ended p why info)) refl refl (stood-cleared p.inbox.receivers)
 
 pub freed-stays : (p : Peering) → StaysAt p (freed p)
-freed-stays p = forgets (core p) (core (freed p)) refl refl
+freed-stays p = forgets (core p) (core (freed p)) refl refl (stood-cleared p.inbox.receivers)
 
 parting-stays : (p : Peering) (info : ℕ) → StaysAt p (parting p info)
-parting-stays p info = forgets (core p) (core (parting p info)) refl refl
+parting-stays p info = forgets (core p) (core (parting p info)) refl refl (stood-cleared p.inbox.receivers)
 
 disconnecting-stays : (p : Peering) (info : ℕ) → StaysAt p (disconnecting p info)
-disconnecting-stays p info = shut (core p) (core (disconnecting p info)) refl refl
+disconnecting-stays p info = shut (core p) (core (disconnecting p info)) refl refl (stood-cleared p.inbox.receivers)
 
 -- a peer that was to disconnect later does so once it is done
 settled-stays : (p : Peering) → StaysAt p (settled p)
@@ -158,7 +177,7 @@ left-stays p q way info e = by way p.state e
     by Now state.DisconnectLater e = left-some p (parting p info) q (parting-stays p info) e
     by Later state.Connecting e = left-some p (freed p) q (freed-stays p) e
     by Later state.Answering e = left-some p (parting p info) q (parting-stays p info) e
-    by Later state.Connected e = left-some p (settled waiting) q (stays-then (core p) (core waiting) (core (settled waiting)) (shut (core p) (core waiting) refl refl) (settled-stays waiting)) e
+    by Later state.Connected e = left-some p (settled waiting) q (stays-then (core p) (core waiting) (core (settled waiting)) (shut (core p) (core waiting) refl refl (stood-same p.inbox.receivers)) (settled-stays waiting)) e
     by Asking s e = left-none q e
     by Now s e = left-none q e
     by Later s e = left-none q e
@@ -203,7 +222,7 @@ like : (p q r : Peering) → r.state ≡ q.state → r.inbox ≡ q.inbox → Sta
 like p q r s i h = subst (Stays (core p)) (λ j. record { opens = dispatches_in (sym s j); receivers = (sym i j).receivers; untaken = (sym i j).untaken }) h
 
 with_answer-stays : (p : Peering) (s : PeerState) (what : Control) → p.state ≡ s → StaysAt p (with_answer s what p)
-with_answer-stays p state.Answering (control.VerifyConnect verify) e = record { opens = λ t. ap dispatches_in e; receivers = λ t i. inl refl; untaken = inl refl }
+with_answer-stays p state.Answering (control.VerifyConnect verify) e = record { opens = λ t. ap dispatches_in e; receivers = λ t i. inl refl; untaken = inl refl; stood = stood-same p.inbox.receivers }
 with_answer-stays p state.Disconnecting (control.Disconnect info) e = ended-stays p AskedHere 0
 with_answer-stays p s what e = stays (core p)
 
@@ -227,7 +246,7 @@ on_acknowledge-stays p now channel number told = if-peer (StaysAt p) (is_connect
         stays-then (core p) (core r) (core (settled r)) (stays-then (core p) (core q) (core r) h (with_answer-stays q p.state what refl)) (settled-stays r)
 
 last-stays : (p : Peering) (b : Bool) (info : ℕ) → StaysAt p (on_last_disconnect p b info)
-last-stays p true info = shut (core p) (core (on_last_disconnect p true info)) refl refl
+last-stays p true info = shut (core p) (core (on_last_disconnect p true info)) refl refl (stood-cleared p.inbox.receivers)
 last-stays p false info = ended-stays p AskedThere info
 
 on_disconnect-stays : (p : Peering) (s : PeerState) (b : Bool) (info : ℕ) → StaysAt p (on_disconnect_in s p b info)
@@ -247,7 +266,12 @@ verify-stays p v state.Connecting e = by (confirmed p.offer v)
   where
     by : (o : Option Terms) → StaysAt p (welcomed p v o)
     by None = unwelcomed-holds (StaysAt p) p v (stays (core p)) (ended-stays p BadAnswer 0)
-    by (Some terms) = record { opens = λ t. ap dispatches_in e; receivers = λ t i. get-take terms.channels p.inbox.receivers i; untaken = inl refl }
+    by (Some terms) = record {
+      opens = λ t. ap dispatches_in e;
+      receivers = λ t i. get-take terms.channels p.inbox.receivers i;
+      untaken = inl refl;
+      stood = stood-or-gone p.inbox.receivers (core (welcomed p v (Some terms))).receivers (λ i. get-take terms.channels p.inbox.receivers i);
+    }
 verify-stays p v s e = stays (core p)
 
 -- data comes to an inbox, or the peer stays

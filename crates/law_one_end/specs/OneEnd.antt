@@ -1,26 +1,29 @@
 -- One end of a connection, ours, whatever stands at the other: what came to it and what its user took, what its user submitted and what it
 -- put out.
-use Rattle.std.specs.Prelude.{◌≡◌, Bool, true, ℕ, ◌+◌, ◌%◌, List, [], ◌∷◌, ◌++◌, length, Option, Some, None, slice_get}
+use Rattle.std.specs.Prelude.{◌≡◌, Bool, true, ℕ, ◌+◌, ◌%◌, ◌==◌, List, [], ◌∷◌, ◌++◌, length, filter, Option, Some, None, slice_get}
 use Rattle.enet_codec.specs.declared.packet.Packet.{Packet}
 use Rattle.enet_codec.specs.Message.{Message, Body, IsMessage, send_unsequenced}
 use Rattle.enet_seq.specs.Windows.{ahead}
 use Rattle.enet_fragment.specs.declared.data.DataCommand.{DataCommand}
 use Rattle.enet_fragment.specs.DataCommand.{data_of}
 use Rattle.enet_outbox.specs.Emission.{filled}
+use Rattle.enet_packets.specs.declared.incoming_packet.Dispatched.{Dispatched}
+use Rattle.enet_receiver.specs.Foresight.{ReceivingEnd}
 use Rattle.enet_peer.specs.declared.parts.PeerEvent.{PeerEvent}
 use Rattle.enet_peer.specs.Peering.{Peering}
 use Rattle.enet_peer.specs.Endings.{freed}
 use Rattle.enet_peer.specs.Refusing.{heeded, is_turned_away, told_again}
 use Rattle.enet_peer.specs.Calls.{submission_refusal, submitted, pace_of, gone_on, is_answering, left, moved, next_event}
-use Rattle.law_connection.specs.Linked.{receiver_in}
+use Rattle.law_connection.specs.Connection.{packets_of, in_sequence}
 use Rattle.law_connection.specs.Steps.{Way, leave_by, Setting, MaySet, with_setting}
 
--- a sequenced data command that came on a channel, and how many reliable commands of the channel had been dispatched by then: where the
--- receiver stood, counted without wrapping
+-- a sequenced data command that came on a channel; how many reliable commands of the channel had been dispatched by then, which is where the
+-- receiver stood, counted without wrapping; and how many reliable packets of it the user had taken by then
 pub record Heard : Type 0 where
   pub channel : ℕ
   pub command : DataCommand
   pub front : ℕ
+  pub taken : ℕ
 
 pub record OneEnd : Type 0 where
   pub peer : Peering
@@ -43,22 +46,24 @@ pub data Event : Type 0 where
   GiveWay : Event  -- the peer waits for its client, and is let go, since its host gives its slot to another
   TellAgain : Event  -- it was refused, and is told so again, since a datagram came
 
-abbrev pub heard_as : ℕ → ℕ → Option DataCommand → List Heard
-heard_as channel front None = []
-heard_as channel front (Some c) = (record { channel = channel; command = c; front = front }) ∷ []
+abbrev pub heard_as : ℕ → ℕ → ℕ → Option DataCommand → List Heard
+heard_as channel front taken None = []
+heard_as channel front taken (Some c) = (record { channel = channel; command = c; front = front; taken = taken }) ∷ []
+
+-- how many reliable packets of a channel were taken
+abbrev pub reliable_taken : ℕ → List PeerEvent → ℕ
+reliable_taken channel events = length (filter (λ (d : Dispatched). d.flags == 1) (in_sequence channel (packets_of events)))
 
 -- the packet of an unsequenced command
 abbrev pub loose_of : ℕ → Body → List Packet
 loose_of channel (send_unsequenced group payload) = (record { channel = channel; flags = 2; body = payload }) ∷ []
 loose_of channel _ = []
 
--- what a channel's receiver has on the wire as the number of the last reliable command that it dispatched
-abbrev pub wire_front : Peering → ℕ → ℕ
-wire_front p channel = (receiver_in (slice_get p.inbox.receivers channel)).front
-
--- it has gone on from `before` to a front that is this on the wire
-abbrev pub gone_to : ℕ → ℕ → ℕ
-gone_to before front = before + ahead (before % 65536) front
+-- a channel's receiver has gone on from `before` to the number that it has on the wire of the last reliable command that it dispatched. Where
+-- the channel has no receiver none was dispatched
+abbrev pub gone_to : ℕ → Option ReceivingEnd → ℕ
+gone_to before None = before
+gone_to before (Some r) = before + ahead (before % 65536) r.receiver.front
 
 abbrev pub with_peer : OneEnd → Peering → OneEnd
 with_peer e p = record e { peer = p }
@@ -66,9 +71,9 @@ with_peer e p = record e { peer = p }
 abbrev pub with_come : OneEnd → Message → Peering → OneEnd
 with_come e m p = record e {
   peer = p;
-  came = e.came ++ heard_as m.head.channel (e.fronts m.head.channel) (data_of m);
+  came = e.came ++ heard_as m.head.channel (e.fronts m.head.channel) (reliable_taken m.head.channel e.taken) (data_of m);
   loose = e.loose ++ loose_of m.head.channel m.body;
-  fronts = λ channel. gone_to (e.fronts channel) (wire_front p channel);
+  fronts = λ channel. gone_to (e.fronts channel) (slice_get p.inbox.receivers channel);
 }
 
 abbrev pub with_submission : OneEnd → Packet → OneEnd

@@ -16,10 +16,11 @@ use Rattle.enet_receiver.specs.Members.{Has}
 use Rattle.enet_slot.specs.Receiving.{is_same_address}
 use Rattle.law_network.specs.Calls.{Call, Series}
 use Rattle.law_network.specs.Calls as call
-use Rattle.law_one_end.specs.OneEnd.{Heard, Emit, Come, Take, beginning}
+use Rattle.law_one_end.specs.OneEnd.{Heard, OneEnd, Emit, Come, Take, beginning}
 use Rattle.law_one_end.specs.Confirmed.{IsConfirmed}
 use Rattle.law_one_end.specs.Carried.{AreCarried}
 use Rattle.law_one_end.specs.Hosts.{IsEnd, IsNobody}
+use Rattle.law_one_end.specs.Law.{IsHeard}
 
 -- nothing came on a channel
 abbrev pub CameElsewhere : ℕ → List Heard → Type 0
@@ -31,10 +32,18 @@ IsRefused came ds = AreCarried came 0 0 1 ds → ⊥
 
 -- a reliable command of channel 0 with one byte, and a reliable packet
 abbrev pub command_of : ℕ → ℕ → Heard
-command_of number byte = record { channel = 0; command = record { reliable = true; number = number; unreliable = 0; fragment = None; body = byte ∷ [] }; front = 0 }
+command_of number byte = record { channel = 0; command = record { reliable = true; number = number; unreliable = 0; fragment = None; body = byte ∷ [] }; front = 0; taken = 0 }
 
 abbrev pub packet_of : ℕ → Dispatched
 packet_of byte = record { flags = 1; body = byte ∷ [] }
+
+-- no end is one to which these commands came
+abbrev pub IsNoEnds : List Heard → Type 0
+IsNoEnds came = (e : OneEnd) → e.came ≡ came → IsHeard e → ⊥
+
+-- a command that came when the receiver stood here and the user had taken so many reliable packets
+abbrev pub command_at : ℕ → ℕ → Heard
+command_at front taken = record (command_of 2 8) { front = front; taken = taken }
 
 -- of a host: a CONNECT came from an address, then a datagram from this or another address, and of the peer its user took a packet
 abbrev pub heard_of : PeerRef → Addr → List ℕ → Addr → List ℕ → Received → List Call

@@ -25,7 +25,7 @@ ghost use Rattle.law_one_end.specs.Datagrams.{HasCome};
 ghost use Rattle.law_one_end.specs.Law.{IsHeard, OfEachAnswering, OfEachAsking, OfEachJoined};
 ghost use Rattle.law_one_end.specs.Sent.{IsSent};
 ghost use Rattle.law_one_end.specs.Confirmed.{AnsweringIsConfirmed};
-ghost use Rattle.law_one_end.specs.Refuted.{CameElsewhere, ForeignIsRefused, GuessIsRefused, HastyIsRefused, IsRefused, MisdirectedIsRefused, command_of, packet_of};
+ghost use Rattle.law_one_end.specs.Refuted.{CameElsewhere, ForeignIsRefused, GuessIsRefused, HastyIsRefused, IsNoEnds, IsRefused, MisdirectedIsRefused, command_at, command_of, packet_of};
 ghost use Rattle.law_one_end.specs.Examples.{OfSomeRun, HasTaken};
 ghost use Rattle.law_one_end.specs.Hosts.{EachIsOneEnd};
 
@@ -42,6 +42,9 @@ use enet_host::HostCore;
 /// If the other end keeps the rules (`follows`, `KeepsRules`), what is taken follows what that end sent: some of its packets, in order, each
 /// once and whole, none reliable left out before the last. It has to number its packets as ENet does, to cut them evenly into at most 16,384
 /// pieces, and nothing of its may come when the receiver stands over 32,768 reliable commands past it, or over 65,535 before.
+///
+/// Whenever a command comes (`stood`), as many reliable commands had been dispatched as the user had taken reliable packets, or more; and each
+/// number up to there had come. So `KeepsRules`, which goes by that number, can be told by what came and what was taken.
 ///
 /// `answering`, `asking`, `joined`: so it is of a server's peer, of a client's, and of one that is connected from the start.
 pub fn what_is_taken()
@@ -95,6 +98,9 @@ pub fn each_peer_of_a_host(host: &HostCore)
 /// (`elsewhere`). And, each where reliable commands of one byte came: a packet twice (`twice`), the second packet without the first (`gap`),
 /// two packets the other way round (`swapped`), and a packet with another byte (`altered`).
 ///
+/// Of `stood`: that a command came when a reliable packet had been taken and the receiver stood before it (`passed_by`), or when the receiver
+/// stood past a number that hadn't come (`hurried`).
+///
 /// And what `IsEnd` rules out of a host: that its user takes a packet of a peer where since the CONNECT a datagram came from another address
 /// alone, whatever it holds (`foreign`), or one that names another slot (`misdirected`); and that its user is told of the connection where
 /// nothing came since (`hasty`). And of `IsConfirmed`, that where one datagram went and one command came, the user is told of a client by another
@@ -105,6 +111,8 @@ pub fn false_takes_are_refuted()
     ensures gap { IsRefused (command_of 2 7 ∷ []) (packet_of 7 ∷ []) }
     ensures swapped { IsRefused (command_of 1 7 ∷ command_of 2 8 ∷ []) (packet_of 8 ∷ packet_of 7 ∷ []) }
     ensures altered { IsRefused (command_of 1 7 ∷ []) (packet_of 8 ∷ []) }
+    ensures passed_by { IsNoEnds (command_of 1 7 ∷ command_at 0 1 ∷ []) }
+    ensures hurried { IsNoEnds (command_of 1 7 ∷ command_at 2 0 ∷ []) }
     ensures foreign { ForeignIsRefused }
     ensures misdirected { MisdirectedIsRefused }
     ensures hasty { HastyIsRefused }

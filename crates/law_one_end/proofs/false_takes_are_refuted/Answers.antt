@@ -1,4 +1,4 @@
-use Rattle.law_one_end.proofs.Refuting.{elsewhere, twice, gap, swapped, altered}
+use Rattle.law_one_end.proofs.Refuting.{elsewhere, twice, gap, swapped, altered, passed-by, hurried}
 use Rattle.law_one_end.proofs.Foreign.{foreign-refused, misdirected-refused, hasty-refused}
 use Rattle.law_one_end.proofs.Confirming.{guess-refused}
 use Rattle.law_one_end.proofs.false_takes_are_refuted.Goals as goal
@@ -17,6 +17,12 @@ returns-clause-swapped c = swapped
 
 pub returns-clause-altered : goal.returns-clause-altered
 returns-clause-altered c = altered
+
+pub returns-clause-passed_by : goal.returns-clause-passed_by
+returns-clause-passed_by c = passed-by
+
+pub returns-clause-hurried : goal.returns-clause-hurried
+returns-clause-hurried c = hurried
 
 pub returns-clause-foreign : goal.returns-clause-foreign
 returns-clause-foreign c = foreign-refused
