@@ -23,6 +23,7 @@ use Rattle.enet_slot.specs.Giving.{limits_of, drawn_for, server_from}
 use Rattle.enet_slot.specs.Receiving.{is_same_address}
 use Rattle.enet_slot.specs.Slot.{SlotState}
 use Rattle.law_connection.specs.Connection.{packets_of, in_sequence}
+use Rattle.law_connection.specs.Law.{IsOneLife}
 use Rattle.law_network.specs.Calls.{Call, Series}
 use Rattle.law_network.specs.Calls as call
 use Rattle.law_network.specs.Common.{Common, common_of}
@@ -32,7 +33,7 @@ use Rattle.law_one_end.specs.OneEnd.{Heard, Runs, beginning}
 use Rattle.law_one_end.specs.OneEnd as end
 use Rattle.law_one_end.specs.Carried.{AreCarried}
 use Rattle.law_one_end.specs.Hosts.{told_by, message_in, event_in, AreFirst, CameBy, BeganAt, IsEnd, IsNobody}
-use Rattle.law_one_end.specs.Refuted.{heard_of, hasty, IsNoHosts, ForeignIsRefused, MisdirectedIsRefused, HastyIsRefused, packet_of}
+use Rattle.law_one_end.specs.Refuted.{heard_of, hasty, IsNoHosts, ForeignIsRefused, MisdirectedIsRefused, HastyIsRefused, IsNoLife, PacketFirstIsRefused, TwoEndsAreRefused, packet_of}
 use Rattle.law_one_end.proofs.Calls.{is-same}
 use Rattle.law_one_end.proofs.Coming.{came-of}
 use Rattle.law_one_end.proofs.Refuting.{elsewhere}
@@ -161,3 +162,17 @@ hasty-refused name a connect info = (nobody, ends)
             (takes-alone name info (common_of series.steps.0) name.slot (slot_named series.steps.0.slots name) f.0 f.3)
         by (inr (inl x)) = (let z = x.0 in begins-not (Some (event.Connect name info)) (common_of series.steps.0) name.slot z.slot z.given z.begins)
         by (inr (inr x)) = x
+
+-- events that are no life
+
+no-life : (es : List PeerEvent) → (IsOneLife false es → ⊥) → IsNoLife es
+no-life es none name cs series is k = none (subst (IsOneLife false) (k.taken ∙ is) k.life)
+
+pub packet-first-refused : PacketFirstIsRefused
+packet-first-refused q es = no-life (told.Receive q ∷ es) (λ l. l)
+
+pub two-ends-refused : TwoEndsAreRefused
+two-ends-refused x y es = no-life (told.Disconnect x ∷ told.Disconnect y ∷ es) (λ l. more (told.Disconnect y) es l)
+  where
+    more : (e : PeerEvent) (es : List PeerEvent) → e ∷ es ≡ [] → ⊥
+    more e es f = cc

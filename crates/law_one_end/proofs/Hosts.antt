@@ -1,5 +1,5 @@
 -- Each peer of a host is one end, by the calls of the host.
-use Rattle.std.proofs.Common.{◌≡◌, ◌≢◌, ◌≤◌, ℕ, List, [], ◌∷◌, ◌++◌, refl, sym, ap, subst, ◌∙◌, inl, inr, ◌⊎◌, arith, Option, Some, None}
+use Rattle.std.proofs.Common.{◌≡◌, ◌≢◌, ◌≤◌, ℕ, List, [], ◌∷◌, ◌++◌, false, refl, sym, ap, subst, ◌∙◌, inl, inr, ◌⊎◌, arith, Option, Some, None}
 use Rattle.std.specs.Prelude.{flat_map}
 use Rattle.std.specs.List.{slice_get}
 use Rattle.std.proofs.lemmas.List.Concat.{flat_map-append}
@@ -24,7 +24,7 @@ use Rattle.law_network.proofs.Names.{free-or, IsThere, named-there, there-slot, 
 use Rattle.law_network.proofs.OneCall.{one-call}
 use Rattle.law_network.proofs.Slots.{held, freed-in}
 use Rattle.law_one_end.specs.OneEnd.{OneEnd, Event, Runs, beginning}
-use Rattle.law_one_end.specs.Law.{IsHeard, OfEachRun, OfEachAnswering, OfEachAsking}
+use Rattle.law_one_end.specs.Law.{HasOneLife, IsHeard, OfEachRun, OfEachAnswering, OfEachAsking}
 use Rattle.law_one_end.specs.Sent.{IsSent}
 use Rattle.law_one_end.specs.Hosts.{told_by, accepted_by, brought_by, given_by, message_in, event_in, CameBy, AreOf, StaysAt, IsEnd, IsNobody, EachIsOneEnd}
 use Rattle.law_one_end.specs.Confirmed.{IsToldConfirmed}
@@ -32,6 +32,7 @@ use Rattle.law_one_end.proofs.Confirming.{answering-confirmed}
 use Rattle.law_one_end.proofs.Calls.{AddsNothing, adds-nothing, Adds, adds, came-none, came-append}
 use Rattle.law_one_end.proofs.Deeds.{told_in, accepted_in, given_in, Led, led-nothing, led-both, led-deeds}
 use Rattle.law_one_end.proofs.Laws.{answering-heard, asking-heard}
+use Rattle.law_one_end.proofs.Lives.{answering-life, asking-life}
 use Rattle.law_one_end.proofs.SentRuns.{answering-sent, asking-sent}
 
 -- where nobody has a name
@@ -275,6 +276,7 @@ end-begins name c cs old new steps p none nobody first l stays =
       submitted = none-before (accepted_by name c) (flat_map (accepted_by name) cs) k.end.submitted none.accepted k.submitted;
       put = subst (AreOf a (given_by name c ++ flat_map (given_by name) cs)) (sym k.put) (subst (λ (g : List (Addr × List ℕ)). AreOf a (g ++ flat_map (given_by name) cs) k.messages) (sym none.given) k.puts);
       stays = ((λ b e. nowhere old.slots name b nobody e), stays);
+      life = by-beginning (HasOneLife false) asking-life answering-life c (common_of old) name.slot first.slot first.given first.begins p first.peer (flat_map event_in l.deeds) k.end k.runs;
       heard = by-beginning IsHeard asking-heard answering-heard c (common_of old) name.slot first.slot first.given first.begins p first.peer (flat_map event_in l.deeds) k.end k.runs;
       sent = by-beginning IsSent asking-sent answering-sent c (common_of old) name.slot first.slot first.given first.begins p first.peer (flat_map event_in l.deeds) k.end k.runs;
       confirmed = λ on. by-answer c (common_of old) name.slot first.slot first.given first.begins p first.peer on (flat_map event_in l.deeds) k.end k.runs;
@@ -293,6 +295,7 @@ end-more name c cs old new steps none nobody k = record {
   submitted = none-before (accepted_by name c) (flat_map (accepted_by name) cs) k.end.submitted none.accepted k.submitted;
   put = subst (λ (g : List (Addr × List ℕ)). AreOf k.address (g ++ flat_map (given_by name) cs) k.end.put) (sym none.given) k.put;
   stays = ((λ b e. nowhere old.slots name b nobody e), k.stays);
+  life = k.life;
   heard = k.heard;
   sent = k.sent;
   confirmed = k.confirmed;

@@ -7,6 +7,7 @@ pub mod Turns
 pub mod Ears
 pub mod Loose
 pub mod Laws
+pub mod Lives
 pub mod Sending
 pub mod PuttingOut
 pub mod SentRuns

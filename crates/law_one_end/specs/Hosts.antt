@@ -1,6 +1,6 @@
 -- A peer of a host among any others, by the calls of the host alone: what the user was told of it and submitted to it, what came from where
 -- the host has it, and what was put out to it.
-use Rattle.std.specs.Prelude.{◌≡◌, ◌⊎◌, ℕ, if◌then◌else◌, List, [], ◌∷◌, ◌++◌, take, flat_map, Some, None, Ok, Err}
+use Rattle.std.specs.Prelude.{◌≡◌, ◌⊎◌, ℕ, false, if◌then◌else◌, List, [], ◌∷◌, ◌++◌, take, flat_map, Some, None, Ok, Err}
 use Rattle.enet_codec.specs.declared.address.Addr.{Addr}
 use Rattle.enet_codec.specs.declared.event.Event.TheVariants as event
 use Rattle.enet_codec.specs.declared.event.PeerRef.{PeerRef}
@@ -27,7 +27,7 @@ use Rattle.law_network.specs.Falling.{FellAll}
 use Rattle.law_network.specs.Network.{is_same_name}
 use Rattle.law_one_end.specs.OneEnd.{OneEnd, Event, Submit, Emit, Come, Tick, Take, Disconnect, Set, GiveWay, TellAgain, Runs, beginning}
 use Rattle.law_one_end.specs.Datagrams.{Begins}
-use Rattle.law_one_end.specs.Law.{IsHeard}
+use Rattle.law_one_end.specs.Law.{HasOneLife, IsHeard}
 use Rattle.law_one_end.specs.Sent.{IsSent}
 use Rattle.law_one_end.specs.Confirmed.{IsToldConfirmed}
 
@@ -104,8 +104,8 @@ event_in deed.TellAgain = TellAgain ∷ []
 event_in d = []
 
 -- the peer of this name began by one of these calls, at an address where it stayed, and is one end since: what happens there is what fell to
--- it. All that the user was told of it, and all that it accepted, is that end's, and all that it put out went to that address. If it answered,
--- its user was told of the connection only once the answer was confirmed
+-- it. All that the user was told of it, which is one life, and all that it accepted is that end's, and all that it put out went to that address.
+-- If it answered, its user was told of the connection only once the answer was confirmed
 pub record IsEnd (name : PeerRef) (cs : List Call) (series : Series cs) : Type 0 where
   pub address : Addr
   pub first : Peering
@@ -117,6 +117,7 @@ pub record IsEnd (name : PeerRef) (cs : List Call) (series : Series cs) : Type 0
   pub submitted : end.submitted ≡ flat_map (accepted_by name) cs
   pub put : AreOf address (flat_map (given_by name) cs) end.put
   pub stays : StaysAt name address cs series
+  pub life : HasOneLife false end
   pub heard : IsHeard end
   pub sent : IsSent end
   pub confirmed : first.state ≡ state.Answering → IsToldConfirmed first (flat_map event_in deeds) end

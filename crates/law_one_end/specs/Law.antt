@@ -1,5 +1,5 @@
 -- What holds of one end of ours, whatever stands at the other.
-use Rattle.std.specs.Prelude.{◌≡◌, ℕ, ◌+◌, ◌%◌, ◌<◌, ◌≤◌, true, List, take, Some, slice_get}
+use Rattle.std.specs.Prelude.{◌≡◌, ℕ, ◌+◌, ◌%◌, ◌<◌, ◌≤◌, Bool, true, List, take, Some, slice_get}
 use Rattle.enet_codec.specs.declared.command.Offer.{Offer}
 use Rattle.enet_connect.specs.declared.server.Server.{Server}
 use Rattle.enet_connect.specs.declared.terms.Terms.{Terms}
@@ -12,6 +12,7 @@ use Rattle.enet_peer.specs.Peering.{Peering, joined, connecting, answering}
 use Rattle.enet_sender.specs.CommandChoice.{ChosenPacket}
 use Rattle.law_connection.specs.Connection.{packets_of, in_sequence}
 use Rattle.law_connection.specs.Follows.{FollowsCarried}
+use Rattle.law_connection.specs.Law.{IsOneLife}
 use Rattle.law_connection.specs.LinkSteps.{bodies_of}
 use Rattle.law_one_end.specs.OneEnd.{Heard, OneEnd, Event, Runs, beginning}
 use Rattle.law_one_end.specs.Carried.{AreCarried}
@@ -40,6 +41,10 @@ pub record IsHeard (e : OneEnd) : Type 0 where
   pub stood : (k : ℕ) (h : Heard) → slice_get e.came k ≡ Some h → StoodBetween (take k e.came) h
   -- an unsequenced packet is one that came so
   pub loose : (q : Packet) → Has (packets_of e.taken) q → q.flags ≡ 2 → Has e.loose q
+
+-- what its user took is one life; one that is connected from the start has no Connect event
+abbrev pub HasOneLife : Bool → OneEnd → Type 0
+HasOneLife joined e = IsOneLife joined e.taken
 
 -- this holds after every run of an end that begins so
 abbrev pub OfEachRun : Peering → (OneEnd → Type 0) → Type 0

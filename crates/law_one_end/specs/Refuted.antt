@@ -1,15 +1,18 @@
 -- What the law rules out of what a user takes.
-use Rattle.std.specs.Prelude.{◌≡◌, ◌≢◌, ℕ, true, false, Option, Some, None, List, [], ◌∷◌}
+use Rattle.std.specs.Prelude.{◌≡◌, ◌≢◌, ℕ, true, false, Option, Some, None, List, [], ◌∷◌, flat_map}
 use Rattle.enet_codec.specs.declared.address.Addr.{Addr}
 use Rattle.enet_codec.specs.declared.event.Event.TheVariants as event
 use Rattle.enet_codec.specs.declared.event.PeerRef.{PeerRef}
 use Rattle.enet_codec.specs.declared.event.Received.{Received}
 use Rattle.enet_codec.specs.declared.header.Header.{Header}
+use Rattle.enet_codec.specs.declared.packet.Packet.{Packet}
 use Rattle.enet_codec.specs.Message.{Message, acknowledge}
 use Rattle.enet_rtt.specs.Clock.{told_time}
 use Rattle.enet_senders.specs.declared.control.Numbered.{Numbered}
 use Rattle.enet_host.specs.Receiving.{handled_one}
 use Rattle.enet_peer.specs.Heading.{IsRead}
+use Rattle.enet_peer.specs.declared.parts.PeerEvent.{PeerEvent}
+use Rattle.enet_peer.specs.declared.parts.PeerEvent.TheVariants as told
 use Rattle.enet_peer.specs.Peering.{Peering}
 use Rattle.enet_packets.specs.declared.incoming_packet.Dispatched.{Dispatched}
 use Rattle.enet_receiver.specs.Members.{Has}
@@ -19,7 +22,7 @@ use Rattle.law_network.specs.Calls as call
 use Rattle.law_one_end.specs.OneEnd.{Heard, OneEnd, Emit, Come, Take, beginning}
 use Rattle.law_one_end.specs.Confirmed.{IsConfirmed}
 use Rattle.law_one_end.specs.Carried.{AreCarried}
-use Rattle.law_one_end.specs.Hosts.{IsEnd, IsNobody}
+use Rattle.law_one_end.specs.Hosts.{IsEnd, IsNobody, told_by}
 use Rattle.law_one_end.specs.Law.{IsHeard}
 
 -- nothing came on a channel
@@ -44,6 +47,17 @@ IsNoEnds came = (e : OneEnd) → e.came ≡ came → IsHeard e → ⊥
 -- a command that came when the receiver stood here and the user had taken so many reliable packets
 abbrev pub command_at : ℕ → ℕ → Heard
 command_at front taken = record (command_of 2 8) { front = front; taken = taken }
+
+-- no user of a host took these events of one peer, whatever was called
+abbrev pub IsNoLife : List PeerEvent → Type 0
+IsNoLife es = (name : PeerRef) (cs : List Call) (series : Series cs) → flat_map (told_by name) cs ≡ es → IsEnd name cs series → ⊥
+
+-- that a packet was taken before a Connect, or the end of the connection twice
+abbrev pub PacketFirstIsRefused : Type 0
+PacketFirstIsRefused = (q : Packet) (es : List PeerEvent) → IsNoLife (told.Receive q ∷ es)
+
+abbrev pub TwoEndsAreRefused : Type 0
+TwoEndsAreRefused = (x y : ℕ) (es : List PeerEvent) → IsNoLife (told.Disconnect x ∷ told.Disconnect y ∷ es)
 
 -- of a host: a CONNECT came from an address, then a datagram from this or another address, and of the peer its user took a packet
 abbrev pub heard_of : PeerRef → Addr → List ℕ → Addr → List ℕ → Received → List Call

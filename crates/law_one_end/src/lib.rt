@@ -7,25 +7,26 @@
 //! server's host may be full when its client confirms, and tell it so again, and may give the slot of a peer that waits to another. Want of
 //! memory changes nothing, so it is no event.
 //!
-//! Proved: what the user takes was carried by what came, in order, each packet whole and each reliable number once; where the other end keeps
-//! the rules of the wire it follows what that end sent (`what_is_taken`). That rules something out (`false_takes_are_refuted`). Each data
-//! command that goes is of what the user submitted, under its number (`what_is_put_out`). A server's user is told of a client only once that
-//! confirmed the server's answer (`who_is_told`). A run in which a packet is taken does happen (`runs_happen`). A datagram that comes is such
-//! events (`a_datagram_comes_as_commands`). Each peer of a host is such an end, by the calls of the host and what came from where the peer is
-//! (`each_peer_of_a_host`). Not promised: that an unsequenced packet is taken once, or that anything arrives.
+//! Proved: what the user takes is one life (`events_are_one_life`), and was carried by what came, in order, each packet whole and each
+//! reliable number once; where the other end keeps the rules of the wire it follows what that end sent (`what_is_taken`). That rules
+//! something out (`false_takes_are_refuted`). Each data command that goes is of what the user submitted, under its number
+//! (`what_is_put_out`). A server's user is told of a client only once that confirmed the server's answer (`who_is_told`). A run in which a
+//! packet is taken does happen (`runs_happen`). A datagram that comes is such events (`a_datagram_comes_as_commands`). Each peer of a host
+//! is such an end, by the calls of the host and what came from where the peer is (`each_peer_of_a_host`). Not promised: that an unsequenced
+//! packet is taken once, or that anything arrives.
 #![tactic(auto)]
 
-ghost use Rattle.std.specs.Prelude.{ℕ, ◌⊎◌, List, [], ◌∷◌};
+ghost use Rattle.std.specs.Prelude.{ℕ, ◌⊎◌, true, false, List, [], ◌∷◌};
 ghost use Rattle.enet_codec.specs.declared.event.Received.{Received};
 ghost use Rattle.enet_packets.specs.declared.incoming_packet.Dispatched.{Dispatched};
 ghost use Rattle.enet_peer.specs.Peering.{Peering};
 ghost use Rattle.enet_peer.specs.Handling.{Arrival, Handles, Hears};
 ghost use Rattle.law_one_end.specs.OneEnd.{Heard, OneEnd, TellAgain, Happens, with_peer};
 ghost use Rattle.law_one_end.specs.Datagrams.{HasCome};
-ghost use Rattle.law_one_end.specs.Law.{IsHeard, OfEachAnswering, OfEachAsking, OfEachJoined};
+ghost use Rattle.law_one_end.specs.Law.{HasOneLife, IsHeard, OfEachAnswering, OfEachAsking, OfEachJoined};
 ghost use Rattle.law_one_end.specs.Sent.{IsSent};
 ghost use Rattle.law_one_end.specs.Confirmed.{AnsweringIsConfirmed};
-ghost use Rattle.law_one_end.specs.Refuted.{CameElsewhere, ForeignIsRefused, GuessIsRefused, HastyIsRefused, IsNoEnds, IsRefused, MisdirectedIsRefused, command_at, command_of, packet_of};
+ghost use Rattle.law_one_end.specs.Refuted.{CameElsewhere, ForeignIsRefused, GuessIsRefused, HastyIsRefused, IsNoEnds, IsRefused, MisdirectedIsRefused, PacketFirstIsRefused, TwoEndsAreRefused, command_at, command_of, packet_of};
 ghost use Rattle.law_one_end.specs.Examples.{OfSomeRun, HasTaken};
 ghost use Rattle.law_one_end.specs.Hosts.{EachIsOneEnd};
 
@@ -51,6 +52,14 @@ pub fn what_is_taken()
     ensures answering { OfEachAnswering IsHeard }
     ensures asking { OfEachAsking IsHeard }
     ensures joined { OfEachJoined IsHeard }
+{}
+
+/// What an end's user takes is one life, over the same lists of events: at most one Connect, and only first; packets after it; at most one
+/// Disconnect, and only last. One that is connected from the start has no Connect.
+pub fn events_are_one_life()
+    ensures answering { OfEachAnswering (HasOneLife false) }
+    ensures asking { OfEachAsking (HasOneLife false) }
+    ensures joined { OfEachJoined (HasOneLife true) }
 {}
 
 /// What an end puts out, over the same lists of events: each sequenced data command is a piece of a packet that its user submitted on that
@@ -82,12 +91,13 @@ pub fn a_datagram_comes_as_commands()
 {}
 
 /// Each peer of a host that there is, by the calls of the host alone, whatever is called on it and whoever sends to it: datagrams from any
-/// address, submissions, disconnects, settings, ticks, turns and takes, each with what was answered (`Steps`). Of each name that nobody has at
-/// first, nothing is told, submitted or put out (`IsNobody`); or its peer began by one of these calls, a `connect` of the user's or a CONNECT
-/// that came, at an address where it stayed, and is one end since (`IsEnd`). What the user was told of it, and what it accepted, is that end's,
-/// so the laws above hold of it. What happens at that end is, call by call, what fell to the peer (`FellAll` of `law_network`), and no
-/// more. The commands that came to it are, in order, those at the fronts of the datagrams that came since, from that address and with the
-/// number of its slot in their headers. Each datagram that it put out went there, and has the commands that the end put out, in order.
+/// address, submissions, disconnects, settings, ticks, turns and takes, each with what was answered (`Steps`). Of each name that nobody has
+/// at first, nothing is told, submitted or put out (`IsNobody`); or its peer began by one of these calls, a `connect` of the user's or a
+/// CONNECT that came, at an address where it stayed, and is one end since (`IsEnd`). What the user was told of it is that end's, and one
+/// life; what it accepted is that end's, too. So the laws above hold of it. What happens at that end is, call by call, what fell to the
+/// peer (`FellAll` of `law_network`), and no more. The commands that came to it are, in order, those at the fronts of the datagrams that
+/// came since, from that address and with the number of its slot in their headers. Each datagram that it put out went there, and has the
+/// commands that the end put out, in order.
 pub fn each_peer_of_a_host(host: &HostCore)
     ensures { EachIsOneEnd host.now }
 {
@@ -103,7 +113,8 @@ pub fn each_peer_of_a_host(host: &HostCore)
 ///
 /// And what `IsEnd` rules out of a host: that its user takes a packet of a peer where since the CONNECT a datagram came from another address
 /// alone, whatever it holds (`foreign`), or one that names another slot (`misdirected`); and that its user is told of the connection where
-/// nothing came since (`hasty`). And of `IsConfirmed`, that where one datagram went and one command came, the user is told of a client by another
+/// nothing came since (`hasty`). Nor is a peer's first event a packet (`packet_first`), or an event told after its end, as a second end is
+/// (`two_ends`). And of `IsConfirmed`, that where one datagram went and one command came, the user is told of a client by another
 /// command than the acknowledgement that repeats the answer's number and the time that the datagram told (`guessed`).
 pub fn false_takes_are_refuted()
     ensures elsewhere { (came : List Heard) (d : Dispatched) (ds : List Dispatched) → CameElsewhere 0 came → IsRefused came (d ∷ ds) }
@@ -116,6 +127,8 @@ pub fn false_takes_are_refuted()
     ensures foreign { ForeignIsRefused }
     ensures misdirected { MisdirectedIsRefused }
     ensures hasty { HastyIsRefused }
+    ensures packet_first { PacketFirstIsRefused }
+    ensures two_ends { TwoEndsAreRefused }
     ensures guessed { GuessIsRefused }
 {}
 

@@ -1,5 +1,5 @@
 use Rattle.law_one_end.proofs.Refuting.{elsewhere, twice, gap, swapped, altered, passed-by, hurried}
-use Rattle.law_one_end.proofs.Foreign.{foreign-refused, misdirected-refused, hasty-refused}
+use Rattle.law_one_end.proofs.Foreign.{foreign-refused, misdirected-refused, hasty-refused, packet-first-refused, two-ends-refused}
 use Rattle.law_one_end.proofs.Confirming.{guess-refused}
 use Rattle.law_one_end.proofs.false_takes_are_refuted.Goals as goal
 
@@ -32,6 +32,12 @@ returns-clause-misdirected c = misdirected-refused
 
 pub returns-clause-hasty : goal.returns-clause-hasty
 returns-clause-hasty c = hasty-refused
+
+pub returns-clause-packet_first : goal.returns-clause-packet_first
+returns-clause-packet_first c = packet-first-refused
+
+pub returns-clause-two_ends : goal.returns-clause-two_ends
+returns-clause-two_ends c = two-ends-refused
 
 pub returns-clause-guessed : goal.returns-clause-guessed
 returns-clause-guessed c = guess-refused
