@@ -126,7 +126,7 @@ if-sent : {A : Type 0} (f : SentControl → A) (b : Bool) (x y : SentControl) �
 if-sent f true x y e = e
 if-sent f false x y e = refl
 
-held_back-command : (tick : Moment) (x : SentControl) → (controlling.held_back tick x).command ≡ x.command
+pub held_back-command : (tick : Moment) (x : SentControl) → (controlling.held_back tick x).command ≡ x.command
 held_back-command tick x = if-sent (λ (y : SentControl). y.command) (controlling.is_late tick.now x) (record x { transmission = again tick.now (marked tick x.transmission) }) x refl
 
 held_back-times : (tick : Moment) (x : SentControl) → (controlling.held_back tick x).times ≡ x.times
@@ -159,7 +159,7 @@ awaits-acknowledged S answer o channel number k = by (channel == 0xFF)
     by false = at (slice_get o.senders channel)
 
 -- ---- a datagram is filled
-data Goes (now wait : ℕ) (c : Commands) (n : controlling.Next) : Type 0 where
+pub data Goes (now wait : ℕ) (c : Commands) (n : controlling.Next) : Type 0 where
   Heads : (x : Numbered) (rest : List Numbered) → c.queued ≡ x ∷ rest
       → ◌≡◌ {A = controlling.Next} (record { command = x; commands = record c { queued = rest; sent = cond (controlling.is_reliable x.control) (c.sent ++ controlling.begun now wait x ∷ []) c.sent } }) n → Goes now wait c n
   Repeats : (i : ℕ) (p : SentControl) → slice_get c.sent i ≡ Some p
@@ -168,7 +168,7 @@ data Goes (now wait : ℕ) (c : Commands) (n : controlling.Next) : Type 0 where
 some-is : {X : Type 0} {u v : X} → Some u ≡ Some v → u ≡ v
 some-is {X} {u} {v} e = cc
 
-goes : (now wait : ℕ) (c : Commands) (n : controlling.Next) → controlling.next now wait c ≡ Some n → Goes now wait c n
+pub goes : (now wait : ℕ) (c : Commands) (n : controlling.Next) → controlling.next now wait c ≡ Some n → Goes now wait c n
 goes now wait c n e = go (position (λ (p : SentControl). p.transmission.due) c.sent) e
   where
     head : (q : List Numbered) → c.queued ≡ q → controlling.next_queued now wait c q ≡ Some n → Goes now wait c n

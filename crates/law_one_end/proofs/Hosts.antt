@@ -4,7 +4,10 @@ use Rattle.std.specs.Prelude.{flat_map}
 use Rattle.std.specs.List.{slice_get}
 use Rattle.std.proofs.lemmas.List.Concat.{flat_map-append}
 use Rattle.enet_codec.specs.declared.address.Addr.{Addr}
+use Rattle.enet_codec.specs.declared.command.Offer.{Offer}
 use Rattle.enet_codec.specs.declared.event.PeerRef.{PeerRef}
+use Rattle.enet_connect.specs.Verification.{verification_of}
+use Rattle.enet_senders.specs.declared.control.Control.TheVariants as control
 use Rattle.enet_host.specs.Host.{Host, Keeps, slot_named, peer_in, named}
 use Rattle.enet_host.specs.Calls.{address_in, address_of, address_named}
 use Rattle.enet_peer.specs.declared.parts.PeerState.TheVariants as state
@@ -25,7 +28,7 @@ use Rattle.law_network.proofs.OneCall.{one-call}
 use Rattle.law_network.proofs.Slots.{held, freed-in}
 use Rattle.law_one_end.specs.OneEnd.{OneEnd, Event, Runs, beginning}
 use Rattle.law_one_end.specs.Law.{HasOneLife, IsHeard, OfEachRun, OfEachAnswering, OfEachAsking}
-use Rattle.law_one_end.specs.Sent.{IsSent}
+use Rattle.law_one_end.specs.Sent.{IsSent, TellsSlot}
 use Rattle.law_one_end.specs.Hosts.{told_by, accepted_by, brought_by, given_by, message_in, event_in, CameBy, AreOf, StaysAt, IsEnd, IsNobody, EachIsOneEnd}
 use Rattle.law_one_end.specs.Confirmed.{IsToldConfirmed}
 use Rattle.law_one_end.proofs.Confirming.{answering-confirmed}
@@ -33,6 +36,7 @@ use Rattle.law_one_end.proofs.Calls.{AddsNothing, adds-nothing, Adds, adds, came
 use Rattle.law_one_end.proofs.Deeds.{told_in, accepted_in, given_in, Led, led-nothing, led-both, led-deeds}
 use Rattle.law_one_end.proofs.Laws.{answering-heard, asking-heard}
 use Rattle.law_one_end.proofs.Lives.{answering-life, asking-life}
+use Rattle.law_one_end.proofs.Queues.{tells-slot, one-queued}
 use Rattle.law_one_end.proofs.SentRuns.{answering-sent, asking-sent}
 
 -- where nobody has a name
@@ -254,6 +258,17 @@ by-answer c h i s t (answers from bytes commands header o is read stranger offer
     subst (λ (x : Peering). IsToldConfirmed x events e) same
     (answering-confirmed h.clock (drawn_for h.config i s).offsets o (server_from h.config i s o) (limits_of h.config) events e (subst (λ (x : Peering). Runs events (beginning x) e) (sym same) runs))
 
+-- and its answer tells its slot
+by-slot : (c : Call) (h : Common) (i : ℕ) (s t : SlotState) → Begins c h i s t → (p : Peering) → t.peer ≡ Some p → OfEachRun p (TellsSlot i)
+by-slot c h i s t (asks address channels info word is some at) p has =
+    let offer : Offer = offer_from h.config i s (record { address = address; channels = channels; info = info; word = word }) in
+    let q : Peering = connecting h.clock (drawn_for h.config i s).offsets.time offer (limits_of h.config) in
+    subst (λ (x : Peering). OfEachRun x (TellsSlot i)) (one-peer (Some q) q p refl has) (λ events e runs. tells-slot i q events e (one-queued i 0 (control.Connect offer) tt) runs)
+by-slot c h i s t (answers from bytes commands header o is read stranger offer taken new at) p has =
+    let q : Peering = answering h.clock (drawn_for h.config i s).offsets o (server_from h.config i s o) (limits_of h.config) in
+    subst (λ (x : Peering). OfEachRun x (TellsSlot i)) (one-peer (Some q) q p refl has)
+    (λ events e runs. tells-slot i q events e (one-queued i (drawn_for h.config i s).offsets.number (control.VerifyConnect (verification_of o (server_from h.config i s o))) refl) runs)
+
 -- the first call, and more
 
 none-before : {X : Type 0} (a b c : List X) → a ≡ [] → c ≡ b → c ≡ a ++ b
@@ -278,6 +293,7 @@ end-begins name c cs old new steps p none nobody first l stays =
       stays = ((λ b e. nowhere old.slots name b nobody e), stays);
       life = by-beginning (HasOneLife false) asking-life answering-life c (common_of old) name.slot first.slot first.given first.begins p first.peer (flat_map event_in l.deeds) k.end k.runs;
       heard = by-beginning IsHeard asking-heard answering-heard c (common_of old) name.slot first.slot first.given first.begins p first.peer (flat_map event_in l.deeds) k.end k.runs;
+      slot = by-slot c (common_of old) name.slot first.slot first.given first.begins p first.peer (flat_map event_in l.deeds) k.end k.runs;
       sent = by-beginning IsSent asking-sent answering-sent c (common_of old) name.slot first.slot first.given first.begins p first.peer (flat_map event_in l.deeds) k.end k.runs;
       confirmed = λ on. by-answer c (common_of old) name.slot first.slot first.given first.begins p first.peer on (flat_map event_in l.deeds) k.end k.runs;
     }
@@ -298,6 +314,7 @@ end-more name c cs old new steps none nobody k = record {
   life = k.life;
   heard = k.heard;
   sent = k.sent;
+  slot = k.slot;
   confirmed = k.confirmed;
 }
 

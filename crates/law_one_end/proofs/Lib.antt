@@ -10,8 +10,9 @@ pub mod Laws
 pub mod Lives
 pub mod Sending
 pub mod PuttingOut
-pub mod SentRuns
 pub mod Confirming
+pub mod Queues
+pub mod SentRuns
 pub mod Datagrams
 pub mod Refuting
 pub mod ExampleRuns

@@ -28,7 +28,7 @@ use Rattle.law_network.specs.Network.{is_same_name}
 use Rattle.law_one_end.specs.OneEnd.{OneEnd, Event, Submit, Emit, Come, Tick, Take, Disconnect, Set, GiveWay, TellAgain, Runs, beginning}
 use Rattle.law_one_end.specs.Datagrams.{Begins}
 use Rattle.law_one_end.specs.Law.{HasOneLife, IsHeard}
-use Rattle.law_one_end.specs.Sent.{IsSent}
+use Rattle.law_one_end.specs.Sent.{IsSent, TellsSlot}
 use Rattle.law_one_end.specs.Confirmed.{IsToldConfirmed}
 
 -- what a call told the user of the peer of this name
@@ -105,7 +105,7 @@ event_in d = []
 
 -- the peer of this name began by one of these calls, at an address where it stayed, and is one end since: what happens there is what fell to
 -- it. All that the user was told of it, which is one life, and all that it accepted is that end's, and all that it put out went to that address.
--- If it answered, its user was told of the connection only once the answer was confirmed
+-- If it answered, its user was told of the connection only once the answer was confirmed, and the answer tells the slot of its name
 pub record IsEnd (name : PeerRef) (cs : List Call) (series : Series cs) : Type 0 where
   pub address : Addr
   pub first : Peering
@@ -120,6 +120,7 @@ pub record IsEnd (name : PeerRef) (cs : List Call) (series : Series cs) : Type 0
   pub life : HasOneLife false end
   pub heard : IsHeard end
   pub sent : IsSent end
+  pub slot : TellsSlot name.slot end
   pub confirmed : first.state ≡ state.Answering → IsToldConfirmed first (flat_map event_in deeds) end
 
 -- or nobody was called so: nothing was told of it, submitted to it or put out by it

@@ -97,7 +97,7 @@ pub fn a_datagram_comes_as_commands()
 /// life; what it accepted is that end's, too. So the laws above hold of it. What happens at that end is, call by call, what fell to the
 /// peer (`FellAll` of `law_network`), and no more. The commands that came to it are, in order, those at the fronts of the datagrams that
 /// came since, from that address and with the number of its slot in their headers. Each datagram that it put out went there, and has the
-/// commands that the end put out, in order.
+/// commands that the end put out, in order. If one of these is a server's answer (VERIFY_CONNECT), it tells the client that slot (`slot`).
 pub fn each_peer_of_a_host(host: &HostCore)
     ensures { EachIsOneEnd host.now }
 {
