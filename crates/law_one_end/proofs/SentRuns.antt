@@ -2,7 +2,9 @@
 use Rattle.std.proofs.Common.{◌≡◌, ℕ, ◌+◌, true, false, List, [], ◌∷◌, map, refl, sym, ap, subst, ◌∙◌, Some, zero, suc, arith}
 use Rattle.std.specs.List.{slice_get, range_with_len}
 use Rattle.enet_connect.specs.Terms.{granted}
-use Rattle.enet_connect.specs.Verification.{asked}
+use Rattle.enet_connect.specs.Verification.{asked, verification_of}
+use Rattle.enet_senders.specs.declared.control.Control.TheVariants as control
+use Rattle.enet_senders.specs.Controlling.{nothing_controlled}
 use Rattle.enet_sender.specs.Sender.{nothing_sent}
 use Rattle.enet_sender.specs.Due.{SendingEnd, new_end}
 use Rattle.enet_peer.specs.Peering.{Peering, joined, connecting, answering}
@@ -11,6 +13,7 @@ use Rattle.law_connection.proofs.PeerChanges.{kept-moved, kept-left, kept-set, k
 use Rattle.law_one_end.specs.OneEnd.{OneEnd, Event, Submit, Emit, Come, Tick, Take, Disconnect, Set, GiveWay, TellAgain, Happens, Runs, beginning}
 use Rattle.law_one_end.specs.Law.{OfEachRun, OfEachAnswering, OfEachAsking, OfEachJoined}
 use Rattle.law_one_end.specs.Sent.{IsSent}
+use Rattle.law_one_end.proofs.Queues.{QueuesAt, goes-loose, none-queued, one-queued}
 use Rattle.law_one_end.proofs.PuttingOut.{Sends, changes, sends-emitted, sends-submitted, sends-nothing}
 
 abbrev Kept : OneEnd → Type 0
@@ -40,16 +43,17 @@ new-senders a zero i s e = cc
 new-senders a (suc n) zero s e = (let is : new_end a ≡ s = (let f : Some (new_end a) ≡ Some s = e in cc) in (ap (λ (x : SendingEnd). x.channel) (sym is) ∙ (let z : a ≡ a + 0 = omega arith in z), ap (λ (x : SendingEnd). x.sender) (sym is)))
 new-senders a (suc n) (suc i) s e = (let r = new-senders (a + 1) n i s e in (r.0 ∙ (let z : a + 1 + i ≡ a + suc i = omega arith in z), r.1))
 
-sent-runs : (p : Peering) (channels : ℕ) → p.outbox.senders ≡ map new_end (range_with_len 0 channels) → OfEachRun p IsSent
-sent-runs p channels is events e r =
+sent-runs : (p : Peering) (channels slot : ℕ) → p.outbox.senders ≡ map new_end (range_with_len 0 channels) → QueuesAt [] slot p → OfEachRun p IsSent
+sent-runs p channels slot is queues events e r =
     let k : Kept e = kept-runs events (beginning p) e r (sends-nothing p (λ i s there. (let x = new-senders 0 channels i s (ap (λ l. slice_get l i) (sym is) ∙ there) in (x.0 ∙ (let z : 0 + i ≡ i = omega arith in z), x.1)))) in
-    k.logged
+    record { meant = k.logged; loose = goes-loose slot p events e queues r }
 
 pub answering-sent : OfEachAnswering IsSent
-answering-sent now offsets offer server limits = sent-runs (answering now offsets offer server limits) (granted offer server).channels refl
+answering-sent now offsets offer server limits = sent-runs (answering now offsets offer server limits) (granted offer server).channels server.slot refl
+    (one-queued server.slot offsets.number (control.VerifyConnect (verification_of offer server)) refl)
 
 pub asking-sent : OfEachAsking IsSent
-asking-sent now offset offer limits = sent-runs (connecting now offset offer limits) (asked offer).channels refl
+asking-sent now offset offer limits = sent-runs (connecting now offset offer limits) (asked offer).channels 0 refl (one-queued 0 0 (control.Connect offer) tt)
 
 pub joined-sent : OfEachJoined IsSent
-joined-sent now terms limits = sent-runs (joined now terms limits) terms.channels refl
+joined-sent now terms limits = sent-runs (joined now terms limits) terms.channels 0 refl (none-queued 0 [] (nothing_controlled 1) refl refl refl)

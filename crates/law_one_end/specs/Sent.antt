@@ -2,7 +2,7 @@
 use Rattle.std.specs.Prelude.{◌≡◌, ℕ, ◌%◌, List, Some}
 use Rattle.enet_codec.specs.declared.command.Verify.{Verify}
 use Rattle.enet_codec.specs.declared.packet.Packet.{Packet}
-use Rattle.enet_codec.specs.Message.{Message, verify_connect}
+use Rattle.enet_codec.specs.Message.{Message, send_unsequenced, verify_connect}
 use Rattle.enet_fragment.specs.declared.data.DataCommand.{DataCommand}
 use Rattle.enet_fragment.specs.DataCommand.{data_of}
 use Rattle.enet_receiver.specs.Members.{Has}
@@ -22,9 +22,11 @@ pub record IsMeant (mtu : ℕ) (cs : List ChosenPacket) (c : DataCommand) : Type
 abbrev pub HasLoose : List Packet → ℕ → List ℕ → Type 0
 HasLoose qs channel body = (q : Packet) × Has qs q × (q.channel ≡ channel) × (q.body ≡ body) × (q.flags % 4 ≡ 2)
 
--- each sequenced data command that was put out is one of the packets' that were submitted on its channel
-abbrev pub IsSent : OneEnd → Type 0
-IsSent e = (m : Message) (c : DataCommand) → Has e.put m → data_of m ≡ Some c → IsMeant e.peer.terms.mtu (carried e.peer.terms.mtu (of_channel e.peer.terms.mtu m.head.channel e.submitted)) c
+pub record IsSent (e : OneEnd) : Type 0 where
+  -- each sequenced data command that was put out is one of the packets' that were submitted on its channel
+  pub meant : (m : Message) (c : DataCommand) → Has e.put m → data_of m ≡ Some c → IsMeant e.peer.terms.mtu (carried e.peer.terms.mtu (of_channel e.peer.terms.mtu m.head.channel e.submitted)) c
+  -- and what was put out unsequenced was submitted to go so
+  pub loose : (m : Message) (group : ℕ) (body : List ℕ) → Has e.put m → m.body ≡ send_unsequenced group body → HasLoose e.submitted m.head.channel body
 
 -- a server's answer that was put out tells its client this slot, to which the client sends from then on
 abbrev pub TellsSlot : ℕ → OneEnd → Type 0

@@ -9,7 +9,7 @@
 //!
 //! Proved: what the user takes is one life (`events_are_one_life`), and was carried by what came, in order, each packet whole and each
 //! reliable number once; where the other end keeps the rules of the wire it follows what that end sent (`what_is_taken`). That rules
-//! something out (`false_takes_are_refuted`). Each data command that goes is of what the user submitted, under its number
+//! something out (`false_takes_are_refuted`). Each data command that goes is of what the user submitted, a sequenced one under its number
 //! (`what_is_put_out`). A server's user is told of a client only once that confirmed the server's answer (`who_is_told`). A run in which a
 //! packet is taken does happen (`runs_happen`). A datagram that comes is such events (`a_datagram_comes_as_commands`). Each peer of a host
 //! is such an end, by the calls of the host and what came from where the peer is (`each_peer_of_a_host`). Not promised: that an unsequenced
@@ -65,7 +65,7 @@ pub fn events_are_one_life()
 /// What an end puts out, over the same lists of events: each sequenced data command is a piece of a packet that its user submitted on that
 /// channel, in the form in which that packet is carried and under the number that its place in the order of submission gives it, whatever
 /// acknowledgements come. So the numbers, modulo 65,536, tell the other end the order of submission, and no command goes under a number that
-/// isn't its place's.
+/// isn't its place's. Each unsequenced one has a packet that its user submitted on that channel to go so, whole (`loose` of `IsSent`).
 pub fn what_is_put_out()
     ensures answering { OfEachAnswering IsSent }
     ensures asking { OfEachAsking IsSent }
