@@ -1,5 +1,5 @@
 -- Counts and last places, one step further.
-use Rattle.std.proofs.Common.{◌≡◌, ◌<◌, ◌+◌, ℕ, suc, Bool, true, false, List, length, Option, Some, None, get_or, ap, ◌∙◌, add-one, arith, if◌then◌else◌, below_more}
+use Rattle.std.proofs.Common.{◌≡◌, ◌<◌, ◌+◌, ℕ, Bool, true, false, List, length, Option, Some, None, get_or, ap, arith, below_more}
 use Rattle.std.proofs.lemmas.Option.{slice_get-get_or}
 use Rattle.enet_codec.specs.declared.address.Addr.{Addr}
 use Rattle.enet_captured.specs.declared.timeline.Connection.{Connection}

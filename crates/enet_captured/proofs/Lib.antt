@@ -1,5 +1,6 @@
 pub mod Steps
 pub mod CountLemmas
+pub mod DelayLemmas
 pub mod GapLemmas
 pub mod TableLemmas
 pub mod LinkLemmas

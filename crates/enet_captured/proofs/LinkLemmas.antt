@@ -1,12 +1,12 @@
 -- What leads from one command to another, by lists.
-use Rattle.std.proofs.Common.{◌≡◌, ◌<◌, ◌+◌, ℕ, Bool, true, false, List, ◌∷◌, length, take, map, get_or, Option, Some, None, refl, sym, ap, subst, ◌∙◌, arith, if◌then◌else◌, slice_get, count_by}
+use Rattle.std.proofs.Common.{◌≡◌, ◌<◌, ◌+◌, ℕ, Bool, true, false, List, length, take, map, get_or, Option, refl, sym, ap, subst, ◌∙◌, arith, if◌then◌else◌, count_by}
 use Rattle.std.proofs.lemmas.List.{length-map}
 use Rattle.std.proofs.lemmas.Option.{slice_get-get_or}
 use Rattle.std.proofs.lemmas.List.Sums.{count_by_more_yes, count_by_more_no}
 use Rattle.enet_captured.specs.declared.timeline.Way.{Way}
 use Rattle.enet_captured.specs.declared.timeline.Way.TheVariants.{Right, Left}
 use Rattle.enet_captured.specs.declared.timeline.Mark.{Mark}
-use Rattle.enet_captured.specs.Sends.{Key, key_of, at, new_at, acknowledged_key, send_key, command_key, last_of, near, first_to, unless_seen, turn, turn_among, asks_on, seen_before, went_before, belongs_to}
+use Rattle.enet_captured.specs.Sends.{Key, at, new_at, acknowledged_key, send_key, command_key, last_of, near, first_to, unless_seen, turn, turn_among, asks_on, seen_before, went_before, belongs_to}
 use Rattle.enet_captured.specs.Private.Tables.{IsTable, by_way, item, turn_at}
 use Rattle.enet_captured.proofs.TableLemmas.{table_as, item_at, turn_in, item_mapped, near_last_same, last_of_same, first_to_same}
 

@@ -1,6 +1,6 @@
 -- One command more of a datagram.
-use Rattle.std.proofs.Common.{◌≡◌, ◌≢◌, ℕ, ◌+◌, ◌≤◌, ◌<◌, List, [], ◌∷◌, ◌++◌, length, map, take, drop, Option, Some, None, Result, Ok, Err, IfOk, refl, sym, ap, subst, ◌∙◌, append_assoc, append-nil, length-append, length-drop, arith, true, false}
-use Rattle.std.proofs.lemmas.List.{take-append-drop, drop-drop, drop_all, length-take-le}
+use Rattle.std.proofs.Common.{◌≡◌, ◌≢◌, ℕ, ◌+◌, ◌≤◌, ◌<◌, List, [], ◌∷◌, ◌++◌, length, take, drop, Option, Some, None, Result, Ok, Err, IfOk, refl, sym, ap, subst, ◌∙◌, append_assoc, length-drop, arith, true, false}
+use Rattle.std.proofs.lemmas.List.{take-append-drop, drop-drop, drop_all}
 use Rattle.enet_codec.specs.declared.stop.Stop.{Stop}
 use Rattle.enet_codec.specs.declared.stop.Stop.TheVariants as stop
 use Rattle.enet_codec.specs.declared.header.Header.{Header}

@@ -1,12 +1,12 @@
 -- Lists that have what a function gives for each place.
-use Rattle.std.proofs.Common.{◌≡◌, ◌<◌, ◌≤◌, ◌+◌, ℕ, zero, suc, Bool, true, false, List, [], ◌∷◌, ◌++◌, length, map, get_or, Option, Some, None, refl, sym, ap, ◌∙◌, arith, if◌then◌else◌, below_more, length-append, slice_get, nat_le, ◌-◌}
+use Rattle.std.proofs.Common.{◌≡◌, ◌<◌, ◌+◌, ℕ, zero, suc, Bool, true, false, List, [], ◌∷◌, ◌++◌, length, map, Option, Some, None, refl, sym, ap, ◌∙◌, arith, if◌then◌else◌, below_more, length-append, slice_get, nat_le, ◌-◌}
 use Rattle.std.proofs.Math.ListN.{get_or-append}
 use Rattle.std.proofs.Math.Seq.{get_or-append_seam}
 use Rattle.std.proofs.lemmas.List.{length_push}
 use Rattle.std.proofs.lemmas.Option.{slice_get-get_or, slice_get-map, get_or_from_slice_get}
 use Rattle.std.specs.Option.{option_map, unwrap_or}
 use Rattle.enet_captured.specs.declared.timeline.Mark.{Mark}
-use Rattle.enet_captured.specs.Sends.{Key, key_of, at, is_key, last_with, last_of, near, leads_to, or_here, first_to, unless_seen}
+use Rattle.enet_captured.specs.Sends.{Key, key_of, at, is_key, last_with, last_of, near, leads_to, or_here, first_to}
 use Rattle.enet_captured.specs.Private.Tables.{IsTable, flat, item, turn_at}
 
 read_front : {A : Type 0} (xs ys : List A) (k : ℕ) (x : A) → slice_get xs k ≡ Some x → k < length xs → slice_get (xs ++ ys) k ≡ Some x

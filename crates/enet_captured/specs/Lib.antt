@@ -6,4 +6,5 @@ pub mod Parts
 pub mod Gaps
 pub mod Sends
 pub mod Fates
+pub mod Delays
 pub mod Private

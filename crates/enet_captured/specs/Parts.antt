@@ -5,6 +5,8 @@ use Rattle.enet_captured.specs.declared.timeline.Mark.{Mark}
 use Rattle.enet_captured.specs.declared.timeline.Timeline.{Timeline}
 use Rattle.enet_captured.specs.declared.filter.Filter.{Filter}
 use Rattle.enet_captured.specs.declared.part.Part.{Part}
+use Rattle.enet_captured.specs.declared.timeline.Way.TheVariants.{Right, Left}
+use Rattle.enet_captured.specs.Delays.{delays_to}
 use Rattle.enet_captured.specs.Fates.{marked_as}
 use Rattle.enet_captured.specs.Filters.{is_asked, mark_passes, seen_passes}
 
@@ -22,13 +24,16 @@ marks_of t index = filter (mark_in index) t.marks.items
 abbrev pub seen_of : Timeline → Filter → ℕ → List Seen
 seen_of t f index = filter (seen_passes f t.begun (marks_of t index)) (filter (seen_in index) t.seen.items)
 
--- What of a connection passes. What became of a datagram all commands of the connection tell, those that don't pass, too.
+-- What of a connection passes. What became of a datagram, and how soon what goes each way is acknowledged, all commands of the connection
+-- tell, those that don't pass, too.
 pub record IsPart (t : Timeline) (f : Filter) (index : ℕ) (part : Part) : Type 0 where
   pub index_is : part.index ≡ index
   pub connection_is : slice_get t.connections.items index ≡ Some part.connection
   pub seen_are : part.seen.items ≡ seen_of t f index
   pub marks_are : part.marks.items ≡ filter (mark_passes f t.begun) (marks_of t index)
   pub marked_are : part.marked.items ≡ map (marked_as (marks_of t index)) part.seen.items
+  pub right_is : part.right ≡ delays_to (marks_of t index) Right (length (marks_of t index))
+  pub left_is : part.left ≡ delays_to (marks_of t index) Left (length (marks_of t index))
 
 -- A connection is shown if it is asked for, and one of its datagrams passes.
 abbrev pub is_shown : Timeline → Filter → ℕ → Bool

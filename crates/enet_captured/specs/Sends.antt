@@ -2,7 +2,7 @@
 --
 -- A *send* is a command that asks for an acknowledgement, in one datagram: it goes by its way, channel and number, and by the time at which
 -- the datagram was sent. An ACKNOWLEDGE belongs to the last send before it that went the other way with its channel, number and sent time.
-use Rattle.std.specs.Prelude.{◌+◌, ◌-◌, ◌==◌, ◌&&◌, ℕ, zero, suc, nat_le, Bool, false, if◌then◌else◌, List, length, take, count_by, slice_get, Option, Some, None, is_some}
+use Rattle.std.specs.Prelude.{◌-◌, ◌==◌, ◌&&◌, ℕ, zero, suc, nat_le, Bool, false, if◌then◌else◌, List, length, take, count_by, slice_get, Option, Some, None, is_some}
 use Rattle.enet_captured.specs.declared.timeline.Way.{Way}
 use Rattle.enet_captured.specs.declared.timeline.Way.TheVariants.{Right, Left}
 use Rattle.enet_captured.specs.declared.timeline.Mark.{Mark}

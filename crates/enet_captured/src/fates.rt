@@ -112,13 +112,50 @@ impl Outcome {
     }
 }
 
+impl Marked {
+    // Whether it goes one way and is of one case.
+    fn has_ended(self, way: Way, outcome: Outcome) -> bool
+        ensures { result ≡ has_ended way outcome self }
+    {
+        self.seen.way.is(way) && self.fate.outcome().is(outcome)
+    }
+
+    // Whether it goes one way and has a command that was sent before.
+    fn was_resent(self, way: Way) -> bool
+        ensures { result ≡ was_resent way self }
+    {
+        self.seen.way.is(way) && self.fate.went_before
+    }
+
+    // Whether it goes one way and was sent again too early.
+    fn was_early(self, way: Way) -> bool
+        ensures { result ≡ was_early way self }
+    {
+        self.seen.way.is(way) && self.fate.is_early
+    }
+
+    // Whether it goes one way and acknowledges what is sent again all the same.
+    fn was_in_vain(self, way: Way) -> bool
+        ensures { result ≡ was_in_vain way self }
+    {
+        self.seen.way.is(way) && self.fate.is_in_vain
+    }
+
+    // Whether it goes one way and is known to have never been delivered.
+    fn was_lost(self, way: Way) -> bool
+        ensures { result ≡ was_lost way self }
+    {
+        self.seen.way.is(way) && self.seen.is_lost
+    }
+}
+
 /// How many of these datagrams go one way and are of one case.
 pub fn ended(marked: &[Marked], way: Way, outcome: Outcome) -> usize
     ensures { result ≡ count_by (has_ended way outcome) marked.now }
 {
     marked
         .iter()
-        .filter(|one| one.seen.way.is(way) && one.fate.outcome().is(outcome))
+        .filter(|one| one.has_ended(way, outcome))
         .count()
 }
 
@@ -126,47 +163,49 @@ pub fn ended(marked: &[Marked], way: Way, outcome: Outcome) -> usize
 pub fn resent(marked: &[Marked], way: Way) -> usize
     ensures { result ≡ count_by (was_resent way) marked.now }
 {
-    marked
-        .iter()
-        .filter(|one| one.seen.way.is(way) && one.fate.went_before)
-        .count()
+    marked.iter().filter(|one| one.was_resent(way)).count()
 }
 
 /// How many go one way and were sent again too early.
 pub fn early(marked: &[Marked], way: Way) -> usize
     ensures { result ≡ count_by (was_early way) marked.now }
 {
-    marked
-        .iter()
-        .filter(|one| one.seen.way.is(way) && one.fate.is_early)
-        .count()
+    marked.iter().filter(|one| one.was_early(way)).count()
 }
 
 /// How many go one way and acknowledge what is sent again all the same.
 pub fn in_vain(marked: &[Marked], way: Way) -> usize
     ensures { result ≡ count_by (was_in_vain way) marked.now }
 {
-    marked
-        .iter()
-        .filter(|one| one.seen.way.is(way) && one.fate.is_in_vain)
-        .count()
+    marked.iter().filter(|one| one.was_in_vain(way)).count()
 }
 
 /// How many go one way of which it is known that they were never delivered.
 pub fn lost(marked: &[Marked], way: Way) -> usize
     ensures { result ≡ count_by (was_lost way) marked.now }
 {
-    marked
-        .iter()
-        .filter(|one| one.seen.way.is(way) && one.seen.is_lost)
-        .count()
+    marked.iter().filter(|one| one.was_lost(way)).count()
 }
 
 /// The datagrams of a connection, in order, with what became of each by their commands, in order. An error where there is no memory for it.
 pub fn mark_all(alloc: Global, seen: &[Seen], marks: &[Mark]) -> Result<Vec<Marked>, AllocError>
     ensures { IfOk result (λ found. found.items ≡ map (marked_as marks.now) seen.now) }
 {
-    let fates = fates_of(alloc, marks)?;
+    let links = links_of(alloc, marks)?;
+    mark_by(alloc, seen, marks, &links)
+}
+
+/// The same, by what leads from the commands to others of them.
+pub(crate) fn mark_by(
+    alloc: Global,
+    seen: &[Seen],
+    marks: &[Mark],
+    links: &Links,
+) -> Result<Vec<Marked>, AllocError>
+    requires { AreLinks marks.now links.now }
+    ensures { IfOk result (λ found. found.items ≡ map (marked_as marks.now) seen.now) }
+{
+    let fates = fates_by(alloc, marks, links)?;
     let mut found = Vec::new(alloc);
     for one in seen {
         found.push(Marked {
@@ -185,14 +224,14 @@ fn fate_in(fates: &BTreeMap<u64, Fate>, datagram: u64) -> Fate
 }
 
 // The fates of all datagrams that have commands.
-fn fates_of(alloc: Global, marks: &[Mark]) -> Result<BTreeMap<u64, Fate>, AllocError>
+fn fates_by(alloc: Global, marks: &[Mark], links: &Links) -> Result<BTreeMap<u64, Fate>, AllocError>
+    requires { AreLinks marks.now links.now }
     ensures { IfOk result (λ fates. (datagram : ℕ) → unwrap_or (tree.get nat_cmp fates datagram) nothing ≡ fate_of marks.now datagram) }
 {
-    let links = links_of(alloc, marks)?;
     let mut fates = BTreeMap::new(alloc);
     for place in 0..marks.len() {
         let datagram = marks[place].datagram;
-        let fate = fate_in(&fates, datagram).join(fate_at(marks, &links, place));
+        let fate = fate_in(&fates, datagram).join(fate_at(marks, links, place));
         fates.insert(datagram, fate)?;
     }
     Ok(fates)

@@ -4,7 +4,8 @@
 //! became of each of a connection's datagrams by all its commands, those that don't pass, too (`mark_all`, by `fate_of`): which commands
 //! are one send, which repeat one, which send an acknowledgement belongs to (specs/Sends), and which datagrams were acknowledged, sent
 //! again without that, too early, or all the same (specs/Fates, `outcome`); how many these are (`ended`, `resent`, `early`, `in_vain`);
-//! what answers a command (`answers`); how many commands are of a kind, and how many datagrams go one way or can't be read (`count_of`,
+//! how soon what goes each way is acknowledged (`IsPart`, by `delays_to`), and at which end the capture seems to have been made by that
+//! (`made_at`); what answers a command (`answers`); how many commands are of a kind, and how many datagrams go one way or can't be read (`count_of`,
 //! `going`, `stopped_by`); the longest gap (`longest_gap`, by `IsLongest`). Of the steps of `read_timeline`, by those of specs/Private:
 //! which commands a datagram says, and why the rest can't be read (`read_commands`, by `Says`), and its sent time (`sent_in`); what is kept
 //! of a command (`told_of`), and that those of a datagram stand behind one another (`push_marks`); when it was captured (`moment_of`);
@@ -18,6 +19,7 @@
 
 mod connections;
 mod counting;
+mod delays;
 mod fates;
 mod fault;
 mod filter;
@@ -29,6 +31,7 @@ mod timeline;
 mod told;
 
 pub use counting::{answers, count_of, going, is_same, longest_gap, stopped_by};
+pub use delays::{Delays, made_at};
 pub use fates::{Fate, Marked, Outcome, early, ended, in_vain, lost, mark_all, resent};
 pub use fault::TimelineFault;
 pub use filter::Filter;

@@ -5,9 +5,11 @@ ghost use Rattle.enet_captured.specs.declared.part.Part.{Part};
 ghost use Rattle.enet_captured.specs.Filters.{seen_passes};
 ghost use Rattle.enet_captured.specs.Parts.{AreParts, IsPart, IsTold, mark_in, seen_in};
 
-use crate::fates::{Marked, mark_all};
+use crate::delays::{Delays, delays_to};
+use crate::fates::{Marked, mark_by};
 use crate::filter::{Filter, marks_passing, seen_passing};
-use crate::timeline::{Connection, Mark, Seen, Timeline};
+use crate::sends::links_of;
+use crate::timeline::{Connection, Mark, Seen, Timeline, Way};
 use std::alloc::{AllocError, Global};
 
 /// What of a connection passes a filter.
@@ -22,6 +24,10 @@ pub struct Part {
     pub marks: Vec<Mark>,
     /// These datagrams with what became of them, as all commands of the connection tell.
     pub marked: Vec<Marked>,
+    /// How soon what goes to the right is acknowledged, as all commands of the connection tell.
+    pub right: Delays,
+    /// How soon what goes to the left is.
+    pub left: Delays,
 }
 
 /// What passes a filter of each connection that it asks for and of which a datagram passes, in order. An error where there is no memory for it.
@@ -70,7 +76,10 @@ fn part_of(
     let all = marks_of(alloc, timeline.marks.as_slice(), index)?;
     let seen = seen_of(alloc, timeline, asked, index, all.as_slice())?;
     let marks = marks_passing(alloc, all.as_slice(), asked, timeline.begun)?;
-    let marked = mark_all(alloc, seen.as_slice(), all.as_slice())?;
+    let links = links_of(alloc, all.as_slice())?;
+    let marked = mark_by(alloc, seen.as_slice(), all.as_slice(), &links)?;
+    let right = delays_to(all.as_slice(), &links, Way::Right);
+    let left = delays_to(all.as_slice(), &links, Way::Left);
     let connection = timeline.connections[index];
     Ok(Part {
         index,
@@ -78,6 +87,8 @@ fn part_of(
         seen,
         marks,
         marked,
+        right,
+        left,
     })
 }
 

@@ -1,4 +1,4 @@
-use Rattle.std.proofs.Common.{◌≡◌, ◌+◌, ℕ, Option, sym, subst, ◌∙◌}
+use Rattle.std.proofs.Common.{◌+◌, ℕ, Option, sym, subst, ◌∙◌}
 use Rattle.enet_captured.specs.Private.Belonging.{IsLast, is_between_at}
 use Rattle.enet_captured.proofs.CountLemmas.{at_read, last_before, last_here}
 use Rattle.enet_captured.proofs.connections.last_between.Goals as goal

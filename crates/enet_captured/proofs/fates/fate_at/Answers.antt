@@ -1,4 +1,4 @@
-use Rattle.std.proofs.Common.{◌≡◌, ◌<◌, ◌∙◌, ℕ, Some, length, sym, ap, arith}
+use Rattle.std.proofs.Common.{◌≡◌, ◌<◌, ◌∙◌, length, sym, ap, arith}
 use Rattle.enet_captured.specs.Sends.{at, acknowledged_key, command_key, new_at, send_key, seen_before, went_before, belongs_to, goes_again, is_acknowledged, turn}
 use Rattle.enet_captured.specs.Fates.{leads_behind}
 use Rattle.enet_captured.proofs.TableLemmas.{last_of_below, near_last_below}

@@ -1,7 +1,9 @@
-use Rattle.std.proofs.Common.{◌≡◌, ◌∙◌, List, Some, ap, filter, map, refl, sym}
+use Rattle.std.proofs.Common.{◌≡◌, ◌∙◌, List, Some, ap, filter, length, map, refl, sym}
 use Rattle.std.proofs.lemmas.Option.{slice_get-get_or}
 use Rattle.enet_captured.specs.declared.timeline.Mark.{Mark}
 use Rattle.enet_captured.specs.declared.timeline.Seen.{Seen}
+use Rattle.enet_captured.specs.declared.timeline.Way.TheVariants.{Right, Left}
+use Rattle.enet_captured.specs.Delays.{delays_to}
 use Rattle.enet_captured.specs.Fates.{marked_as}
 use Rattle.enet_captured.specs.Filters.{mark_passes, seen_passes}
 use Rattle.enet_captured.specs.Parts.{mark_in, marks_of, seen_in}
@@ -18,6 +20,8 @@ returns c =
       connection_is = slice_get-get_or t.connections.items c.args.index _ c.requires ∙ ap Some (sym c.index-connection.ensures);
       seen_are = c.in_ok-seen.ensures ∙ ap (λ (l : List Mark). filter (seen_passes asked t.begun l) here) (c.as_slice-2.ensures.value ∙ all);
       marks_are = c.in_ok-marks.ensures ∙ ap (filter (mark_passes asked t.begun)) (c.as_slice-3.ensures.value ∙ all);
-      marked_are = c.in_ok-marked.ensures ∙ ap (λ (l : List Mark). map (marked_as l) c.as_slice-4.result.now) (c.as_slice-5.ensures.value ∙ all)
-          ∙ ap (map (marked_as (marks_of t c.args.index))) c.as_slice-4.ensures.value;
+      marked_are = c.in_ok-marked.ensures ∙ ap (λ (l : List Mark). map (marked_as l) c.as_slice-5.result.now) (c.as_slice-6.ensures.value ∙ all)
+          ∙ ap (map (marked_as (marks_of t c.args.index))) c.as_slice-5.ensures.value;
+      right_is = c.delays_to-right.ensures ∙ ap (λ (l : List Mark). delays_to l Right (length l)) (c.as_slice-7.ensures.value ∙ all);
+      left_is = c.delays_to-left.ensures ∙ ap (λ (l : List Mark). delays_to l Left (length l)) (c.as_slice-8.ensures.value ∙ all);
     }

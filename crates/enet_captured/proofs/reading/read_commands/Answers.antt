@@ -1,4 +1,4 @@
-use Rattle.std.proofs.Common.{[], sym, append-nil, ap, subst, Some}
+use Rattle.std.proofs.Common.{[], sym, append-nil, subst, Some}
 use Rattle.enet_captured.specs.Private.Readings.{Says, unread}
 use Rattle.enet_captured.proofs.Steps.{if_ok, is_compressed, is_plain}
 use Rattle.enet_captured.proofs.reading.read_commands.Goals as goal

@@ -1,4 +1,4 @@
-use Rattle.std.proofs.Common.{◌≤◌, ◌++◌, ◌∷◌, List, [], ℕ, Option, Some, None, length, length-drop, drop, refl, sym, ap, subst, append_assoc, append-nil, rules, arith}
+use Rattle.std.proofs.Common.{◌≤◌, ◌++◌, ◌∷◌, List, [], Some, None, length, length-drop, drop, refl, sym, ap, subst, append_assoc, append-nil, rules, arith}
 use Rattle.enet_codec.specs.declared.stop.Stop.TheVariants as stop
 use Rattle.enet_codec.specs.Message.{view}
 use Rattle.enet_captured.specs.declared.told.Told.{Told}

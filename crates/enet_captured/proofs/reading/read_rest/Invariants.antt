@@ -1,4 +1,4 @@
-use Rattle.std.proofs.Common.{length, ◌-◌, ◌≡◌, ◌≤◌, ◌++◌, drop, List, ℕ, Option}
+use Rattle.std.proofs.Common.{length, ◌-◌, ◌≡◌, ◌≤◌, ◌++◌, drop, List, Option}
 use Rattle.enet_codec.specs.declared.stop.Stop.{Stop}
 use Rattle.enet_captured.specs.declared.told.Told.{Told}
 use Rattle.enet_captured.specs.Private.Readings.{SaysRest}

@@ -1,4 +1,4 @@
-use Rattle.std.proofs.Common.{◌≡◌, ◌∙◌, length}
+use Rattle.std.proofs.Common.{◌∙◌, length}
 use Rattle.enet_captured.specs.Sends.{belongs_to, command_key, new_at, seen_before, send_key, turn, went_before}
 use Rattle.enet_captured.proofs.LinkLemmas.{slice_table, seen_is, new_is, went_is, belongs_is, first_is}
 use Rattle.enet_captured.proofs.sends.links_of.Goals as goal

@@ -1,4 +1,4 @@
-use Rattle.std.proofs.Common.{◌≡◌, ◌+◌, ◌∙◌}
+use Rattle.std.proofs.Common.{◌+◌, ◌∙◌}
 use Rattle.enet_captured.specs.declared.timeline.Way.TheVariants.{Right, Left}
 use Rattle.enet_captured.specs.Sends.{asks_on, turn}
 use Rattle.enet_captured.proofs.TableLemmas.{table_more}

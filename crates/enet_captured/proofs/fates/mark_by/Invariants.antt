@@ -1,6 +1,6 @@
 use Rattle.std.proofs.Common.{◌≡◌, map, take}
 use Rattle.enet_captured.specs.Fates.{marked_as}
-use Rattle.enet_captured.proofs.fates.mark_all.Given as goal
+use Rattle.enet_captured.proofs.fates.mark_by.Given as goal
 
 -- the datagrams so far
 abbrev pub invariant-loop-one : goal.invariant-loop-one

@@ -3,7 +3,7 @@ use Rattle.std.specs.BTreeMap as tree
 use Rattle.std.specs.Option.{unwrap_or}
 use Rattle.std.specs.Ordering.{nat_cmp}
 use Rattle.enet_captured.specs.Fates.{fate_at, joined, nothing}
-use Rattle.enet_captured.proofs.fates.fates_of.Given as goal
+use Rattle.enet_captured.proofs.fates.fates_by.Given as goal
 
 -- what is true of the commands so far
 abbrev pub invariant-loop-place : goal.invariant-loop-place

@@ -1,7 +1,7 @@
-use Rattle.std.proofs.Common.{◌≡◌, ◌∙◌, ℕ, length, ap, arith}
+use Rattle.std.proofs.Common.{◌≡◌, ◌∙◌, length, ap, arith}
 use Rattle.enet_captured.specs.Fates.{fate_at, join, joined}
 use Rattle.enet_captured.proofs.FateLemmas.{fates_more}
-use Rattle.enet_captured.proofs.fates.fates_of.Goals as goal
+use Rattle.enet_captured.proofs.fates.fates_by.Goals as goal
 
 pub loop-place-preserved : goal.loop-place-preserved
 loop-place-preserved c = λ q.
