@@ -441,19 +441,29 @@ def small_hosts(script):
 
 def of_address(script):
     """CONNECTs of an address with 1,000 of 4,095 slots, where it may have 8 (half-open clients, or connected ones), and where it may have all."""
+    limited(script, 1000, "its-address")
+
+
+def of_many_addresses(script):
+    """The same where each address has 8 of 4,095 slots at most."""
+    limited(script, 8, "its-eight")
+    script.do("share 1000")
+
+
+def limited(script, sharing, name):
     script.open(PEERS, 1)
-    script.do(f"ask {PEERS} 1 0", "tick 1", "of-address 8")
+    script.do(f"share {sharing}", f"ask {PEERS} 1 0", "tick 1", "of-address 8")
     for number in range(50):
         script.do(f"at {number}", "raw " + connect(5000 + number))
-    script.row("connect-beyond-its-address", kind="stranger")
+    script.row("connect-beyond-" + name, kind="stranger")
     script.open(PEERS, 1)
     script.do(f"join {PEERS} 1", "of-address 8", "at 0", "raw " + connect(5000))
-    script.row("connect-stopped-by-its-address", kind="stranger")
+    script.row("connect-stopped-by-" + name, kind="stranger")
     script.open(PEERS, 1)
     script.do(f"of-address {PEERS}", f"ask {PEERS - 50} 1 0")
     for number in range(50):
         script.do(f"at {number}", "raw " + connect(5000 + number))
-    script.row("connect-below-its-address", kind="stranger")
+    script.row("connect-below-" + name, kind="stranger")
 
 
 def ended(script):
@@ -482,7 +492,7 @@ def look(script):
 
 
 ALL = [strangers, crowded, newcomers, half_open, short_of_room, give_way, in_order, held, kept, pieces, full, full_of_channels]
-ALL += [acknowledged, many_channels, much_waits, crowds, small_hosts, of_address, ended, bandwidths, look]
+ALL += [acknowledged, many_channels, much_waits, crowds, small_hosts, of_many_addresses, of_address, ended, bandwidths, look]
 
 
 def written(chosen):

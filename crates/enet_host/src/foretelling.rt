@@ -38,7 +38,14 @@ impl HostCore {
         let free = self
             .sleepers
             .first_available(&self.slots, self.start.config.generations);
-        let place = seat(&self.slots, &mut self.unproved, &self.start, from, free)?;
+        let place = seat(
+            &self.slots,
+            &self.seats,
+            &mut self.unproved,
+            &self.start,
+            from,
+            free,
+        )?;
         Some(PeerRef {
             slot: place as u16,
             generation: self.slots[place].next_generation(),

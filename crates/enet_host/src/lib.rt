@@ -57,7 +57,8 @@
 //!   `due_in` not at all, and by `tick` only where bandwidth is shared out or time brings that slot something.
 //! - That an offer is compared with a few slots, those that are noted at its connection's place, and looks at no other that sleeps but the
 //!   free ones up to the one that it gets.
-//! - That an offer finds the peer that gives way without a look at each slot. Where a limit for an address is set it looks at each slot.
+//! - That an offer finds the peer that gives way without a look at each slot, and where a limit for an address is set looks at that address's
+//!   slots and a few others.
 #![tactic(auto)]
 
 mod broadcast;

@@ -20,7 +20,7 @@ use enet_codec::{Addr, Header, MAX_CHANNELS, NO_PEER, Received, Stop};
 use enet_connect::Offer;
 use enet_peer::{read_heading, read_offer};
 use enet_sleepers::{Seats, Sleepers, Unproved, seat_for};
-use enet_slot::{Seat, Slot, Start, count_entered, count_guests, oldest_guest};
+use enet_slot::{Seat, Slot, Start, count_entered};
 
 /// The answer to a datagram of which nothing was looked at.
 const fn stopped(why: Stop) -> Received
@@ -104,13 +104,13 @@ fn oldest_seat(slots: &[Slot], unproved: &mut Unproved, start: &Start) -> Option
     }
 }
 
-/// Whether as many peers of this IP address are there as may be. Each slot is looked at, if that is bounded.
-fn is_address_full(slots: &[Slot], most: Option<u16>, ip: u32) -> bool
-    requires { length slots.now ≤ 4095 }
+/// Whether as many peers of this IP address are there as may be.
+fn is_address_full(slots: &[Slot], seats: &Seats, most: Option<u16>, ip: u32) -> bool
+    requires { KeepsSeats seats.now (all_shown slots.now) }
     ensures { result ≡ is_most most (guests_of ip (all_shown slots.now)) }
 {
     match most {
-        Some(most) => count_guests(slots, ip) >= u32::from(most),
+        Some(most) => seats.count_guests(slots, ip) >= u32::from(most),
         None => false,
     }
 }
@@ -119,12 +119,13 @@ fn is_address_full(slots: &[Slot], most: Option<u16>, ip: u32) -> bool
 /// generation left.
 pub(crate) fn seat(
     slots: &[Slot],
+    seats: &Seats,
     unproved: &mut Unproved,
     start: &Start,
     from: Addr,
     free: Option<usize>,
 ) -> Option<usize>
-    requires many { length slots.now ≤ 4095 }
+    requires seats { KeepsSeats seats.now (all_shown slots.now) }
     requires free { free ≡ available start.now.config (all_shown slots.now) }
     requires within { IfSome free (λ i. i < length slots.now) }
     requires unproved { KeepsUnproved start.now.clock start.now.config.generations unproved.old (all_shown slots.now) }
@@ -132,8 +133,8 @@ pub(crate) fn seat(
     ensures within { IfSome result (λ i. i < length slots.now) }
     ensures kept { KeepsUnproved start.now.clock start.now.config.generations unproved.new (all_shown slots.now) }
 {
-    if is_address_full(slots, start.config.of_address, from.ip) {
-        return oldest_guest(slots, from.ip, start.clock, start.config.generations);
+    if is_address_full(slots, seats, start.config.of_address, from.ip) {
+        return seats.oldest_guest(slots, from.ip, start.clock, start.config.generations);
     }
     match free {
         Some(place) => Some(place),
@@ -161,7 +162,6 @@ fn find_seat(
     from: Addr,
     connect_id: u32,
 ) -> Seat
-    requires many { length slots.now ≤ 4095 }
     requires sleepers { KeepsSleepers start.now.clock sleepers.now (all_shown slots.now) }
     requires seats { KeepsSeats seats.now (all_shown slots.now) }
     requires unproved { KeepsUnproved start.now.clock start.now.config.generations unproved.old (all_shown slots.now) }
@@ -171,8 +171,8 @@ fn find_seat(
     let generations = start.config.generations;
     match seat_for(slots, sleepers, seats, from, connect_id, generations) {
         Seat::Known(place) => Seat::Known(place),
-        Seat::At(place) => placed(seat(slots, unproved, start, from, Some(place))),
-        Seat::Full => placed(seat(slots, unproved, start, from, None)),
+        Seat::At(place) => placed(seat(slots, seats, unproved, start, from, Some(place))),
+        Seat::Full => placed(seat(slots, seats, unproved, start, from, None)),
     }
 }
 

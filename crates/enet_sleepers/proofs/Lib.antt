@@ -1,6 +1,7 @@
 pub mod Keeping
 pub mod Dueness
 pub mod Found
+pub mod Rows
 pub mod Offered
 pub mod Waited
 pub mod Anew

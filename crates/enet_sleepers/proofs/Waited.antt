@@ -11,7 +11,7 @@ use Rattle.enet_deadlines.specs.Moments.{IsAt}
 use Rattle.enet_peer.specs.Peering.{Peering}
 use Rattle.enet_slot.specs.Slot.{SlotState}
 use Rattle.enet_slot.specs.Giving.{unused_slot}
-use Rattle.enet_slot.specs.Yielding.{age, age_in, answers_in, longest, oldest, yields}
+use Rattle.enet_slot.specs.Yielding.{age, age_in, answers_in, longest, longest_of, oldest, yields}
 use Rattle.enet_sleepers.specs.Unproved.{IsNoted, KeepsUnproved, Waiting, noted}
 use Rattle.enet_sleepers.proofs.Keeping.{get-set-other}
 
@@ -41,47 +41,51 @@ pick-most : (b : Bool) (a n : ℕ) → (b ≡ true → a ≤ n) → cond b a 0 �
 pick-most true a n h = h refl
 pick-most false a n h = omega arith
 
-longest-most : (now generations n : ℕ) (slots : List SlotState) → ((i : ℕ) (s : SlotState) → slice_get slots i ≡ Some s → yields generations s ≡ true → age now s ≤ n) → longest now generations slots ≤ n
-longest-most now generations n [] each = omega arith
-longest-most now generations n (s ∷ slots) each =
-    let first : cond (yields generations s) (age now s) 0 ≤ n = pick-most (yields generations s) (age now s) n (each 0 s refl) in
-    let rest : longest now generations slots ≤ n = longest-most now generations n slots (λ i t there is. each (suc i) t there is) in
-    lesser (cond (yields generations s) (age now s) 0) (longest now generations slots) first rest
+pub longest-most : (waits : SlotState → Bool) (now n : ℕ) (slots : List SlotState) → ((i : ℕ) (s : SlotState) → slice_get slots i ≡ Some s → waits s ≡ true → age now s ≤ n) → longest_of waits now slots ≤ n
+longest-most waits now n [] each = omega arith
+longest-most waits now n (s ∷ slots) each =
+    let first : cond (waits s) (age now s) 0 ≤ n = pick-most (waits s) (age now s) n (each 0 s refl) in
+    let rest : longest_of waits now slots ≤ n = longest-most waits now n slots (λ i t there is. each (suc i) t there is) in
+    lesser (cond (waits s) (age now s) 0) (longest_of waits now slots) first rest
   where
     lesser : (a b : ℕ) → a ≤ n → b ≤ n → max a b ≤ n
     lesser a b l r = omega arith
 
-longest-least : (now generations : ℕ) (slots : List SlotState) (i : ℕ) (s : SlotState) → slice_get slots i ≡ Some s → yields generations s ≡ true → age now s ≤ longest now generations slots
-longest-least now generations [] i s there is = absurd (cc)
-longest-least now generations (t ∷ slots) zero s there is =
+pub longest-least : (waits : SlotState → Bool) (now : ℕ) (slots : List SlotState) (i : ℕ) (s : SlotState) → slice_get slots i ≡ Some s → waits s ≡ true → age now s ≤ longest_of waits now slots
+longest-least waits now [] i s there is = absurd (cc)
+longest-least waits now (t ∷ slots) zero s there is =
     let same : t ≡ s = cc in
-    let here : cond (yields generations t) (age now t) 0 ≡ age now s = ap (λ (x : SlotState). cond (yields generations x) (age now x) 0) same ∙ ap (λ (b : Bool). cond b (age now s) 0) is in
-    greater (cond (yields generations t) (age now t) 0) (longest now generations slots) here
+    let here : cond (waits t) (age now t) 0 ≡ age now s = ap (λ (x : SlotState). cond (waits x) (age now x) 0) same ∙ ap (λ (b : Bool). cond b (age now s) 0) is in
+    greater (cond (waits t) (age now t) 0) (longest_of waits now slots) here
   where
     greater : (a b : ℕ) → a ≡ age now s → age now s ≤ max a b
     greater a b e = omega arith
-longest-least now generations (t ∷ slots) (suc i) s there is =
-    let rest : age now s ≤ longest now generations slots = longest-least now generations slots i s there is in
-    greater (cond (yields generations t) (age now t) 0) (longest now generations slots) rest
+longest-least waits now (t ∷ slots) (suc i) s there is =
+    let rest : age now s ≤ longest_of waits now slots = longest-least waits now slots i s there is in
+    greater (cond (waits t) (age now t) 0) (longest_of waits now slots) rest
   where
     greater : (a b : ℕ) → age now s ≤ b → age now s ≤ max a b
     greater a b l = omega arith
 
 -- the first of which something holds
-position-at : (p : SlotState → Bool) (slots : List SlotState) (i : ℕ) → i < length slots → p (get_or slots i unused_slot) ≡ true → ((k : ℕ) → k < i → p (get_or slots k unused_slot) ≡ false) → position p slots ≡ Some i
+pub position-at : (p : SlotState → Bool) (slots : List SlotState) (i : ℕ) → i < length slots → p (get_or slots i unused_slot) ≡ true → ((k : ℕ) → k < i → p (get_or slots k unused_slot) ≡ false) → position p slots ≡ Some i
 position-at p slots i inside here before =
     let is : position_or_len p slots ≡ i = position_or_len_is p slots i unused_slot (omega (arith, inside)) before (λ within. here) in
     ap (λ n. cond (ltb n (length slots)) (Some n) None) is ∙ ap (λ b. cond b (Some i) None) (lt-ltb i (length slots) inside)
 
-position-none : (p : SlotState → Bool) (slots : List SlotState) → ((k : ℕ) → k < length slots → p (get_or slots k unused_slot) ≡ false) → position p slots ≡ None
+pub position-none : (p : SlotState → Bool) (slots : List SlotState) → ((k : ℕ) → k < length slots → p (get_or slots k unused_slot) ≡ false) → position p slots ≡ None
 position-none p slots before =
     let n = length slots in
     let is : position_or_len p slots ≡ n = position_or_len_is p slots n unused_slot (omega arith) (λ k low. before k low) (λ within. absurd (omega (arith, within))) in
     ap (λ m. cond (ltb m n) (Some m) None) is ∙ ap (λ b. cond b (Some n) None) (le-ltb n n (omega arith))
 
-both-false : (a b : Bool) → (a ≡ true → b ≡ false) → (a && b) ≡ false
+pub both-false : (a b : Bool) → (a ≡ true → b ≡ false) → (a && b) ≡ false
 both-false true b h = h refl
 both-false false b h = refl
+
+-- one that was made later has been there less long than the longest
+pub younger : (a b : ℕ) → b < a → leb a b ≡ false
+younger a b l = grind (arith, nat_tests)
 
 -- where the first place of the least moment yields, its peer is the oldest
 pub oldest-found : (now generations : ℕ) (v : Waiting) (slots : List SlotState) (place moment : ℕ) → KeepsUnproved now generations v slots → place < length slots → IsAt v.since place moment
@@ -100,7 +104,7 @@ oldest-found now generations v slots place moment k inside at least first is =
     own = let n = noted-of now generations v slots k place s there is in n.3 ∙ ap (λ (m : ℕ). v.clock - m) (same-moment v place n.0 moment n.1 at)
 
     most : longest now generations slots ≤ age now s
-    most = longest-most now generations (age now s) slots (λ i t at' yields'.
+    most = longest-most (yields generations) now (age now s) slots (λ i t at' yields'.
         let n = noted-of now generations v slots k i t at' yields' in
         let low : moment ≤ n.0 = least i n.0 n.1 in
         let mine = own in
@@ -116,14 +120,11 @@ oldest-found now generations v slots place moment k inside at least first is =
         let t : SlotState = get_or slots i unused_slot in
         let n = noted-of now generations v slots k i t (slice_get-get_or slots i unused_slot (omega (arith, low, inside))) yields' in
         let later : moment < n.0 = first i n.0 low n.1 in
-        let long : age now s ≤ longest now generations slots = longest-least now generations slots place s there is in
+        let long : age now s ≤ longest now generations slots = longest-least (yields generations) now slots place s there is in
         let past : n.0 ≤ v.clock = n.2 in
         let mine = own in
         let its = n.3 in
         younger (longest now generations slots) (age now t) (omega (arith, later, long, past, mine, its)))
-      where
-        younger : (a b : ℕ) → b < a → leb a b ≡ false
-        younger a b l = grind (arith, nat_tests)
 
 -- where nothing is noted, none yields
 pub oldest-nowhere : (now generations : ℕ) (v : Waiting) (slots : List SlotState) → KeepsUnproved now generations v slots → ((i : ℕ) → get_or v.since i None ≡ None) → oldest now generations slots ≡ None

@@ -7,6 +7,10 @@ use Rattle.enet_sleepers.specs.declared.key.Key.{Key}
 unfoldable pub stirred : ℕ → ℕ → ℕ
 stirred n key = ((n + key) % 2 ^ 64) * ((n + key) % 2 ^ 64) % 2 ^ 64 / 4294967296
 
+-- the row of an IP address, of 256
+unfoldable pub row_of : Key → ℕ → ℕ
+row_of key ip = stirred (stirred ip key.address) key.last / 16777216
+
 -- the first of the eight cells of a connection's place, where there are so many cells
 unfoldable pub first_cell : Key → ℕ → Addr → ℕ → ℕ
 first_cell key count a word =

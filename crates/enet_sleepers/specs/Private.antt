@@ -1,3 +1,4 @@
+pub mod Guests
 pub mod Seating
 pub mod Sleepers
 pub mod Soon

@@ -1,7 +1,7 @@
 //! Where connections are looked for: places that only who knows a secret can foretell.
 
 ghost use Rattle.std.specs.Prelude.{◌≡◌, ◌<◌};
-ghost use Rattle.enet_sleepers.specs.Places.{stirred, first_cell};
+ghost use Rattle.enet_sleepers.specs.Places.{stirred, first_cell, row_of};
 
 use enet_codec::{Addr, Secret};
 use rand_chacha::ChaCha20Rng;
@@ -71,4 +71,12 @@ pub(crate) fn first_cell(key: Key, cells: usize, from: Addr, connect_id: u32) ->
     let word = stirred(address * 4_294_967_296 + u64::from(connect_id), key.word);
     let spread = stirred(word, key.last).wrapping_mul((cells / CELLS) as u64);
     (spread / 4_294_967_296) as usize * CELLS
+}
+
+/// The row of an IP address.
+#[tactic(auto, unfolding(crate::specs::Places::row_of))]
+pub(crate) fn row_of(key: Key, ip: u32) -> u8
+    ensures { result ≡ row_of key ip }
+{
+    (stirred(stirred(u64::from(ip), key.address), key.last) / 16_777_216) as u8
 }

@@ -1,6 +1,6 @@
 //! Which slot holds a connection.
 
-ghost use Rattle.std.specs.Prelude.{◌≡◌, ◌≢◌, ℕ, ◌+◌, ◌<◌, ◌≤◌, List, length, get_or, slice_get, slice_set, Some, IfOk, IfErr, IfSome, IfNone, false};
+ghost use Rattle.std.specs.Prelude.{◌≡◌, ◌≢◌, ℕ, ◌+◌, ◌*◌, ◌<◌, ◌≤◌, List, length, get_or, slice_get, slice_set, Some, IfOk, IfErr, IfSome, IfNone, false};
 ghost use Rattle.std.specs.List.{list_any};
 ghost use Rattle.enet_deadlines.specs.Sets.{IsIn};
 ghost use Rattle.enet_codec.specs.declared.address.Addr.{Addr};
@@ -11,9 +11,9 @@ ghost use Rattle.enet_slot.specs.Slot.{SlotState};
 ghost use Rattle.enet_slot.specs.Slotted.{all_shown};
 ghost use Rattle.enet_sleepers.specs.Places.{first_cell};
 ghost use Rattle.enet_sleepers.specs.Seating.{KeepsSeats, HoldNobody, IsFound, Enters};
-ghost use Rattle.enet_sleepers.specs.Private.Seating.{Leaves, KnownAt, KnownInNone, KnownNowhere};
+ghost use Rattle.enet_sleepers.specs.Private.Seating.{Leaves, Moves, KnownAt, KnownInNone, KnownNowhere};
 
-use crate::key::{CELLS, Key, first_cell, key_of};
+use crate::key::{CELLS, Key, first_cell, key_of, row_of};
 use enet_codec::{Addr, Refusal, Secret};
 use enet_deadlines::Places;
 use enet_slot::Slot;
@@ -23,7 +23,11 @@ use std::marker::Model;
 /// What a cell has in which no slot is noted.
 const NOBODY: u16 = u16::MAX;
 
-/// At which slot each connection may be found, by its address and connect id. Contracts see what is noted.
+/// How many rows there are.
+const ROWS: u32 = 256;
+
+/// At which slot each connection may be found, by its address and connect id, and at which the peers of an IP address. Contracts see what is
+/// noted.
 #[derive(Drop)]
 pub struct Seats {
     /// By what connections are spread over the cells.
@@ -34,6 +38,10 @@ pub struct Seats {
     pub(crate) others: Places,
     /// By slot, the cell that it took last.
     taken: Vec<u32>,
+    /// Rows of as many places as there are slots: in the row of an IP address are the slots that were given to it.
+    pub(crate) rows: Places,
+    /// By slot, the row in which it is.
+    row: Vec<u8>,
 }
 
 impl Model for Seats {
@@ -41,9 +49,9 @@ impl Model for Seats {
 
     ghost Value = { Seating };
 
-    ghost view = { λ s. record { key = s.key; cells = s.cells.items; others = s.others } };
+    ghost view = { λ s. record { key = s.key; cells = s.cells.items; others = s.others; rows = s.rows } };
 
-    ghost invariant = { λ s. HasFew (record { key = s.key; cells = s.cells.items; others = s.others }) };
+    ghost invariant = { λ s. HasFew (record { key = s.key; cells = s.cells.items; others = s.others; rows = s.rows }) };
 }
 
 impl Seats {
@@ -62,11 +70,19 @@ impl Seats {
         let Ok(others) = Places::new(alloc, u32::from(peers)) else {
             return Err(Refusal::Memory);
         };
+        let Ok(rows) = Places::new(alloc, u32::from(peers) * ROWS) else {
+            return Err(Refusal::Memory);
+        };
+        let Ok(row) = vec![in alloc; 0u8; usize::from(peers)] else {
+            return Err(Refusal::Memory);
+        };
         Ok(Seats {
             key: key_of(secret),
             cells,
             others,
             taken,
+            rows,
+            row,
         })
     }
 
@@ -75,6 +91,7 @@ impl Seats {
         requires { number < length self.old.others }
         ensures { Enters self.old number from connect_id self.new }
     {
+        self.move_to_row(number, from.ip);
         self.leave(number);
         let first = first_cell(self.key, self.cells.len(), from, connect_id);
         match empty_cell(&self.cells, first) {
@@ -82,6 +99,27 @@ impl Seats {
             None => {
                 self.others.insert(number);
             }
+        }
+    }
+
+    /// The slot of this number leaves its row for that of an IP address.
+    fn move_to_row(&mut self, number: usize, ip: u32)
+        requires { number < length self.old.others }
+        ensures { Moves self.old number ip self.new }
+    {
+        let slots = self.others.len();
+        let row = row_of(self.key, ip);
+        let left = self.row_noted(number);
+        note_row(&mut self.row, number, row);
+        self.rows.remove(first_of_row(left, slots) + number);
+        self.rows.insert(first_of_row(row, slots) + number);
+    }
+
+    /// The row in which the slot of this number is.
+    fn row_noted(&self, number: usize) -> u8 {
+        match self.row.get(number) {
+            Some(row) => *row,
+            None => 0,
         }
     }
 
@@ -153,6 +191,22 @@ impl Seats {
             self.enter(number, slots[number].address(), peer.terms().connect_id);
         }
     }
+}
+
+/// It is noted in which row the slot of this number is.
+fn note_row(rows: &mut Vec<u8>, number: usize, row: u8) {
+    if let Some(noted) = rows.get_mut(number) {
+        *noted = row;
+    }
+}
+
+/// The first place of a row, where it has as many places as there are slots.
+pub(crate) fn first_of_row(row: u8, slots: usize) -> usize
+    requires { slots ≤ 65535 }
+    ensures is { result ≡ row * slots }
+    ensures low { result ≤ 16711425 }
+{
+    usize::from(row) * slots
 }
 
 /// What a cell has.

@@ -4,6 +4,7 @@ use Rattle.enet_slot.specs.declared.slot.Slot.{Slot}
 use Rattle.enet_slot.specs.Giving.{basis_of}
 use Rattle.enet_slot.specs.Slotted.{shown, all_shown}
 use Rattle.enet_slot.proofs.Shown.{get-shown}
+use Rattle.enet_sleepers.specs.Seating.{KeepsSeats}
 use Rattle.enet_sleepers.specs.Unproved.{KeepsUnproved}
 use Rattle.enet_host.specs.Foretelling.{guest_name}
 use Rattle.enet_host.specs.Host.{Host}
@@ -16,6 +17,9 @@ pub seat-requires-clause-unproved : goal.seat-requires-clause-unproved
 seat-requires-clause-unproved c =
     let start = c.self.inside.start in
     subst (λ (xs : List Slot). KeepsUnproved start.clock start.config.generations c.self.inside.unproved (all_shown xs)) (sym c.deref-2.ensures.value) c.self.invariant.waiting
+
+pub seat-requires-clause-seats : goal.seat-requires-clause-seats
+seat-requires-clause-seats c = subst (λ (xs : List Slot). KeepsSeats c.self.inside.seats (all_shown xs)) (sym c.deref-2.ensures.value) c.self.invariant.seated
 
 pub returns-in_err-place-clause-guest : goal.returns-in_err-place-clause-guest
 returns-in_err-place-clause-guest c =
