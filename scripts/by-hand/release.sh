@@ -117,8 +117,8 @@ write_proved() {
     tell_edits
     echo
     echo "Trusted: the toolchain (Rattle's prover and compiler, LLVM), the C library, what the kit states of the libraries in THIRD-PARTY.txt, and"
-    echo "two functions of enet_wire (src/journaled.rt), by which a socket notes what datagrams the system gave and took. The C code (gofnjerta.c,"
-    echo "libenet's names, their pool of blocks) is tested, not proved."
+    echo "three functions of enet_wire (src/journaled.rt), by which a socket notes its address and what datagrams the system gave and took. The C"
+    echo "code (gofnjerta.c, libenet's names, their pool of blocks) is tested, not proved."
 }
 
 # Stops unless the program tells the version, and where it is proved here the kit, too.

@@ -13,6 +13,14 @@ pub record Guarding : Type 0 where
   pub recent : List Asked
   pub clock : ℕ
 
+-- what only an operator changes: the rules, and the addresses that are banned
+pub record Ruling : Type 0 where
+  pub rules : Rules
+  pub banned : List ℕ
+
+abbrev pub ruling : Guarding → Ruling
+ruling g = record { rules = g.rules; banned = g.banned }
+
 abbrev pub no_rules : Rules
 no_rules = record { connects_of_address = None; connects = None }
 

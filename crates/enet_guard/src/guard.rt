@@ -78,7 +78,7 @@ impl Guard {
     ghost use Rattle.std.specs.Prelude.{◌≡◌, ◌<◌, ◌++◌, ◌∷◌, [], length, OnOk, OnErr, IfOk, IfErr, count_by};
     ghost use Rattle.std.specs.List.{filter, list_any};
     ghost use Rattle.std.specs.Prelude.{eqb};
-    ghost use Rattle.enet_guard.specs.Guarding.{new_guard, has_no_rule, forgotten, Judges, noted, is_again, has_room, is_other, ticked};
+    ghost use Rattle.enet_guard.specs.Guarding.{new_guard, has_no_rule, forgotten, Judges, noted, is_again, has_room, is_other, ruling, ticked};
     ghost use Rattle.enet_guard.specs.Private.Room.{most_noted};
 
     /// A guard with these rules, to which nothing came, with room for all that it may note. E1 for want of memory.
@@ -149,7 +149,8 @@ impl Guard {
 
     /// Whether a CONNECT from there, with this connect id, passes; then it counts. One that comes again counts once. It takes no memory.
     pub fn lets_pass(&mut self, from: Addr, connect_id: u32) -> bool
-        ensures { Judges self.old from connect_id result self.new }
+        ensures judges { Judges self.old from connect_id result self.new }
+        ensures ruling { ruling self.new ≡ ruling self.old }
     {
         self.forget();
         if self.is_banned(from.ip) {

@@ -1,6 +1,7 @@
 //! A wire behind a guard.
 ghost use Rattle.std.specs.Prelude.{◌≡◌, ◌<◌, ◌≤◌, true, false, None, Ok, IfOk, IfSome, IfErr};
 ghost use Rattle.enet_wire.specs.Wires.{faults_after, last_fault};
+ghost use Rattle.enet_guard.specs.Guarding.{ruling};
 ghost use Rattle.enet_guard.specs.Passing.{Lets, Refuses, Receives};
 
 use crate::asking::asks;
@@ -100,13 +101,17 @@ impl<N: Wire + Drop> Guarded<N> {
 impl<N: Wire> Wire for Guarded<N> {
     ghost use Rattle.std.specs.Prelude.{◌≡◌, ◌<◌, ◌≤◌, ◌++◌, Some, None, Ok, IfOk, IfSome, IfErr, OnErr};
     ghost use Rattle.enet_wire.specs.Wires.{also, came, went, waited, unless_spent, faults_after, last_fault};
-    ghost use Rattle.enet_guard.specs.Guarding.{ticked};
+    ghost use Rattle.enet_guard.specs.Guarding.{Ruling, ruling, ticked};
     ghost use Rattle.enet_guard.specs.Passing.{Receives};
     ghost use Rattle.enet_guard.specs.Journals.{told_of};
 
     ghost told = { λ w. Some (told_of w) };
 
     ghost faults = { λ w. N.faults w.wire };
+
+    ghost Kept = { Ruling };
+
+    ghost kept = { λ w. ruling w.guard };
 
     /// None, too, where 64 CONNECTs were passed over.
     fn recv(&mut self, buf: &mut [u8; 4096]) -> Result<Option<(Addr, usize)>, Refusal>
@@ -116,6 +121,7 @@ impl<N: Wire> Wire for Guarded<N> {
         ensures fault { IfErr result (λ why. why ≡ Refusal.WireFault) }
         ensures faults { N.faults self.new.wire ≡ faults_after (N.faults self.old.wire) result }
         ensures spent { N.faults self.old.wire ≡ last_fault → result ≡ Ok None }
+        ensures kept { ruling self.new.guard ≡ ruling self.old.guard }
         ensures receives { Receives (N.told self.old.wire) (N.faults self.old.wire) self.old.guard result buf.new (N.told self.new.wire) self.new.guard }
     {
         let spent = self.wire.failures() == u64::MAX;
@@ -140,6 +146,7 @@ impl<N: Wire> Wire for Guarded<N> {
         ensures fault { IfErr result (λ why. why ≡ Refusal.WireFault) }
         ensures faults { N.faults self.new.wire ≡ faults_after (N.faults self.old.wire) result }
         ensures spent { N.faults self.old.wire ≡ last_fault → result ≡ Ok SendOutcome.Blocked }
+        ensures kept { ruling self.new.guard ≡ ruling self.old.guard }
         ensures sends { N.told self.new.wire ≡ also (N.told self.old.wire) (unless_spent (N.faults self.old.wire) (went to bytes.now result)) }
         ensures guard { self.new.guard ≡ self.old.guard }
     {
@@ -163,6 +170,7 @@ impl<N: Wire> Wire for Guarded<N> {
         ensures fault { IfErr result (λ why. why ≡ Refusal.WireFault) }
         ensures faults { N.faults self.new.wire ≡ faults_after (N.faults self.old.wire) result }
         ensures spent { N.faults self.old.wire ≡ last_fault → result ≡ Ok 0 }
+        ensures kept { ruling self.new.guard ≡ ruling self.old.guard }
         ensures waits { N.told self.new.wire ≡ also (N.told self.old.wire) (unless_spent (N.faults self.old.wire) (waited result)) }
         ensures guard { IfOk result (λ ms. self.new.guard ≡ ticked self.old.guard ms) }
         ensures same { OnErr result (self.new.guard ≡ self.old.guard) }
@@ -193,6 +201,7 @@ fn first_passing<N: Wire>(
     ensures fault { IfErr result (λ why. why ≡ Refusal.WireFault) }
     ensures faults { N.faults wire.new ≡ faults_after (N.faults wire.old) result }
     ensures spent { N.faults wire.old ≡ last_fault → result ≡ Ok None }
+    ensures ruling { ruling guard.new ≡ ruling guard.old }
     ensures receives { Receives (N.told wire.old) (N.faults wire.old) guard.old result buf.new (N.told wire.new) guard.new }
 {
     for _over in 0..MOST_PASSED_OVER {
@@ -211,6 +220,7 @@ fn first_passing<N: Wire>(
 fn judge(guard: &mut Guard, from: Addr, bytes: &[u8]) -> bool
     ensures lets { result ≡ true → Lets guard.old from bytes.now guard.new }
     ensures refuses { result ≡ false → Refuses guard.old from bytes.now guard.new }
+    ensures ruling { ruling guard.new ≡ ruling guard.old }
 {
     if guard.has_no_rule() {
         return true;

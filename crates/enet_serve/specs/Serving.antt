@@ -12,7 +12,7 @@ use Rattle.enet_submit.specs.declared.order.Order.{Order}
 use Rattle.enet_host.specs.Host.{Host}
 use Rattle.enet_host.specs.Opening.{opened}
 use Rattle.enet_bridge.specs.Ends.{orders}
-use Rattle.enet_wire.specs.Socket.{failures_of}
+use Rattle.enet_wire.specs.Socket.{address_of, failures_of}
 use Rattle.enet_wire.specs.declared.told.Told.{Told}
 use Rattle.enet_wire.specs.Wires.{unless_spent}
 use Rattle.enet_guard.specs.Guarding.{Guarding, new_guard}
@@ -100,10 +100,11 @@ config_of settings = record (standard_config (slots_of settings) settings.channe
 abbrev pub is_in_range : Settings → Bool
 is_in_range settings = configs.is_in_range (config_of settings)
 
--- a fresh host of these settings and with their limit on what is sent, a guard with their rules to which nothing came, a socket that hasn't
--- failed, and nothing that waits
+-- a fresh host of these settings and with their limit on what is sent, a guard with their rules to which nothing came, a socket at their
+-- address that hasn't failed, and nothing that waits
 pub record IsOpened (settings : Settings) (server : ChatServer) : Type 0 where
   pub host : host_of server ≡ record (opened (config_of settings)) { send_limit = settings.send_limit }
+  pub address : address_of server.bound.wire.wire ≡ settings.address
   pub guard : guard_of server ≡ new_guard settings.rules
   pub waiting : waiting_of server ≡ nothing_waits
   pub faults : faults_of server ≡ 0

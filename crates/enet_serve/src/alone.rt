@@ -23,6 +23,7 @@ pub(crate) struct Alone<'a> {
 impl Alone<'_> {
     ghost use Rattle.std.specs.Prelude.{◌≡◌, ◌≢◌, ◌+◌, ◌≤◌, ◌⊎◌, List, length, OnOk, IfOk, IfErr};
     ghost use Rattle.enet_wire.specs.Socket.{failures_of};
+    ghost use Rattle.enet_guard.specs.Guarding.{ruling};
     ghost use Rattle.enet_guard.specs.Journals.{told_of};
     ghost use Rattle.enet_chat.specs.Relaying.{AreBehind, AreFarBehind};
     ghost use Rattle.enet_turn.specs.Turn.{Round};
@@ -49,6 +50,7 @@ impl Alone<'_> {
         ensures sound { OnOk result (failures_of bound.new.wire.wire ≡ failures_of bound.old.wire.wire) }
         ensures failed { IfErr result (λ why. why ≡ Refusal.WireFault → failures_of bound.new.wire.wire ≡ failures_of bound.old.wire.wire + 1) }
         ensures other { IfErr result (λ why. why ≢ Refusal.WireFault → failures_of bound.new.wire.wire ≡ failures_of bound.old.wire.wire) }
+        ensures kept { ruling bound.new.wire.guard ≡ ruling bound.old.wire.guard }
     {
         match run_length {
             RunLength::Turns(turns) => self.run_for_turns(rt, bound, turns, watch),
@@ -73,6 +75,7 @@ impl Alone<'_> {
         ensures sound { OnOk result (failures_of bound.new.wire.wire ≡ failures_of bound.old.wire.wire) }
         ensures failed { IfErr result (λ why. why ≡ Refusal.WireFault → failures_of bound.new.wire.wire ≡ failures_of bound.old.wire.wire + 1) }
         ensures other { IfErr result (λ why. why ≢ Refusal.WireFault → failures_of bound.new.wire.wire ≡ failures_of bound.old.wire.wire) }
+        ensures kept { ruling bound.new.wire.guard ≡ ruling bound.old.wire.guard }
     {
         let start = Instant::now(rt);
         let mut total = Report::nothing();
@@ -106,6 +109,7 @@ impl Alone<'_> {
         ensures sound { OnOk result (failures_of bound.new.wire.wire ≡ failures_of bound.old.wire.wire) }
         ensures failed { IfErr result (λ why. why ≡ Refusal.WireFault → failures_of bound.new.wire.wire ≡ failures_of bound.old.wire.wire + 1) }
         ensures other { IfErr result (λ why. why ≢ Refusal.WireFault → failures_of bound.new.wire.wire ≡ failures_of bound.old.wire.wire) }
+        ensures kept { ruling bound.new.wire.guard ≡ ruling bound.old.wire.guard }
     {
         match self.turn_by_turn(rt, bound, turns) {
             Ok(report) => {
@@ -135,6 +139,7 @@ impl Alone<'_> {
         ensures sound { OnOk result (failures_of bound.new.wire.wire ≡ failures_of bound.old.wire.wire) }
         ensures failed { IfErr result (λ fault. fault.why ≡ Refusal.WireFault → failures_of bound.new.wire.wire ≡ failures_of bound.old.wire.wire + 1) }
         ensures other { IfErr result (λ fault. fault.why ≢ Refusal.WireFault → failures_of bound.new.wire.wire ≡ failures_of bound.old.wire.wire) }
+        ensures kept { ruling bound.new.wire.guard ≡ ruling bound.old.wire.guard }
     {
         let mut buf = [0u8; 4096];
         let mut total = Report::nothing();
@@ -166,6 +171,7 @@ impl Alone<'_> {
         ensures sound { OnOk result (failures_of bound.new.wire.wire ≡ failures_of bound.old.wire.wire) }
         ensures failed { IfErr result (λ fault. fault.why ≡ Refusal.WireFault → failures_of bound.new.wire.wire ≡ failures_of bound.old.wire.wire + 1) }
         ensures other { IfErr result (λ fault. fault.why ≢ Refusal.WireFault → failures_of bound.new.wire.wire ≡ failures_of bound.old.wire.wire) }
+        ensures kept { ruling bound.new.wire.guard ≡ ruling bound.old.wire.guard }
     {
         let Alone { relay, bell, gauge } = self;
         let BoundService { wire, service } = bound;

@@ -22,6 +22,7 @@ pub(crate) fn take_leave<R: Wait + Clock, N: Wire + Drop>(
     bound: &mut BoundService<N>,
 )
     ensures leaves { TakesLeave (over bound.old.service (N.told bound.old.wire) (N.faults bound.old.wire)) (over bound.new.service (N.told bound.new.wire) (N.faults bound.new.wire)) }
+    ensures kept { N.kept bound.new.wire ≡ N.kept bound.old.wire }
 {
     if see_off(rt, alloc, bound) {
         return;
@@ -37,7 +38,8 @@ fn see_off<R: Wait + Clock, N: Wire + Drop>(
     alloc: Global,
     bound: &mut BoundService<N>,
 ) -> bool
-    ensures { HasSeenOff (over bound.old.service (N.told bound.old.wire) (N.faults bound.old.wire)) (over bound.new.service (N.told bound.new.wire) (N.faults bound.new.wire)) result }
+    ensures seen_off { HasSeenOff (over bound.old.service (N.told bound.old.wire) (N.faults bound.old.wire)) (over bound.new.service (N.told bound.new.wire) (N.faults bound.new.wire)) result }
+    ensures kept { N.kept bound.new.wire ≡ N.kept bound.old.wire }
 {
     let start = Instant::now(rt);
     for _ in rt.forever() {
@@ -86,7 +88,8 @@ fn take_turn<R: Wait + Clock, N: Wire + Drop>(
     alloc: Global,
     bound: &mut BoundService<N>,
 ) -> bool
-    ensures { Idles (over bound.old.service (N.told bound.old.wire) (N.faults bound.old.wire)) (over bound.new.service (N.told bound.new.wire) (N.faults bound.new.wire)) result }
+    ensures idles { Idles (over bound.old.service (N.told bound.old.wire) (N.faults bound.old.wire)) (over bound.new.service (N.told bound.new.wire) (N.faults bound.new.wire)) result }
+    ensures kept { N.kept bound.new.wire ≡ N.kept bound.old.wire }
 {
     let mut source = MemorySource::new(VecDeque::new(alloc));
     let BoundService { wire, service } = bound;

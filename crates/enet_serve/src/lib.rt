@@ -22,9 +22,9 @@
 //!   of the server.
 //!
 //! Besides:
-//! - A server opens with the standard host of its settings and with their limit on what is sent, behind a guard with their rules, with
-//!   nothing waiting ([`ChatServer::open`]). [`ChatServer::ban`] and [`ChatServer::unban`] change who is banned, and nothing else.
-//!   [`ChatServer::order`] changes the orders that wait, and nothing else.
+//! - A server opens at the address of its settings, with their standard host and their limit on what is sent, behind a guard with their
+//!   rules, with nothing waiting ([`ChatServer::open`]). [`ChatServer::ban`] and [`ChatServer::unban`] change who is banned, and nothing else
+//!   does: no run, whatever ends it, and no leave-taking (`ruling`). [`ChatServer::order`] changes the orders that wait, and nothing else.
 //! - Where it takes leave (`TakesLeave`), its turns are given no order, and between them, once at least, it parts from every peer that its host
 //!   has then, behind all that was sent, but for a last time. After each parting comes a turn, unless the wire failed, and the wire told just
 //!   what these turns did. What the relay keeps is as before.
@@ -32,15 +32,16 @@
 //! # Only tested, or neither
 //!
 //! - By scripts/check/check-admission.sh: whom the guard of a server and its limit of an address let in.
-//! - By scripts/check/check-rows.sh and scripts/check/check-clients.sh: what real clients get, that a call ends, at which address a server
-//!   listens, what the system says where it can't, that the queues settle (no E16), that the server ends once its relay has, that its
-//!   clients are told of its end, and that the threads end.
+//! - By scripts/check/check-rows.sh and scripts/check/check-clients.sh: what real clients get, that a call ends, that the system puts the
+//!   server at the address that it is asked for, what it says where it can't, that the queues settle (no E16), that the server ends once its
+//!   relay has, that its clients are told of its end, and that the threads end.
 //! - Neither: what a network gives, and when; when E1, E10 and E16 come; that in one thread the service doesn't sleep while orders wait; what
 //!   `gauge` shows and `watch` is told.
 //! - Of leave-taking: from which clients leave is taken, and when it gives them up. That the clock alone does that can't be said: the kit ties
 //!   no reading of the clock to anything that a contract could name.
-//! - Whom the guard keeps out while a server serves or takes leave: the turns say nothing of the wire but what it told and how often it failed.
-//!   What the socket told is what the guard in front of the host told, and the CONNECTs that this passed over (`TellsTheRest` of `enet_guard`).
+//! - Which CONNECTs the guard passes over while a server serves or takes leave: the turns say of the wire only what it told, how often it
+//!   failed, and that the guard's rules and bans stay. What the socket told is what the guard told, and the CONNECTs that this passed over
+//!   (`TellsTheRest` of `enet_guard`).
 #![tactic(auto)]
 
 mod alone;

@@ -43,6 +43,7 @@ pub(crate) fn lone_turn<H: Core, W: Wire, R: Wait + Clock>(
     ensures sound { OnOk result (W.faults wire.new ≡ W.faults wire.old) }
     ensures failed { IfErr result (λ fault. fault.why ≡ Refusal.WireFault → W.faults wire.new ≡ W.faults wire.old + 1) }
     ensures other { IfErr result (λ fault. fault.why ≢ Refusal.WireFault → W.faults wire.new ≡ W.faults wire.old) }
+    ensures kept { W.kept wire.new ≡ W.kept wire.old }
 {
     let ms = match wire.wait(rt) {
         Ok(ms) => ms,

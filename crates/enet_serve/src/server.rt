@@ -104,7 +104,7 @@ impl ChatServer {
     ghost use Rattle.std.specs.Prelude.{◌≡◌, ◌≢◌, ◌+◌, ◌⊎◌, ◌↔◌, ◌++◌, ◌∷◌, [], IsSome, true, false, None, OnOk, OnErr, IfOk, IfErr, Err};
     ghost use Rattle.std.specs.List.{filter};
     ghost use Rattle.enet_submit.specs.Words.{capacity_of};
-    ghost use Rattle.enet_guard.specs.Guarding.{is_other};
+    ghost use Rattle.enet_guard.specs.Guarding.{is_other, ruling};
     ghost use Rattle.enet_service.specs.ServiceRuns.{AreNew, IsCapacity};
     ghost use Rattle.enet_turn.specs.LoneTurn.{beside, lone};
     ghost use Rattle.enet_serve.specs.Serving.{Serves, IsCutOffBeside, IsCutOffAlone, EndsRun, IsNotServed, IsOpened, is_in_range, host_of, faults_of, told_of, guard_of, waiting_of, over_wire, peers_of, backlog_of, orders_of, unsettled_of, queue_capacity_of};
@@ -168,6 +168,7 @@ impl ChatServer {
         ensures sound { OnOk result (faults_of self.new ≡ faults_of self.old) }
         ensures failed { IfErr result (λ why. why ≡ Refusal.WireFault → faults_of self.new ≡ faults_of self.old + 1) }
         ensures other { IfErr result (λ why. why ≢ Refusal.WireFault → faults_of self.new ≡ faults_of self.old) }
+        ensures guard { ruling (guard_of self.new) ≡ ruling (guard_of self.old) }
     {
         let bell = self.bound.wire.wire().bell()?;
         let Queues {
@@ -208,6 +209,7 @@ impl ChatServer {
         ensures sound { OnOk result (faults_of self.new ≡ faults_of self.old) }
         ensures failed { IfErr result (λ why. why ≡ Refusal.WireFault → faults_of self.new ≡ faults_of self.old + 1) }
         ensures other { IfErr result (λ why. why ≢ Refusal.WireFault → faults_of self.new ≡ faults_of self.old) }
+        ensures guard { ruling (guard_of self.new) ≡ ruling (guard_of self.old) }
     {
         let bell = self.bound.wire.wire().bell()?;
         let kept = mem::replace(&mut self.kept, Carryover::new(self.alloc));
@@ -240,6 +242,7 @@ impl ChatServer {
         ensures sound { OnOk result (faults_of self.new ≡ faults_of self.old) }
         ensures failed { IfErr result (λ why. why ≡ Refusal.WireFault → faults_of self.new ≡ faults_of self.old + 1) }
         ensures other { IfErr result (λ why. why ≢ Refusal.WireFault → faults_of self.new ≡ faults_of self.old) }
+        ensures guard { ruling (guard_of self.new) ≡ ruling (guard_of self.old) }
     {
         let Shared {
             queue,
@@ -368,6 +371,7 @@ impl ChatServer {
     pub fn take_leave<R: Wait + Clock>(&mut self, rt: &R)
         ensures leaves { TakesLeave (over_wire self.old) (over_wire self.new) }
         ensures peers { peers_of self.new ≡ peers_of self.old }
+        ensures guard { ruling (guard_of self.new) ≡ ruling (guard_of self.old) }
         ensures kept { (backlog_of self.new ≡ backlog_of self.old) × (orders_of self.new ≡ orders_of self.old) × (unsettled_of self.new ≡ unsettled_of self.old) }
         ensures queues { queue_capacity_of self.new ≡ queue_capacity_of self.old }
     {

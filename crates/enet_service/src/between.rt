@@ -32,6 +32,7 @@ pub fn run_between_queues<H: Core, W: Wire, R: Wait + Clock>(
         × (W.told wire.new ≡ also (W.told wire.old) (unless_spent (W.faults wire.old) (all_told rounds)))
         × Ends turns rounds result }
     ensures faults { W.faults wire.new ≡ W.faults wire.old + count_of (is_err result) }
+    ensures kept { W.kept wire.new ≡ W.kept wire.old }
 {
     run(rt, service, wire, source, sink, turns)
 }

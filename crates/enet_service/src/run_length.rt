@@ -53,6 +53,7 @@ pub(crate) fn take_turns<R: Wait + Clock, N: Wire, W: Watch>(
     ensures cut { IfErr result (λ why. IsCut run_length (standing service.old source.old sink.old (N.told wire.old) (N.faults wire.old)) (standing service.new source.new sink.new (N.told wire.new) (N.faults wire.new))) }
     ensures fault { IfErr result (λ why. why ≡ Refusal.WireFault) }
     ensures faults { N.faults wire.new ≡ N.faults wire.old + count_of (is_err result) }
+    ensures kept { N.kept wire.new ≡ N.kept wire.old }
 {
     match run_length {
         RunLength::Turns(turns) => turns_of(rt, service, wire, source, sink, turns, watch),
@@ -77,6 +78,7 @@ fn turns_of<R: Wait + Clock, N: Wire, W: Watch>(
     ensures cut { IfErr result (λ why. IsCut (lengths.Turns turns) (standing service.old source.old sink.old (N.told wire.old) (N.faults wire.old)) (standing service.new source.new sink.new (N.told wire.new) (N.faults wire.new))) }
     ensures fault { IfErr result (λ why. why ≡ Refusal.WireFault) }
     ensures faults { N.faults wire.new ≡ N.faults wire.old + count_of (is_err result) }
+    ensures kept { N.kept wire.new ≡ N.kept wire.old }
 {
     match run_between_queues(rt, service, wire, source, sink, turns) {
         Ok(report) => {
@@ -116,6 +118,7 @@ fn turns_for<R: Wait + Clock, N: Wire, W: Watch>(
     ensures cut { IfErr result (λ why. IsCut (lengths.Time time) (standing service.old source.old sink.old (N.told wire.old) (N.faults wire.old)) (standing service.new source.new sink.new (N.told wire.new) (N.faults wire.new))) }
     ensures fault { IfErr result (λ why. why ≡ Refusal.WireFault) }
     ensures faults { N.faults wire.new ≡ N.faults wire.old + count_of (is_err result) }
+    ensures kept { N.kept wire.new ≡ N.kept wire.old }
 {
     let start = Instant::now(rt);
     let mut total = Report::nothing();

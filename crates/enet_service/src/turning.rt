@@ -83,6 +83,7 @@ fn serve_turns<R: Wait + Clock, N: Wire, W: Watch>(
     ensures cut { IfErr result (λ why. IsCut run_length (standing bound.old.service source.old sink.old (N.told bound.old.wire) (N.faults bound.old.wire)) (standing bound.new.service source.new sink.new (N.told bound.new.wire) (N.faults bound.new.wire))) }
     ensures fault { IfErr result (λ why. why ≡ Refusal.WireFault) }
     ensures faults { N.faults bound.new.wire ≡ N.faults bound.old.wire + count_of (is_err result) }
+    ensures kept { N.kept bound.new.wire ≡ N.kept bound.old.wire }
 {
     let report = take_turns(
         rt,
@@ -127,6 +128,7 @@ where
     ensures cut { IfErr result.1 (λ why. IsCut run_length (standing bound.old.service source.old sink.old (N.told bound.old.wire) (N.faults bound.old.wire)) (standing bound.new.service source.new sink.new (N.told bound.new.wire) (N.faults bound.new.wire))) }
     ensures fault { IfErr result.1 (λ why. why ≡ Refusal.WireFault) }
     ensures faults { N.faults bound.new.wire ≡ N.faults bound.old.wire + count_of (is_err result.1) }
+    ensures kept { N.kept bound.new.wire ≡ N.kept bound.old.wire }
 {
     join_mut(
         rt,
@@ -138,6 +140,7 @@ where
             ensures cut { IfErr result (λ why. IsCut run_length (standing bound.entry.now.service source.entry.now sink.entry.now (N.told bound.entry.now.wire) (N.faults bound.entry.now.wire)) (standing bound.exit.now.service source.exit.now sink.exit.now (N.told bound.exit.now.wire) (N.faults bound.exit.now.wire))) }
             ensures fault { IfErr result (λ why. why ≡ Refusal.WireFault) }
             ensures faults { N.faults bound.exit.now.wire ≡ N.faults bound.entry.now.wire + count_of (is_err result) }
+            ensures kept { N.kept bound.exit.now.wire ≡ N.kept bound.entry.now.wire }
         { serve_turns(rt, bound, source, sink, run_length, signals, watch) },
     )
 }

@@ -16,14 +16,15 @@ use Rattle.enet_turn.specs.Private.Ending.{ends_sending, sent_by, lost_by}
 use Rattle.enet_turn.proofs.PhaseSteps.{SendsOn, sends_on, loses_on}
 use Rattle.enet_turn.proofs.Tellings.{went_more, lost_more}
 
-abbrev pub Comes : {H : Type 0} → Calls H → H → H → Option (List Told) → Option (List Told) → ℕ → ℕ → Sent → Type 0
-Comes calls old host o o_1 f f_1 r =
+abbrev pub Comes : {H K : Type 0} → Calls H → H → H → Option (List Told) → Option (List Told) → ℕ → ℕ → K → K → Sent → Type 0
+Comes calls old host o o_1 f f_1 k k_1 r =
     (told : List Told) × (o_1 ≡ also o (unless_spent f told)) × EmitsAll calls 256 16 old told (record { host = host; failed = r.failed }) × (r.sent ≡ went_in told)
-    × (r.lost ≡ lost_in told + count_of r.failed) × (f_1 ≡ f + count_of r.failed)
+    × (r.lost ≡ lost_in told + count_of r.failed) × (f_1 ≡ f + count_of r.failed) × (k_1 ≡ k)
 
-pub comes_soundly : {H : Type 0} (calls : Calls H) (old host : H) (o o_1 : Option (List Told)) (f f_1 : ℕ) (r : Sent) (sent lost : ℕ) → r ≡ record { sent = sent; lost = lost; failed = false }
-    → Comes calls old host o o_1 f f_1 (record { sent = sent; lost = lost; failed = false }) → Comes calls old host o o_1 f f_1 r
-comes_soundly calls old host o o_1 f f_1 r sent lost is h = subst (λ (x : Sent). Comes calls old host o o_1 f f_1 x) (sym is) h
+pub comes_soundly : {H K : Type 0} (calls : Calls H) (old host : H) (o o_1 : Option (List Told)) (f f_1 : ℕ) (k k_1 : K) (r : Sent) (sent lost : ℕ)
+    → r ≡ record { sent = sent; lost = lost; failed = false }
+    → Comes calls old host o o_1 f f_1 k k_1 (record { sent = sent; lost = lost; failed = false }) → Comes calls old host o o_1 f f_1 k k_1 r
+comes_soundly calls old host o o_1 f f_1 k k_1 r sent lost is h = subst (λ (x : Sent). Comes calls old host o o_1 f f_1 k k_1 x) (sym is) h
 
 -- what was counted
 pub went_by : (told : List Told) (to : Addr) (bytes : List ℕ) (became : SendOutcome) → went_in (told ++ went to bytes (Ok became)) ≡ went_in told + sent_by became

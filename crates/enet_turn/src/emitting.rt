@@ -23,7 +23,7 @@ pub(crate) fn emit_all<H: Core, W: Wire>(host: &mut H, wire: &mut W, buf: &mut [
     ensures { (told : List Call) × (W.told wire.new ≡ also (W.told wire.old) (unless_spent (W.faults wire.old) told))
         × EmitsAll H.calls 256 16 host.old told (record { host = host.new; failed = result.failed }) × (result.sent ≡ went_in told)
         × (result.lost ≡ lost_in told + count_of result.failed)
-        × (W.faults wire.new ≡ W.faults wire.old + count_of result.failed) }
+        × (W.faults wire.new ≡ W.faults wire.old + count_of result.failed) × (W.kept wire.new ≡ W.kept wire.old) }
 {
     let mut sent = 0u32;
     let mut lost = 0u32;

@@ -18,6 +18,7 @@
 //! - A turn ends where the calls of source and sink return, since each event that a host tells leaves fewer.
 //! - The parts of a turn between which orders are made are those of its phases that they name, up to where the wire fails in one.
 //! - A run ([`run`]) is its turns, each after a wait, up to the first fault, and its report their sums.
+//! - What a wire keeps (`kept` of `enet_wire`), as a guard keeps its bans, no turn and no run changes.
 //!
 //! # Only tested, or neither
 //!

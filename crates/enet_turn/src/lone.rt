@@ -45,6 +45,7 @@ impl<H: Core> Service<H> {
             × (fault.report ≡ record { orders = 0; received = came_in came; sent = 0; lost = 0; events = taken_in puts })) }
         ensures why { IfErr result (λ fault. fault.why ≡ Refusal.WireFault) }
         ensures faults { W.faults wire.new ≡ W.faults wire.old + count_of (is_err result) }
+        ensures kept { W.kept wire.new ≡ W.kept wire.old }
     {
         self.host.tick(ms);
         let again = offer_again(rt, sink, &mut self.waiting);
@@ -89,6 +90,7 @@ impl<H: Core> Service<H> {
         ensures waits { self.new.waiting ≡ self.old.waiting }
         ensures why { IfErr result (λ fault. fault.why ≡ Refusal.WireFault) }
         ensures faults { W.faults wire.new ≡ W.faults wire.old + count_of (is_err result) }
+        ensures kept { W.kept wire.new ≡ W.kept wire.old }
     {
         let sent = emit_all(&mut self.host, wire, buf);
         let report = report_of(0, 0, sent.sent, sent.lost, 0);

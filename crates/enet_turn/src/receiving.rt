@@ -23,7 +23,7 @@ pub(crate) fn receive_all<H: Core, W: Wire>(
 ) -> Heard
     ensures { (told : List Call) × (W.told wire.new ≡ also (W.told wire.old) (unless_spent (W.faults wire.old) told))
         × ReceivesAll H.calls 256 host.old told (record { host = host.new; failed = result.failed }) × (result.received ≡ came_in told)
-        × (W.faults wire.new ≡ W.faults wire.old + count_of result.failed) }
+        × (W.faults wire.new ≡ W.faults wire.old + count_of result.failed) × (W.kept wire.new ≡ W.kept wire.old) }
 {
     let mut received = 0u32;
     for _datagram in 0..MOST_PER_TURN {

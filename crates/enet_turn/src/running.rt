@@ -34,6 +34,7 @@ pub fn run<H: Core, W: Wire, S: Source, K: Sink, R: Wait + Clock>(
         × (W.told wire.new ≡ also (W.told wire.old) (unless_spent (W.faults wire.old) (all_told rounds)))
         × Ends turns rounds result }
     ensures faults { W.faults wire.new ≡ W.faults wire.old + count_of (is_err result) }
+    ensures kept { W.kept wire.new ≡ W.kept wire.old }
 {
     let mut buf = [0u8; 4096];
     let mut total = Report::nothing();

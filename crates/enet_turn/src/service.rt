@@ -57,6 +57,7 @@ impl<H: Core> Service<H> {
             × Chain (λ s x t. K.puts s x.0 x.1 t) sink.old round.puts sink.new
             × Turn H.calls self.old round self.new × Reports result round.report }
         ensures faults { W.faults wire.new ≡ W.faults wire.old + count_of (is_err result) }
+        ensures kept { W.kept wire.new ≡ W.kept wire.old }
     {
         self.turn_through(rt, wire, source, sink, ms, &mut [0u8; 4096])
     }
@@ -77,6 +78,7 @@ impl<H: Core> Service<H> {
             × Chain (λ s x t. K.puts s x.0 x.1 t) sink.old round.puts sink.new
             × Turn H.calls self.old round self.new × Reports result round.report }
         ensures faults { W.faults wire.new ≡ W.faults wire.old + count_of (is_err result) }
+        ensures kept { W.kept wire.new ≡ W.kept wire.old }
     {
         self.host.tick(ms);
         let again = offer_again(rt, sink, &mut self.waiting);

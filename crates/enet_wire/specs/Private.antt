@@ -1,2 +1,3 @@
 -- What no public contract needs.
 pub mod Noted
+pub mod Refusals

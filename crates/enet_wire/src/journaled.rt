@@ -21,29 +21,33 @@ const MOST_PASSED_OVER: u32 = 64;
 const BUFFER: u32 = 4_194_304;
 
 /// A UDP socket with a journal, to which nobody else has the socket. That a datagram came or went is noted by [`receive`] and [`send`]
-/// alone, with what the system answered: what these two functions note of it is trusted.
+/// alone, with what the system answered, and at which address the system was asked to put it by [`bind`]: what these three functions note
+/// of it is trusted.
 #[derive(Drop)]
 pub(crate) struct JournaledSocket {
     socket: UdpSocket,
+    address: Addr,
     journal: Journal,
 }
 
 impl JournaledSocket {
     /// A socket at this address, at port 0 at one that the system chooses, with buffers of 4 MB where the system grants that. The registry
-    /// tells by this token that a datagram came. Of the socket nothing is noted.
+    /// tells by this token that a datagram came. Of the socket nothing is noted but this address.
     pub(crate) fn bind<R: Net>(
         rt: &R,
         addr: Addr,
         registry: &Registry,
         token: Token,
     ) -> io::Result<JournaledSocket>
-        ensures { IfOk result (λ socket. noted_at socket ≡ []) }
+        ensures untold { IfOk result (λ socket. noted_at socket ≡ []) }
+        ensures there { IfOk result (λ socket. socket.address ≡ addr) }
     {
         let mut socket = UdpSocket::bind(rt, socket_addr(addr))?;
         widen(socket.as_raw_fd());
         registry.register(&mut socket, token, Interest::READABLE)?;
         Ok(JournaledSocket {
             socket,
+            address: addr,
             journal: Journal::new(),
         })
     }

@@ -99,6 +99,8 @@ impl Wire for MemoryWire {
 
     ghost faults = { λ w. w.faults };
 
+    ghost kept = { λ w. tt };
+
     fn recv(&mut self, buf: &mut [u8; 4096]) -> Result<Option<(Addr, usize)>, Refusal>
         ensures told { self.new.told ≡ self.old.told ++ unless_spent self.old.faults (came result buf.new) }
         ensures len { IfOk result (λ given. IfSome given (λ d. d.1 ≤ 4096)) }

@@ -1,7 +1,8 @@
 //! A UDP socket as a wire.
 ghost use Rattle.std.specs.Prelude.{◌≡◌, [], ◌⊎◌, ◌↔◌, ◌+◌, ◌<◌, Err, IfOk, IfErr, IsSome, None, Some};
 ghost use Rattle.enet_wire.specs.Private.Noted.{noted_at};
-ghost use Rattle.enet_wire.specs.Socket.{bell_of, failures_of, reason_of, told_of};
+ghost use Rattle.enet_wire.specs.Private.Refusals.{is_repeatable, unsent_by};
+ghost use Rattle.enet_wire.specs.Socket.{address_of, bell_of, failures_of, reason_of, told_of};
 ghost use Rattle.std.specs.Arc.{arc_value};
 
 use crate::bell::Bell;
@@ -82,6 +83,7 @@ impl MioWire {
     /// E14 where the address can't be had, or the system grants nothing to wait by; else E1 for want of memory.
     pub fn bind<R: Net + AllocGlobal>(rt: &R, addr: Addr) -> Result<MioWire, Refusal>
         ensures new { IfOk result (λ wire. failures_of wire ≡ 0) }
+        ensures there { IfOk result (λ wire. address_of wire ≡ addr) }
         ensures silent { IfOk result (λ wire. reason_of wire ≡ None) }
         ensures untold { IfOk result (λ wire. told_of wire ≡ []) }
         ensures refused { IfErr result (λ why. (why ≡ Refusal.WireFault) ⊎ (why ≡ Refusal.Memory)) }
@@ -95,6 +97,7 @@ impl MioWire {
     /// As [`MioWire::bind`], and beside E14 what the system said.
     pub fn open<R: Net + AllocGlobal>(rt: &R, addr: Addr) -> Result<MioWire, Unopened>
         ensures new { IfOk result (λ wire. failures_of wire ≡ 0) }
+        ensures there { IfOk result (λ wire. address_of wire ≡ addr) }
         ensures silent { IfOk result (λ wire. reason_of wire ≡ None) }
         ensures untold { IfOk result (λ wire. told_of wire ≡ []) }
         ensures refused { IfErr result (λ unopened. (unopened.why ≡ Refusal.WireFault) ⊎ (unopened.why ≡ Refusal.Memory)) }
@@ -261,7 +264,8 @@ impl MioWire {
 }
 
 fn opened<R: Net>(rt: &R, addr: Addr) -> io::Result<(JournaledSocket, Poll, Bell)>
-    ensures { IfOk result (λ opened. noted_at opened.0 ≡ []) }
+    ensures untold { IfOk result (λ opened. noted_at opened.0 ≡ []) }
+    ensures there { IfOk result (λ opened. opened.0.address ≡ addr) }
 {
     let poll = Poll::new(rt)?;
     let socket = JournaledSocket::bind(rt, addr, poll.registry(), SOCKET)?;
@@ -297,11 +301,17 @@ const HOST_DOWN: i32 = 112;
 
 fn why_unsent(why: &io::Error) -> Unsent {
     match why.raw_os_error() {
-        Some(TOO_LONG) => return Unsent::Lost,
-        Some(NO_BUFFERS) => return Unsent::Blocked,
-        _ => {}
+        Some(TOO_LONG) => Unsent::Lost,
+        Some(NO_BUFFERS) => Unsent::Blocked,
+        _ => unsent_by(why.kind()),
     }
-    match why.kind() {
+}
+
+// By the kind of an error that has no rule of its own.
+fn unsent_by(kind: ErrorKind) -> Unsent
+    ensures { result ≡ unsent_by kind }
+{
+    match kind {
         ErrorKind::WouldBlock | ErrorKind::Interrupted | ErrorKind::OutOfMemory => {
             Unsent::Blocked
         }
@@ -325,8 +335,14 @@ fn can_be_repeated(why: &io::Error) -> bool {
     {
         return true;
     }
+    is_repeatable(why.kind())
+}
+
+fn is_repeatable(kind: ErrorKind) -> bool
+    ensures { result ≡ is_repeatable kind }
+{
     matches!(
-        why.kind(),
+        kind,
         ErrorKind::WouldBlock
             | ErrorKind::Interrupted
             | ErrorKind::OutOfMemory
@@ -344,6 +360,8 @@ impl Wire for MioWire {
     ghost told = { λ w. Some (told_of w) };
 
     ghost faults = { λ w. failures_of w };
+
+    ghost kept = { λ w. tt };
 
     /// None, too, where 64 datagrams came that can't be answered, and where the reception failed in a way that need not come again: that is
     /// no fault. The next wait sleeps then as after an empty socket, so that it isn't tried without a pause. The system isn't asked where

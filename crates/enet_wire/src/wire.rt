@@ -38,6 +38,11 @@ pub trait Wire {
     /// How often a call failed so far.
     ghost faults: { Self → ℕ };
 
+    /// What no call changes, as the address of a socket.
+    ghost Kept: { Type 0 } = { Unit {0} };
+
+    ghost kept: { Self → Self.Kept };
+
     /// The next datagram: who sent it, and how many bytes of the buffer it is. Of a longer one these are the first 4,096. None
     /// where nothing is there. A datagram from port 0 is passed over, and not told: nothing can be sent to that port, so a host
     /// would keep a peer that it can't answer.
@@ -47,21 +52,24 @@ pub trait Wire {
         ensures answerable { IfOk result (λ given. IfSome given (λ d. 0 < d.0.port)) }
         ensures fault { IfErr result (λ why. why ≡ Refusal.WireFault) }
         ensures faults { faults self.new ≡ faults_after (faults self.old) result }
-        ensures spent { faults self.old ≡ last_fault → result ≡ Ok None };
+        ensures spent { faults self.old ≡ last_fault → result ≡ Ok None }
+        ensures kept { kept self.new ≡ kept self.old };
 
     /// Hands a datagram over for this address, and tells what became of it.
     fn send(&mut self, to: Addr, bytes: &[u8]) -> Result<SendOutcome, Refusal>
         ensures told { told self.new ≡ also (told self.old) (unless_spent (faults self.old) (went to bytes.now result)) }
         ensures fault { IfErr result (λ why. why ≡ Refusal.WireFault) }
         ensures faults { faults self.new ≡ faults_after (faults self.old) result }
-        ensures spent { faults self.old ≡ last_fault → result ≡ Ok SendOutcome.Blocked };
+        ensures spent { faults self.old ≡ last_fault → result ≡ Ok SendOutcome.Blocked }
+        ensures kept { kept self.new ≡ kept self.old };
 
     /// Waits until there is work, or not at all, and tells the milliseconds for the next turn.
     fn wait<R: Wait + Clock>(&mut self, rt: &R) -> Result<u32, Refusal>
         ensures told { told self.new ≡ also (told self.old) (unless_spent (faults self.old) (waited result)) }
         ensures fault { IfErr result (λ why. why ≡ Refusal.WireFault) }
         ensures faults { faults self.new ≡ faults_after (faults self.old) result }
-        ensures spent { faults self.old ≡ last_fault → result ≡ Ok 0 };
+        ensures spent { faults self.old ≡ last_fault → result ≡ Ok 0 }
+        ensures kept { kept self.new ≡ kept self.old };
 
     /// How many of its calls answered E14.
     fn failures(&self) -> u64

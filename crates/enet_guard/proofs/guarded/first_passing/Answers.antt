@@ -34,4 +34,5 @@ loop-over-preserved g c =
       omega (arith, length_more over (from, bytes), inv.2),
       over_on _ _ _ _ _ over from bytes inv.3 inv.4 now,
       c.in_ok-from.ensures.faults ∙ inv.4,
+      c.if-judge.ensures.ruling ∙ inv.5,
     )

@@ -10,4 +10,4 @@ returns g c =
     let rounds : List Round = ran.0 in
     let drained = drains_on c.args.source.now (all_gave rounds) c.run.new.source ran.2 in
     let posted = posts_on c.args.sink.now (all_puts rounds) c.run.new.sink ran.3 in
-    record { run = (rounds, ran.1, drained.0, drained.1, posted, ran.4, ran.5); faults = c.run.ensures.faults }
+    record { run = (rounds, ran.1, drained.0, drained.1, posted, ran.4, ran.5); faults = c.run.ensures.faults; kept = c.run.ensures.kept }

@@ -6,7 +6,7 @@ use Rattle.enet_service.proofs.Spells.{no_turn, further, cut_after}
 use Rattle.enet_service.proofs.run_length.turns_for.Goals as goal
 
 pub loop-init : goal.loop-init
-loop-init g c = (refl, subst AreFew (sym c.nothing-total.ensures) (omega arith, omega arith), (omega arith, omega arith), [], no_turn _ _ c.nothing-total.ensures)
+loop-init g c = (refl, subst AreFew (sym c.nothing-total.ensures) (omega arith, omega arith), (omega arith, omega arith), [], no_turn _ _ c.nothing-total.ensures, refl)
 
 pub loop-preserved : goal.loop-preserved
 loop-preserved g c =
@@ -17,6 +17,7 @@ loop-preserved g c =
       (c.turns_from-turns.ensures.some c.loop.invariant.2.0, c.turns_from-turns.ensures.most),
       before ++ more,
       further _ _ _ before more _ _ _ c.loop.invariant.4 c.in_ok-report.ensures.turns.2 c.and-total.ensures,
+      c.in_ok-report.ensures.kept ∙ c.loop.invariant.5,
     )
 
 pub returns-then-has_left-clause-turns : goal.returns-then-has_left-clause-turns

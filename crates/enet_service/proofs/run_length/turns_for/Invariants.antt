@@ -12,3 +12,4 @@ invariant-loop g l =
     × (rounds : List Round)
     × Spell (standing l.fn.service l.fn.source l.fn.sink (g.N.Wire.told l.fn.wire) (g.N.Wire.faults l.fn.wire)) rounds
     (standing l.service l.source l.sink (g.N.Wire.told l.wire) (g.N.Wire.faults l.wire)) l.total
+    × (g.N.Wire.kept l.wire ≡ g.N.Wire.kept l.fn.wire)

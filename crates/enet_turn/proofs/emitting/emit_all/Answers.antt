@@ -23,6 +23,7 @@ returns-in-Err g c =
       inv.3,
       omega (arith, inv.4),
       faults,
+      c.in-Err.ensures.kept ∙ inv.8,
     )
 
 pub returns-in_default : goal.returns-in_default
@@ -30,7 +31,7 @@ returns-in_default g c =
     let inv = c.loop-datagram.invariant in
     let told : List Told = inv.0 in
     let faults : g.W.Wire.faults c.loop-datagram.wire ≡ g.W.Wire.faults c.args.wire.now = inv.2 in
-    comes_soundly g.H.Core.calls c.args.host.now c.emit.new.self _ _ _ _ c.ended.result _ _ c.ended.ensures (
+    comes_soundly g.H.Core.calls c.args.host.now c.emit.new.self _ _ _ _ _ _ c.ended.result _ _ c.ended.ensures (
       told,
       inv.1,
       subst (λ (xs : List Told). EmitsAll g.H.Core.calls 256 16 c.args.host.now xs (record { host = c.emit.new.self; failed = false })) (append-nil told)
@@ -38,6 +39,7 @@ returns-in_default g c =
       inv.3,
       omega (arith, inv.4),
       omega (arith, faults),
+      inv.8,
     )
 
 pub loop-datagram-preserved : goal.loop-datagram-preserved
@@ -61,6 +63,7 @@ loop-datagram-preserved g c =
       omega (arith, few_by lost became inv.6 on, counted.1),
       subst (λ (n : ℕ). SendsOn g.H.Core.calls (c.loop-datagram._datagram + 1) (lost + n) c.args.host.now (told ++ went to bytes (Ok became)) c.emit.new.self) (sym counted.1)
           (goes_by g.H.Core.calls c.loop-datagram._datagram lost _ _ _ told to bytes became (omega arith) inv.6 inv.7 c.in-Some.ensures.given on),
+      c.in-Ok.ensures.kept ∙ inv.8,
     )
 
 pub returns : goal.returns
@@ -68,7 +71,7 @@ returns g c =
     let inv = c.loop-datagram.invariant in
     let told : List Told = inv.0 in
     let faults : g.W.Wire.faults c.loop-datagram.wire ≡ g.W.Wire.faults c.args.wire.now = inv.2 in
-    comes_soundly g.H.Core.calls c.args.host.now c.loop-datagram.host _ _ _ _ c.ended-2.result _ _ c.ended-2.ensures (
+    comes_soundly g.H.Core.calls c.args.host.now c.loop-datagram.host _ _ _ _ _ _ c.ended-2.result _ _ c.ended-2.ensures (
       told,
       inv.1,
       subst (λ (xs : List Told). EmitsAll g.H.Core.calls 256 16 c.args.host.now xs (record { host = c.loop-datagram.host; failed = false })) (append-nil told)
@@ -76,6 +79,7 @@ returns g c =
       inv.3,
       omega (arith, inv.4),
       omega (arith, faults),
+      inv.8,
     )
 
 pub returns-then-ends_sending : goal.returns-then-ends_sending
@@ -91,11 +95,12 @@ returns-then-ends_sending g c =
     let ends : ends_sending became (lost + lost_by became) ≡ true =
     ap (λ (n : ℕ). ends_sending became (lost + n)) (sym counted.1) ∙ (sym c.ends_sending.ensures ∙ c.if-ends_sending.true) in
     let faults : g.W.Wire.faults c.send.new.self ≡ g.W.Wire.faults c.args.wire.now = c.in-Ok.ensures.faults ∙ inv.2 in
-    comes_soundly g.H.Core.calls c.args.host.now c.emit.new.self _ _ _ _ c.ended-then-ends_sending.result _ _ c.ended-then-ends_sending.ensures (
+    comes_soundly g.H.Core.calls c.args.host.now c.emit.new.self _ _ _ _ _ _ c.ended-then-ends_sending.result _ _ c.ended-then-ends_sending.ensures (
       told ++ went to bytes (Ok became),
       told_on _ _ _ _ _ told (went to bytes (Ok became)) inv.1 inv.2 c.in-Ok.ensures.told,
       ends_by g.H.Core.calls c.loop-datagram._datagram lost c.args.host.now _ _ told to bytes became (omega arith) inv.6 inv.7 c.in-Some.ensures.given ends,
       omega (arith, went_by told to bytes became, counted.0, inv.3),
       omega (arith, kept_by told to bytes became, counted.1, inv.4),
       omega (arith, faults),
+      c.in-Ok.ensures.kept ∙ inv.8,
     )

@@ -12,3 +12,4 @@ invariant-loop-datagram g l =
     × (g.W.Wire.faults l.wire ≡ g.W.Wire.faults l.initial.wire)
     × (l.sent ≡ went_in told) × (l.lost ≡ lost_in told) × (l.sent + l.lost ≡ l._datagram) × (l.lost < 16)
     × SendsOn g.H.Core.calls l._datagram l.lost l.initial.host told l.host
+    × (g.W.Wire.kept l.wire ≡ g.W.Wire.kept l.initial.wire)

@@ -22,6 +22,7 @@ returns-in-Ok-None g c =
       inv.5 (NothingCame ∷ []) (record { host = c.loop-datagram.host; failed = false }) (omega arith, refl, refl, refl),
       omega (arith, came_more told (NothingCame ∷ []), inv.3),
       omega (arith, faults),
+      c.in-Ok-None.ensures.kept ∙ inv.6,
     )
 
 pub returns-in-Err : goal.returns-in-Err
@@ -35,6 +36,7 @@ returns-in-Err g c =
           (inv.5 [] (record { host = c.loop-datagram.host; failed = true }) (inr (omega arith, refl), refl)),
       inv.3,
       faults,
+      c.in-Err.ensures.kept ∙ inv.6,
     )
 
 pub loop-datagram-preserved : goal.loop-datagram-preserved
@@ -51,6 +53,7 @@ loop-datagram-preserved g c =
       omega (arith, came_more told (x ∷ []), inv.3),
       omega (arith, inv.4),
       hears_on g.H.Core.calls c.loop-datagram._datagram _ _ _ told _ _ (omega arith) inv.5 c.receive.ensures,
+      c.in-Ok-Some.ensures.kept ∙ inv.6,
     )
 
 pub returns : goal.returns
@@ -64,4 +67,5 @@ returns g c =
           (inv.5 [] (record { host = c.loop-datagram.host; failed = false }) (inl (omega arith, refl), refl)),
       inv.3,
       omega (arith, faults),
+      inv.6,
     )

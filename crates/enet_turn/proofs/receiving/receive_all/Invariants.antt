@@ -12,3 +12,4 @@ invariant-loop-datagram g l =
     × (g.W.Wire.faults l.wire ≡ g.W.Wire.faults l.initial.wire)
     × (l.received ≡ came_in told) × (l.received ≡ l._datagram)
     × HearsOn g.H.Core.calls l._datagram l.initial.host told l.host
+    × (g.W.Wire.kept l.wire ≡ g.W.Wire.kept l.initial.wire)

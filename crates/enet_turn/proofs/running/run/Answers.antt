@@ -13,7 +13,7 @@ use Rattle.enet_turn.proofs.Runs.{all_more, told_more, total_more}
 use Rattle.enet_turn.proofs.running.run.Goals as goal
 
 pub loop-turn-init : goal.loop-turn-init
-loop-turn-init g c = ([], refl, refl, refl, also_nothing _ _, refl, All-nil IsSound, refl, c.nothing-total.ensures)
+loop-turn-init g c = ([], refl, refl, refl, also_nothing _ _, refl, All-nil IsSound, refl, c.nothing-total.ensures, refl)
 
 pub loop-turn-preserved : goal.loop-turn-preserved
 loop-turn-preserved g c =
@@ -32,6 +32,7 @@ loop-turn-preserved g c =
       All-push IsSound rounds r inv.6 turn.2,
       omega (arith, length-append rounds (r ∷ []), inv.7),
       total_more _ _ _ rounds r inv.8 turn.7 c.and-total.ensures,
+      c.in_ok-report.ensures.kept ∙ (c.in-Ok.ensures.kept ∙ inv.9),
     )
 
 pub returns-in_err-report-clause-run : goal.returns-in_err-report-clause-run

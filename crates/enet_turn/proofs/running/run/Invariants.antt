@@ -18,3 +18,4 @@ invariant-loop-turn g l =
     × All IsSound rounds
     × (length rounds ≡ l._turn)
     × (l.total ≡ total rounds)
+    × (g.W.Wire.kept l.wire ≡ g.W.Wire.kept l.initial.wire)

@@ -18,6 +18,7 @@ loop-init g c = (
   [],
   goes_nowhere _ _ refl refl refl (expands_none _ _ refl refl refl refl refl) c.requires.behind c.requires.far_behind,
   c.nothing-total.ensures,
+  refl,
 )
 
 pub loop-preserved : goal.loop-preserved
@@ -34,6 +35,7 @@ loop-preserved g c =
       before ++ more,
       goes_on first second third before more inv.4 c.in_ok-report.ensures.goes.3,
       total_of_both c.loop.total c.in_ok-report.report c.and-total.result before more inv.5 c.in_ok-report.ensures.goes.2 c.and-total.ensures,
+      c.in_ok-report.ensures.kept ∙ inv.6,
     )
 
 pub returns-then-wants_end-clause-goes : goal.returns-then-wants_end-clause-goes

@@ -10,7 +10,7 @@ use Rattle.enet_serve.proofs.TurnByTurn.{goes_nowhere, goes_on, goes_off}
 use Rattle.enet_serve.proofs.alone.Alone.turn_by_turn.Goals as goal
 
 pub loop-turn-init : goal.loop-turn-init
-loop-turn-init g c = (refl, [], goes_nowhere _ _ refl refl refl (expands_none _ _ refl refl refl refl refl) c.requires.behind c.requires.far_behind, refl, c.nothing-total.ensures)
+loop-turn-init g c = (refl, [], goes_nowhere _ _ refl refl refl (expands_none _ _ refl refl refl refl refl) c.requires.behind c.requires.far_behind, refl, c.nothing-total.ensures, refl)
 
 pub loop-turn-preserved : goal.loop-turn-preserved
 loop-turn-preserved g c =
@@ -25,6 +25,7 @@ loop-turn-preserved g c =
       goes_on first second third before more inv.2 c.in-Ok.ensures.goes.3,
       omega (arith, length-append before more, inv.3, c.in-Ok.ensures.goes.1),
       total_of_both c.loop-turn.total c.in-Ok.report c.and-total.result before more inv.4 c.in-Ok.ensures.goes.2 c.and-total.ensures,
+      c.in-Ok.ensures.kept ∙ inv.5,
     )
 
 pub returns-in-Err-clause-goes_off : goal.returns-in-Err-clause-goes_off

@@ -1,6 +1,7 @@
 use Rattle.std.proofs.Common.{◌≡◌, List}
 use Rattle.std.specs.Prelude.{length}
 use Rattle.enet_wire.specs.Socket.{failures_of}
+use Rattle.enet_guard.specs.Guarding.{ruling}
 use Rattle.enet_guard.specs.Journals.{told_of}
 use Rattle.enet_turn.specs.Turn.{Round}
 use Rattle.enet_turn.specs.Run.{total}
@@ -14,3 +15,4 @@ invariant-loop-turn g l =
     × Goes (pair l.fn.bound.service l.fn.self.relay (told_of l.fn.bound.wire) (failures_of l.fn.bound.wire.wire)) rounds (pair l.bound.service l.self.relay (told_of l.bound.wire) (failures_of l.bound.wire.wire))
     × (length rounds ≡ l._turn)
     × (l.total ≡ total rounds)
+    × (ruling l.bound.wire.guard ≡ ruling l.fn.bound.wire.guard)
