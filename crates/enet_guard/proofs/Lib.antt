@@ -1,3 +1,6 @@
 pub mod Ids
 pub mod Passings
+pub mod Learning
 mod Rests
+mod Loading
+mod Paying

@@ -9,8 +9,9 @@ use Rattle.enet_wire.specs.declared.told.Told.{Told}
 use Rattle.enet_wire.specs.declared.told.Told.TheVariants.{NothingCame}
 use Rattle.enet_wire.specs.Wires.{also, unless_spent, is_spent, came}
 use Rattle.enet_guard.specs.Guarding.{Guarding}
-use Rattle.enet_guard.specs.Journals.{Call, IsCall, IsConnect, inside_of, told_inside, told_outside, TellsTheRest}
+use Rattle.enet_guard.specs.Journals.{Call, IsCall, IsPassedOver, inside_of, told_inside, told_outside, TellsTheRest}
 use Rattle.enet_guard.specs.Passing.{PassesOver, Gives, Receives}
+use Rattle.enet_guard.proofs.Paying.{passed_over_so}
 
 inside_more : (calls : List Call) (c : Call) → told_inside (calls ++ c ∷ []) ≡ told_inside calls ++ inside_of c
 inside_more [] c = append-nil (inside_of c)
@@ -63,11 +64,11 @@ nothing_more f told = nothing_by (is_spent f) told
 pub rest_alike : (inside inside_1 : Option (List Told)) (f : ℕ) (told told_1 more : List Told) → TellsTheRest inside told
     → inside_1 ≡ also inside (unless_spent f more) → told_1 ≡ told ++ unless_spent f more → TellsTheRest inside_1 told_1
 rest_alike inside inside_1 f told told_1 more t e g =
-    tells_by (is_spent f) inside inside_1 told told_1 (record { over = []; behind = more; told = more }) (record { connects = All-nil IsConnect; as_inside = inl refl }) t e g
+    tells_by (is_spent f) inside inside_1 told told_1 (record { over = []; behind = more; told = more }) (record { passed_over = All-nil IsPassedOver; as_inside = inl refl }) t e g
 
-over_connects : (old new : Guarding) (over : List (Addr × List ℕ)) → PassesOver old over new → All IsConnect over
-over_connects old new [] h = All-nil IsConnect
-over_connects old new (d ∷ ds) h = All-cons IsConnect d ds (h.1.0, h.1.1) (over_connects h.0 new ds h.2)
+over_so : (old new : Guarding) (over : List (Addr × List ℕ)) → PassesOver old over new → All IsPassedOver over
+over_so old new [] h = All-nil IsPassedOver
+over_so old new (d ∷ ds) h = All-cons IsPassedOver d ds (passed_over_so old h.0 d h.1) (over_so h.0 new ds h.2)
 
 gives_so : (over : List (Addr × List ℕ)) (old new : Guarding) (result : Result (Option (Addr × ℕ)) Refusal) (buf : List ℕ) (told : List Told) → Gives over old result buf told new
     → (came result buf ≡ told) ⊎ ((told ≡ []) × (came result buf ≡ NothingCame ∷ []) × (length over ≡ 64))
@@ -82,4 +83,4 @@ pub rest_received : (inside inside_1 : Option (List Told)) (f : ℕ) (old new : 
 rest_received inside inside_1 f old new result buf told told_1 t r g =
     let c : Call = record { over = r.over; behind = r.told; told = came result buf } in
     tells_by (is_spent f) inside inside_1 told told_1 c
-    (record { connects = over_connects old r.between r.over r.passed_over; as_inside = gives_so r.over r.between new result buf r.told r.gives }) t r.inside_tells g
+    (record { passed_over = over_so old r.between r.over r.passed_over; as_inside = gives_so r.over r.between new result buf r.told r.gives }) t r.inside_tells g

@@ -1,5 +1,5 @@
 -- What a wire behind a guard tells.
-use Rattle.std.specs.Prelude.{◌≡◌, ◌⊎◌, ℕ, List, [], ◌∷◌, ◌++◌, length, map, Option}
+use Rattle.std.specs.Prelude.{◌≡◌, ◌⊎◌, ℕ, ◌<◌, List, [], ◌∷◌, ◌++◌, length, map, Option}
 use Rattle.std.specs.List.{All}
 use Rattle.enet_codec.specs.declared.address.Addr.{Addr}
 use Rattle.enet_wire.specs.declared.told.Told.{Told}
@@ -7,6 +7,8 @@ use Rattle.enet_wire.specs.declared.told.Told.TheVariants.{Came, NothingCame}
 use Rattle.enet_wire.specs.Wires.{also}
 use Rattle.enet_guard.specs.Asking.{Asks}
 use Rattle.enet_guard.specs.Guarding.{Guarding}
+use Rattle.enet_guard.specs.Loads.{Carries}
+use Rattle.enet_guard.specs.declared.loads.Load.{Load}
 
 -- what is seen of a wire behind a guard: the wire inside, what the guard goes by, and what the guarded wire tells of its own calls, in order
 pub record BehindGuard (N : Type 0) : Type 0 where
@@ -23,13 +25,14 @@ pub record Call : Type 0 where
   pub behind : List Told
   pub told : List Told
 
-abbrev pub IsConnect : (Addr × List ℕ) → Type 0
-IsConnect d = (connect_id : ℕ) × Asks d.1 connect_id
+-- a CONNECT, or what brings packets
+abbrev pub IsPassedOver : (Addr × List ℕ) → Type 0
+IsPassedOver d = ((connect_id : ℕ) × Asks d.1 connect_id) ⊎ ((slot : ℕ) × (load : Load) × Carries d.1 slot load × (0 < load.packets))
 
--- CONNECTs alone are passed over, and what the wire inside told behind them is told; but after 64 of them, where it is asked no more, it is told
--- that nothing came
+-- such datagrams alone are passed over, and what the wire inside told behind them is told; but after 64 of them, where it is asked no more, it is
+-- told that nothing came
 pub record IsCall (c : Call) : Type 0 where
-  pub connects : All IsConnect c.over
+  pub passed_over : All IsPassedOver c.over
   pub as_inside : (c.told ≡ c.behind) ⊎ ((c.behind ≡ []) × (c.told ≡ NothingCame ∷ []) × (length c.over ≡ 64))
 
 -- what the wire inside told in some calls
@@ -45,7 +48,7 @@ abbrev pub told_outside : List Call → List Told
 told_outside [] = []
 told_outside (c ∷ calls) = c.told ++ told_outside calls
 
--- what is told is what the wire inside told since it is behind the guard, less the CONNECTs that were passed over
+-- what is told is what the wire inside told since it is behind the guard, less what was passed over
 pub record TellsTheRest (inside : Option (List Told)) (told : List Told) : Type 0 where
   pub before : Option (List Told)
   pub calls : List Call

@@ -1,5 +1,7 @@
 pub mod Asking
 pub mod Guarding
 pub mod Journals
+pub mod Loads
 pub mod Passing
 pub mod Private
+pub mod Shares

@@ -6,17 +6,22 @@ use Rattle.enet_wire.specs.declared.told.Told.{Told}
 use Rattle.enet_wire.specs.declared.told.Told.TheVariants.{Came, NothingCame}
 use Rattle.enet_wire.specs.Wires.{also, unless_spent}
 use Rattle.enet_guard.specs.Asking.{Asks}
-use Rattle.enet_guard.specs.Guarding.{Guarding, Judges, has_no_rule}
+use Rattle.enet_guard.specs.Guarding.{Guarding, Judges, Charges, has_no_rule}
 
--- a datagram passes: it is no CONNECT, or there is no rule, and then the guard stays as it is; or the guard lets the CONNECT pass
+abbrev pub IsNoConnect : List ℕ → Type 0
+IsNoConnect bytes = (connect_id : ℕ) → Asks bytes connect_id → ⊥
+
+-- a datagram passes: there is no rule, and the guard stays as it is; or the guard lets the CONNECT pass; or it is none, and its client can pay
 abbrev pub Lets : Guarding → Addr → List ℕ → Guarding → Type 0
 Lets old from bytes new =
-    (((connect_id : ℕ) → Asks bytes connect_id → ⊥) × (new ≡ old))
-    ⊎ (((has_no_rule old ≡ true) × (new ≡ old)) ⊎ ((connect_id : ℕ) × Asks bytes connect_id × Judges old from connect_id true new))
+    ((has_no_rule old ≡ true) × (new ≡ old))
+    ⊎ (((connect_id : ℕ) × Asks bytes connect_id × Judges old from connect_id true new) ⊎ (IsNoConnect bytes × Charges old from bytes true new))
 
--- a datagram is passed over: it is a CONNECT, and the guard doesn't let it pass
+-- a datagram is passed over: it is a CONNECT, and the guard doesn't let it pass; or it is none, and its client can't pay
 abbrev pub Refuses : Guarding → Addr → List ℕ → Guarding → Type 0
-Refuses old from bytes new = (connect_id : ℕ) × Asks bytes connect_id × (has_no_rule old ≡ false) × Judges old from connect_id false new
+Refuses old from bytes new =
+    (has_no_rule old ≡ false)
+    × (((connect_id : ℕ) × Asks bytes connect_id × Judges old from connect_id false new) ⊎ (IsNoConnect bytes × Charges old from bytes false new))
 
 -- datagrams that are passed over, one after another
 abbrev pub PassesOver : Guarding → List (Addr × List ℕ) → Guarding → Type 0

@@ -1,9 +1,11 @@
 //! The guard: whom it lets pass.
-ghost use Rattle.std.specs.Prelude.{◌≡◌, ◌<◌, ◌≤◌, ◌++◌, ◌∷◌, [], length, IfOk, IfErr, vec_capacity};
+ghost use Rattle.std.specs.Prelude.{◌≡◌, ◌<◌, ◌≤◌, ◌++◌, ◌∷◌, [], length, IfOk, IfErr, slice_get, vec_capacity};
 ghost use Rattle.std.specs.List.{filter};
-ghost use Rattle.enet_guard.specs.Guarding.{is_below, is_kept, is_other};
+ghost use Rattle.enet_guard.specs.Guarding.{is_below, is_kept, is_known, is_other, is_same};
 ghost use Rattle.enet_guard.specs.Private.Room.{most_noted};
 
+use crate::loads::Load;
+use crate::share::{Spent, has_left, is_client};
 use enet_codec::{Addr, Refusal};
 use std::alloc::Global;
 use std::marker::Model;
@@ -25,6 +27,10 @@ pub struct Rules {
     pub connects_of_address: Option<u32>,
     /// How many CONNECTs may pass in a second in all.
     pub connects: Option<u32>,
+    /// How many packets, or pieces of long ones, a client may send in a second. It may send those of two seconds at once.
+    pub packets_of_client: Option<u32>,
+    /// How many bytes of packets, in the same way.
+    pub bytes_of_client: Option<u32>,
 }
 
 impl Rules {
@@ -38,6 +44,8 @@ impl Rules {
         Rules {
             connects_of_address: None,
             connects: None,
+            packets_of_client: None,
+            bytes_of_client: None,
         }
     }
 }
@@ -51,11 +59,22 @@ pub struct Asked {
     pub until: u64,
 }
 
-/// Decides which CONNECTs pass. A contract sees what it goes by.
+/// Who is connected in a slot.
+#[derive(Clone, Copy)]
+pub struct Seated {
+    pub address: Addr,
+    /// The generation of the slot.
+    pub generation: u32,
+}
+
+/// Decides which CONNECTs pass, and what clients send. A contract sees what it goes by.
 #[derive(Drop)]
 pub struct Guard {
     rules: Rules,
     banned: Vec<u32>,
+    seats: Vec<Option<Seated>>,
+    // What the clients have spent, by their slots.
+    spent: Vec<Spent>,
     passed: Vec<Asked>,
     recent: Vec<Asked>,
     clock: u64,
@@ -68,27 +87,36 @@ impl Model for Guard {
 
     ghost Value = { Guarding };
 
-    ghost view = { λ g. record { rules = g.rules; banned = g.banned.items; passed = g.passed.items; recent = g.recent.items; clock = g.clock } };
+    ghost view = { λ g. record { rules = g.rules; banned = g.banned.items; seats = g.seats.items; spent = g.spent.items; passed = g.passed.items; recent = g.recent.items; clock = g.clock } };
 
     ghost invariant = { λ g. (length g.passed.items ≤ most_noted) × (length g.recent.items ≤ most_noted)
         × (most_noted ≤ vec_capacity g.passed) × (most_noted ≤ vec_capacity g.recent) };
 }
 
 impl Guard {
-    ghost use Rattle.std.specs.Prelude.{◌≡◌, ◌<◌, ◌++◌, ◌∷◌, [], length, OnOk, OnErr, IfOk, IfErr, count_by};
+    ghost use Rattle.std.specs.Prelude.{◌≡◌, ◌<◌, ◌++◌, ◌∷◌, [], ◌&&◌, if◌then◌else◌, length, slice_set, OnOk, OnErr, IfOk, IfErr, count_by};
     ghost use Rattle.std.specs.List.{filter, list_any};
     ghost use Rattle.std.specs.Prelude.{eqb};
-    ghost use Rattle.enet_guard.specs.Guarding.{new_guard, has_no_rule, forgotten, Judges, noted, is_again, has_room, is_other, ruling, ticked};
+    ghost use Rattle.enet_guard.specs.Guarding.{new_guard, has_no_rule, has_share, forgotten, Judges, noted, is_again, has_room, is_other, ruling, ticked, seated, payer, can_pay, charged, spent_now};
+    ghost use Rattle.enet_guard.specs.Shares.{unspent, has_left};
     ghost use Rattle.enet_guard.specs.Private.Room.{most_noted};
 
-    /// A guard with these rules, to which nothing came, with room for all that it may note. E1 for want of memory.
-    pub fn new(alloc: Global, rules: Rules) -> Result<Guard, Refusal>
-        ensures new { IfOk result (λ guard. guard ≡ new_guard rules) }
+    /// A guard with these rules for a host of so many slots, to which nothing came, with room for all that it may note. E1 for want of memory.
+    pub fn new(alloc: Global, rules: Rules, slots: u16) -> Result<Guard, Refusal>
+        ensures new { IfOk result (λ guard. guard ≡ new_guard rules slots) }
         ensures memory { IfErr result (λ why. why ≡ Refusal.Memory) }
     {
+        let mut seats = Vec::new(alloc);
+        let mut spent = Vec::new(alloc);
+        let slots = usize::from(slots);
+        if seats.resize(slots, None).is_err() || spent.resize(slots, Spent::nothing(0)).is_err() {
+            return Err(Refusal::Memory);
+        }
         Ok(Guard {
             rules,
             banned: Vec::new(alloc),
+            seats,
+            spent,
             passed: with_room(alloc)?,
             recent: with_room(alloc)?,
             clock: 0,
@@ -120,7 +148,62 @@ impl Guard {
     {
         self.rules.connects_of_address.is_none()
             && self.rules.connects.is_none()
+            && !self.has_share()
             && self.banned.is_empty()
+    }
+
+    /// Whether its rules give clients a share.
+    pub(crate) fn has_share(&self) -> bool
+        ensures { result ≡ has_share self.now.rules }
+    {
+        self.rules.packets_of_client.is_some() || self.rules.bytes_of_client.is_some()
+    }
+
+    /// Whether what a datagram from there brings to a slot passes, by the share of the client there; then it counts. It passes as long as the
+    /// client has something left, and may be more than that. What brings no packet passes, and what isn't of the client in that slot.
+    pub fn lets_bring(&mut self, from: Addr, slot: usize, load: Load) -> bool
+        ensures passes { result ≡ can_pay self.old (payer self.old from slot load) }
+        ensures state { self.new ≡ (if result then charged self.old slot load (payer self.old from slot load) else self.old) }
+        ensures ruling { ruling self.new ≡ ruling self.old }
+    {
+        let Some(spent) = self.payer(from, slot, load) else {
+            return true;
+        };
+        let spent = self.spent_now(spent);
+        if !self.has_left(spent) {
+            return false;
+        }
+        if let Some(place) = self.spent.get_mut(slot) {
+            *place = spent.and(load);
+        }
+        true
+    }
+
+    // What the client has spent that pays for this; None where nobody pays.
+    fn payer(&self, from: Addr, slot: usize, load: Load) -> Option<Spent>
+        ensures { result ≡ payer self.now from slot load }
+    {
+        if self.has_share() && (0 < load.packets && is_client(self.seats.as_slice(), slot, from)) {
+            self.spent.get(slot).copied()
+        } else {
+            None
+        }
+    }
+
+    // What of it counts still.
+    fn spent_now(&self, spent: Spent) -> Spent
+        ensures { result ≡ spent_now self.now spent }
+    {
+        let rules = self.rules;
+        spent.at(rules.packets_of_client, rules.bytes_of_client, self.clock)
+    }
+
+    // Whether less counts than the rules allow in two seconds.
+    fn has_left(&self, spent: Spent) -> bool
+        ensures { result ≡ (has_left spent.packets self.now.rules.packets_of_client && has_left spent.bytes self.now.rules.bytes_of_client) }
+    {
+        has_left(spent.packets, self.rules.packets_of_client)
+            && has_left(spent.bytes, self.rules.bytes_of_client)
     }
 
     // Drops what is too old to count.
@@ -211,6 +294,32 @@ impl Guard {
     {
         self.clock = self.clock.saturating_add(u64::from(ms));
     }
+
+    // Who is connected in a slot has spent nothing.
+    fn begin_share(&mut self, slot: usize)
+        ensures { self.new ≡ record self.old { spent = slice_set self.old.spent slot (unspent self.old.clock) } }
+    {
+        if let Some(place) = self.spent.get_mut(slot) {
+            *place = Spent::nothing(self.clock);
+        }
+    }
+
+    /// Tells who is connected in a slot. Where that is somebody new, who is there has spent nothing. A slot that the host doesn't have is
+    /// passed over.
+    pub fn seat(&mut self, slot: usize, there: Option<Seated>)
+        ensures seated { self.new ≡ seated self.old slot there }
+        ensures ruling { ruling self.new ≡ ruling self.old }
+    {
+        if is_known(self.seats.as_slice(), slot, there) {
+            return;
+        }
+        if let Some(place) = self.seats.get_mut(slot) {
+            *place = there;
+        }
+        if there.is_some() {
+            self.begin_share(slot);
+        }
+    }
 }
 
 // Drops each that is this address.
@@ -239,6 +348,26 @@ fn keep_young(asked: &mut Vec<Asked>, clock: u64)
     ensures room { vec_capacity asked.new ≡ vec_capacity asked.old }
 {
     asked.retain(|asked| clock < asked.until);
+}
+
+// Whether that was told already of a slot, or there is no such slot.
+fn is_known(seats: &[Option<Seated>], slot: usize, there: Option<Seated>) -> bool
+    ensures { result ≡ is_known (slice_get seats.now slot) there }
+{
+    match (seats.get(slot), there) {
+        (None, _) => true,
+        (Some(None), None) => true,
+        (Some(Some(known)), Some(there)) => is_same(known, there),
+        _ => false,
+    }
+}
+
+fn is_same(known: &Seated, there: Seated) -> bool
+    ensures { result ≡ is_same known.now there }
+{
+    known.address.ip == there.address.ip
+        && known.address.port == there.address.port
+        && known.generation == there.generation
 }
 
 fn is_below(count: usize, most: Option<u32>) -> bool

@@ -82,6 +82,8 @@ fn rules_of(admission: &Admission) -> Rules {
     Rules {
         connects_of_address: admission.connects_per_address,
         connects: admission.connects_per_second,
+        packets_of_client: None,
+        bytes_of_client: None,
     }
 }
 

@@ -105,7 +105,7 @@ is_in_range settings = configs.is_in_range (config_of settings)
 pub record IsOpened (settings : Settings) (server : ChatServer) : Type 0 where
   pub host : host_of server ≡ record (opened (config_of settings)) { send_limit = settings.send_limit }
   pub address : address_of server.bound.wire.wire ≡ settings.address
-  pub guard : guard_of server ≡ new_guard settings.rules
+  pub guard : guard_of server ≡ new_guard settings.rules (slots_of settings)
   pub waiting : waiting_of server ≡ nothing_waits
   pub faults : faults_of server ≡ 0
   pub told : told_of server ≡ []

@@ -127,7 +127,7 @@ impl ChatServer {
         }
         let wire = MioWire::open(rt, settings.address)?;
         ask_for_buffer(&wire, settings.receive_buffer);
-        let wire = Guarded::new(alloc, wire, settings.rules)?;
+        let wire = Guarded::new(alloc, wire, settings.rules, settings.slots())?;
         let mut bound = BoundService::open(alloc, wire, config)?;
         bound.set_send_limit(settings.send_limit);
         Ok(ChatServer {

@@ -30,9 +30,9 @@ loop-over-preserved g c =
     let now = c.in_ok-from.ensures.told
     ∙ ap (λ (d : Option (Addr × ℕ)). also (g.N.Wire.told c.loop-over.wire) (unless_spent (g.N.Wire.faults c.loop-over.wire) (came (Ok d) buf))) c.in-Some.is in (
       over ++ (from, bytes) ∷ [],
-      passes_more _ _ _ over from bytes inv.1 (c.if-judge.ensures.refuses refl),
+      passes_more _ _ _ over from bytes inv.1 (c.in-Some-judge.ensures.refuses),
       omega (arith, length_more over (from, bytes), inv.2),
       over_on _ _ _ _ _ over from bytes inv.3 inv.4 now,
       c.in_ok-from.ensures.faults ∙ inv.4,
-      c.if-judge.ensures.ruling ∙ inv.5,
+      c.in-Some-judge.ensures.ruling ∙ inv.5,
     )
