@@ -8,7 +8,7 @@ use Rattle.enet_metrics.specs.Trips.{bucket_of, capped}
 -- nothing was done yet
 abbrev pub nothing : Reading
 nothing = record {
-  standing = standing_in (replicate 23 0);
+  standing = standing_in (replicate 24 0);
   stops = replicate 13 0;
   refusals = replicate 9 0;
   trips = record { counts = replicate 13 0; sum = 0 };

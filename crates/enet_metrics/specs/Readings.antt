@@ -25,6 +25,7 @@ queued_text s =
     figure_text (codes "enet_queued_bytes") (codes "gauge") (codes "Bytes of packets that are queued for peers, or sent and not acknowledged.") s.queued
     ++ figure_text (codes "enet_queued_bytes_most") (codes "gauge") (codes "Those of the peer that has the most.") s.queued_most
     ++ figure_text (codes "enet_receivers_dropped_total") (codes "counter") (codes "Peers that were full when a reliable packet came for them, and were disconnected.") s.dropped
+    ++ figure_text (codes "enet_packets_dropped_total") (codes "counter") (codes "Packets, or pieces of long ones, that the guard kept from the host, since their clients had sent too much.") s.beyond_share
 
 unfoldable pub states_text : Standing → List ℕ
 states_text s =

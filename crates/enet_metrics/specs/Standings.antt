@@ -27,4 +27,5 @@ standing_in numbers = record {
   queued = slice_index numbers 20;
   queued_most = slice_index numbers 21;
   dropped = slice_index numbers 22;
+  beyond_share = slice_index numbers 23;
 }

@@ -33,7 +33,7 @@ impl Figures {
     /// Nothing was done. An error for want of memory.
     pub fn new<R: Clock>(rt: &R, alloc: Global) -> Result<Figures, AllocError> {
         Ok(Figures {
-            standing: zeros(alloc, 23)?,
+            standing: zeros(alloc, 24)?,
             stops: zeros(alloc, 13)?,
             refusals: zeros(alloc, 9)?,
             trips: zeros(alloc, BUCKETS)?,
@@ -74,7 +74,7 @@ impl Figures {
 
     /// What is told now: what was noted at the last look, and how long ago that was. The start counts as a look.
     pub fn read<R: Clock>(&self, rt: &R) -> Reading {
-        let mut numbers = [0; 23];
+        let mut numbers = [0; 24];
         let mut stops = [0; 13];
         let mut refusals = [0; 9];
         let mut counts = [0; BUCKETS];
@@ -106,7 +106,7 @@ fn age_of(now: Option<u64>, looked_at: u64) -> Option<u64>
 }
 
 // The numbers of a standing in a row.
-fn numbers_of(standing: &Standing) -> [u64; 23]
+fn numbers_of(standing: &Standing) -> [u64; 24]
     ensures { standing_in result ≡ standing.now }
 {
     [
@@ -133,11 +133,12 @@ fn numbers_of(standing: &Standing) -> [u64; 23]
         standing.queued,
         standing.queued_most,
         standing.dropped,
+        standing.beyond_share,
     ]
 }
 
 /// The standing of these numbers.
-pub(crate) fn standing_of(numbers: &[u64; 23]) -> Standing
+pub(crate) fn standing_of(numbers: &[u64; 24]) -> Standing
     ensures { result ≡ standing_in numbers.now }
 {
     Standing {
@@ -164,6 +165,7 @@ pub(crate) fn standing_of(numbers: &[u64; 23]) -> Standing
         queued: numbers[20],
         queued_most: numbers[21],
         dropped: numbers[22],
+        beyond_share: numbers[23],
     }
 }
 

@@ -13,7 +13,7 @@ impl Reading {
         ensures { result ≡ nothing }
     {
         Reading {
-            standing: standing_of(&[0; 23]),
+            standing: standing_of(&[0; 24]),
             stops: [0; 13],
             refusals: [0; 9],
             trips: Trips {

@@ -49,6 +49,8 @@ pub struct Standing {
     pub queued_most: u64,
     /// Peers that were full when a reliable packet came for them, and were disconnected.
     pub dropped: u64,
+    /// Packets, or pieces of long ones, that the guard passed over, since their clients had sent too much.
+    pub beyond_share: u64,
 }
 
 /// All that is told of a service.
@@ -166,6 +168,13 @@ fn push_queued(text: &mut String, standing: &Standing) -> Result<(), AllocError>
         "counter",
         "Peers that were full when a reliable packet came for them, and were disconnected.",
         standing.dropped,
+    )?;
+    push_figure(
+        text,
+        "enet_packets_dropped_total",
+        "counter",
+        "Packets, or pieces of long ones, that the guard kept from the host, since their clients had sent too much.",
+        standing.beyond_share,
     )?;
     Ok(())
 }

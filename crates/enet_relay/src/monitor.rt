@@ -115,6 +115,7 @@ impl Monitor {
             queued: self.queued,
             queued_most: self.queued_most,
             dropped: self.dropped,
+            beyond_share: self.passed_over.packets(),
         }
     }
 
