@@ -25,6 +25,8 @@ LENGTHS = {1: 8, 2: 48, 3: 44, 4: 8, 5: 4, 6: 6, 7: 8, 8: 24, 9: 8, 10: 12, 11: 
 PAYLOADS = {6: 4, 7: 6, 8: 6, 9: 6, 12: 6}
 KINDS, PACKETS = [2, 3, 4, 5, 1, 10, 11], [6, 8, 7, 12, 9]
 REACH = 4096
+# Of a guess at which end a capture was made: how many acknowledgements it needs each way, and the times of a near and a far end.
+ENOUGH, NEAR, FAR = 10, 2000, 20000
 CONNECTIONS = 24
 DATAGRAMS = 500
 KEPT = 256
@@ -33,6 +35,7 @@ SVG = '{http://www.w3.org/2000/svg}'
 NEVER = 1 << 60
 OTHER = {'right': 'left', 'left': 'right'}
 VAIN = 'lost or late behind this point, or not yet read'
+UNTOLD = "it can't be told at which end it was captured"
 MARKED = {'none', 'early', 'vain', 'again', 'twice'}
 CLASSES = {'none': 'cross', 'lost': 'lost', 'early': 'early', 'vain': 'vain', 'again': 'again', 'twice': 'twice'}
 WORDS = {'none': 'no acknowledgement seen', 'lost': 'never delivered', 'early': 'sent again too early', 'vain': 'what it acknowledges was sent again all the same: ',
@@ -231,6 +234,7 @@ class Connection:
         self.left, self.right, self.identifier = left, right, identifier
         self.datagrams = []
         self.known = None
+        self.delays = None
 
     def narrowed(self, asked, begun):
         """What of it is asked for. What became of a datagram all of the connection tells."""
@@ -242,6 +246,7 @@ class Connection:
             if within and (here or 'channel' not in asked):
                 shown.datagrams.append((number, at, way, here, stop, time))
                 shown.known.append(fate)
+        shown.delays = self.delays
         return shown
 
     def says(self, index):
@@ -269,12 +274,23 @@ class Connection:
         for way in 'right', 'left':
             vain = sum('vain' in fate for (_, _, other, *_), fate in zip(self.datagrams, fates) if other == way)
             lines += [f'  {vain} to the {way} acknowledge what is sent again all the same: {VAIN}'] if vain else []
+        lines.append('  ' + self.guess())
         gaps = [max(b - a, 0) for a, b in zip(times, times[1:])]
         if gaps:
             lines.append(f'  longest gap: {seconds(max(gaps))} s, before datagram {self.datagrams[gaps.index(max(gaps)) + 1][0]}')
         if len(times) > DATAGRAMS:
             lines.append(f'  drawn are the first {DATAGRAMS} datagrams')
         return lines
+
+    def guess(self):
+        """At which end it was captured, by the times from each send to its first acknowledgement: the near end's may be short."""
+        self.fates()
+        for end, other in ('left', 'right'), ('right', 'left'):
+            near, far = self.delays[end], self.delays[other]
+            if min(len(near), len(far)) >= ENOUGH and min(near) <= NEAR and min(far) >= FAR:
+                return (f'captured at the {end} end, as it seems: the soonest acknowledgement took {seconds(min(near))} s from there, '
+                        f'{seconds(min(far))} s from the {other} end')
+        return UNTOLD
 
     def fates(self):
         """What is marked of each datagram, by the rule: a send is a command that asks, by channel, number and sent time."""
@@ -311,6 +327,9 @@ class Connection:
                 last[command] = one
                 if time is not None:
                     sends[send] = one
+        times = [at for _, at, *_ in self.datagrams]
+        self.delays = {way: [max(times[asked[one['acknowledged']]['place']] - times[one['place']], 0) for one in sends_of(asked)
+                             if one['acknowledged'] < NEVER and self.datagrams[one['place']][2] == way] for way in OTHER}
         fates = [set() for _ in self.datagrams]
         for now, command in enumerate(asked):
             fate, send, back = fates[command['place']], command.get('send'), command['back']
@@ -326,6 +345,10 @@ class Connection:
                 fate.add('none' if 'goes' in fate else 'open')
         self.known = fates
         return fates
+
+
+def sends_of(commands_there):
+    return [command['send'] for command in commands_there if 'send' in command]
 
 
 def seconds(microseconds):
@@ -418,10 +441,13 @@ def marks_drawn(picture):
 
 
 def command_of(word):
-    """A command of a row: its name, channel and number, and of an acknowledgement the sent time."""
+    """Commands of a row: name, channel and number, of several the first number and how many, and of an acknowledgement the sent time."""
     name, _, rest = word.partition('=')
     channel, _, rest = rest.partition(':')
     number, _, time = rest.partition('@')
+    number, _, count = number.partition('+')
+    if count:
+        return b''.join(command_of(f'{name}={channel}:{int(number) + k}@{time}') for k in range(int(count)))
     channel, number = 255 if channel == 'c' else int(channel), int(number)
     kind = ROW_KINDS[name]
     head = struct.pack('>BBH', kind | (0 if name in ('ack', 'say') else 0x80), channel, number)
@@ -440,7 +466,7 @@ def row_of(lines):
         if words[0] == 'says':
             says.append(line.partition(' ')[2])
             continue
-        way, at, time = words[0], 1000000000 + int(1000 * float(words[1])), words[2]
+        way, at, time = words[0], 1000000000 + round(1000 * float(words[1])), words[2]
         header = struct.pack('>H', 0) if time == '-' else struct.pack('>HH', 0x8000, int(time))
         if words[3] == 'pings':
             first, count = (int(part) for part in words[4].split('+'))
@@ -478,6 +504,9 @@ def marks(path, program, room):
                 if at in ('ever', ''.join(end[1:]) or 'unknown') and '  ' + line not in lines:
                     wrong = True
                     print(f'{name} {end}: the summary has no line {line!r}: {told.stdout}')
+            if any(' captured' in line for line in lines) == bool(end):
+                wrong = True
+                print(f'{name} {end}: the end at which it was captured is guessed where it is named, or not where it isn\'t: {told.stdout}')
             drawn = marks_drawn(f'{room}/row.svg')
             for number, marks in list(enumerate(wanted))[:DATAGRAMS]:
                 if drawn.get(number) != marks:

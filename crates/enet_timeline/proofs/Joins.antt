@@ -26,3 +26,8 @@ join6 s a b c d p q one two three four five new whole e f g h i j is = join5 s (
 pub join7 : (s a b c d p q r one two three four five six new whole : List ℕ) → one ≡ s ++ a → two ≡ one ++ b → three ≡ two ++ c → four ≡ three ++ d → five ≡ four ++ p
     → six ≡ five ++ q → new ≡ six ++ r → whole ≡ (((((a ++ b) ++ c) ++ d) ++ p) ++ q) ++ r → new ≡ s ++ whole
 join7 s a b c d p q r one two three four five six new whole e f g h i j k is = join6 s (a ++ b) c d p q r two three four five six new whole (behind s a b one two e f) g h i j k is
+
+pub join8 : (s a b c d p q r t one two three four five six seven new whole : List ℕ) → one ≡ s ++ a → two ≡ one ++ b → three ≡ two ++ c → four ≡ three ++ d
+    → five ≡ four ++ p → six ≡ five ++ q → seven ≡ six ++ r → new ≡ seven ++ t → whole ≡ ((((((a ++ b) ++ c) ++ d) ++ p) ++ q) ++ r) ++ t → new ≡ s ++ whole
+join8 s a b c d p q r t one two three four five six seven new whole e f g h i j k l is =
+    join7 s (a ++ b) c d p q r t two three four five six seven new whole (behind s a b one two e f) g h i j k l is

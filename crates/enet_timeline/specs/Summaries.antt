@@ -3,6 +3,7 @@ use Rattle.std.specs.Prelude.{◌≡◌, ◌-◌, ◌/◌, ◌%◌, ◌==◌, �
 use Rattle.std.specs.Fmt.{decimal}
 use Rattle.std.specs.Int.{to_be_bytes, w32}
 use Rattle.std.specs.List.{flat_map}
+use Rattle.std.specs.Option.{unwrap_or}
 use Rattle.enet_codec.specs.declared.stop.Stop.{Stop}
 use Rattle.enet_codec.specs.declared.stop.Stop.TheVariants.{Short, Compressed, BadCommand}
 use Rattle.enet_codec.specs.Stop.{stop_label}
@@ -11,6 +12,11 @@ use Rattle.enet_captured.specs.declared.told.Kind.{Kind}
 use Rattle.enet_captured.specs.declared.told.Kind.TheVariants.{Acknowledge, Connect, VerifyConnect, Disconnect, Ping, SendReliable, SendUnreliable, SendFragment, SendUnsequenced, BandwidthLimit, ThrottleConfigure, SendUnreliableFragment}
 use Rattle.enet_captured.specs.declared.timeline.Way.{Way}
 use Rattle.enet_captured.specs.declared.timeline.Way.TheVariants.{Right, Left}
+use Rattle.enet_captured.specs.declared.delays.Delays.{Delays}
+use Rattle.enet_captured.specs.Delays.{made_at}
+use Rattle.enet_captured.specs.Sends.{other_way}
+use Rattle.enet_captured.specs.declared.timeline.Source.{Source}
+use Rattle.enet_captured.specs.declared.timeline.Source.TheVariants.{Capture, Script, Sockets}
 use Rattle.enet_captured.specs.declared.fates.Marked.{Marked}
 use Rattle.enet_captured.specs.declared.fates.Outcome.TheVariants.{Acknowledged, NoneSeen, Open}
 use Rattle.enet_captured.specs.Fates.{has_ended, was_early, was_in_vain, was_lost, was_resent}
@@ -178,6 +184,44 @@ fates_text at marked =
     ++ vain_text at Right (count_by (was_in_vain Right) marked) ++ vain_text at Left (count_by (was_in_vain Left) marked)
     ++ lost_text (codes "right") (count_by (was_lost Right) marked) ++ lost_text (codes "left") (count_by (was_lost Left) marked)
 
+-- At which end it was captured, as it seems: told of a capture, where nobody says so.
+abbrev pub is_guessed : Source → Option Way → Bool
+is_guessed Capture at = not (is_some at)
+is_guessed Script at = false
+is_guessed Sockets at = false
+
+unfoldable pub near_text : List ℕ → List ℕ
+near_text name = codes "  captured at the " ++ name ++ codes " end, as it seems: the soonest acknowledgement took "
+
+unfoldable pub far_text : List ℕ → List ℕ
+far_text name = codes " s from the " ++ name ++ codes " end\n"
+
+unfoldable pub made_text : Way → ℕ → ℕ → List ℕ
+made_text end soon late =
+    near_text (way_name end) ++ seconds_text soon ++ codes " s from there, " ++ seconds_text late ++ far_text (way_name (other_way end))
+
+abbrev pub shortest_of : Delays → ℕ
+shortest_of delays = unwrap_or delays.shortest 0
+
+-- How soon an end acknowledges: what goes there.
+abbrev pub delays_from : Way → Delays → Delays → Delays
+delays_from Right right left = right
+delays_from Left right left = left
+
+abbrev pub end_text : Way → Delays → Delays → List ℕ
+end_text end right left = made_text end (shortest_of (delays_from end right left)) (shortest_of (delays_from (other_way end) right left))
+
+abbrev pub seems_text : Option Way → Delays → Delays → List ℕ
+seems_text None right left = codes "  it can't be told at which end it was captured\n"
+seems_text (Some end) right left = end_text end right left
+
+abbrev pub guessed_text : Bool → Part → List ℕ
+guessed_text false p = []
+guessed_text true p = seems_text (made_at p.right p.left) p.right p.left
+
+abbrev pub guess_text : Source → Option Way → Part → List ℕ
+guess_text source at p = guessed_text (is_guessed source at) p
+
 -- A longest gap between two datagrams, and the later one: of gaps that are as long, any.
 unfoldable pub before_text : ℕ → List ℕ
 before_text number = codes " s, before datagram " ++ decimal number ++ codes "\n"
@@ -193,20 +237,20 @@ unfoldable pub first_datagrams_text : ℕ → List ℕ
 first_datagrams_text datagrams = if nat_lt 500 datagrams then (codes "  drawn are the first " ++ decimal 500 ++ codes " datagrams\n") else []
 
 -- The text of what is shown of a connection.
-pub record TellsPart (part : Part) (at : Option Way) (text : List ℕ) : Type 0 where
+pub record TellsPart (part : Part) (source : Source) (at : Option Way) (text : List ℕ) : Type 0 where
   pub gap : Option (ℕ × ℕ)
   pub is_longest : IsLongest part.seen.items gap
   pub told : text ≡ ends_text part ++ going_text part.seen.items ++ stops_text part.seen.items ++ commands_text part.marks.items
-      ++ fates_text at part.marked.items ++ gap_text gap ++ first_datagrams_text (vec_len part.seen)
+      ++ fates_text at part.marked.items ++ guess_text source at part ++ gap_text gap ++ first_datagrams_text (vec_len part.seen)
 
 -- The texts of so many of these, one behind another.
-unfoldable pub TellsParts : List Part → Option Way → ℕ → List ℕ → Type 0
-TellsParts parts at zero text = text ≡ []
-TellsParts parts at (suc n) text =
-    (before last : List ℕ) × (part : Part) × (text ≡ before ++ last) × TellsParts parts at n before × (slice_get parts n ≡ Some part)
-    × TellsPart part at last
+unfoldable pub TellsParts : List Part → Source → Option Way → ℕ → List ℕ → Type 0
+TellsParts parts source at zero text = text ≡ []
+TellsParts parts source at (suc n) text =
+    (before last : List ℕ) × (part : Part) × (text ≡ before ++ last) × TellsParts parts source at n before × (slice_get parts n ≡ Some part)
+    × TellsPart part source at last
 
 pub record Summarizes (t : Timeline) (f : Filter) (parts : List Part) (at : Option Way) (text : List ℕ) : Type 0 where
   pub told_parts : List ℕ
   pub told : text ≡ whole_text t f (length parts) ++ told_parts
-  pub each : TellsParts parts at (length parts) told_parts
+  pub each : TellsParts parts t.source at (length parts) told_parts

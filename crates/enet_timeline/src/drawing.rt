@@ -256,7 +256,7 @@ fn draw_part(
 
 fn push_part_summary(alloc: Global, pen: &mut Pen, part: &Part) -> Result<(), AllocError> {
     let mut summary = String::new(alloc);
-    push_part(alloc, &mut summary, part, pen.at)?;
+    push_part(alloc, &mut summary, part, pen.source, pen.at)?;
     push_summary(pen, summary.as_str())
 }
 

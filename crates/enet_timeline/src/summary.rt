@@ -3,13 +3,13 @@
 ghost use Rattle.std.specs.Prelude.{◌≡◌, ◌++◌, ℕ, List, Option, codes, IfOk, OnOk};
 ghost use Rattle.std.specs.List.{flat_map};
 ghost use Rattle.std.specs.String.{string_bytes};
-ghost use Rattle.enet_timeline.specs.Summaries.{counts_text, unkept_text, cut_text, first_connections_text, whole_text, asked_text, is_all, words_asked_text, number_asked_text, time_asked_text, names_text, id_text, began_text, ends_text, ways_text, going_text, lasting, unread_text, stopped_text, stops_text, counted_text, kind_text, all_text, commands_text, outcomes_text, ended_text, resent_text, way_name, vain_words, vain_text, vain_line, lost_text, fates_text, before_text, longest_text, gap_text, first_datagrams_text, TellsPart, Summarizes};
+ghost use Rattle.enet_timeline.specs.Summaries.{counts_text, unkept_text, cut_text, first_connections_text, whole_text, asked_text, is_all, words_asked_text, number_asked_text, time_asked_text, names_text, id_text, began_text, ends_text, ways_text, going_text, lasting, unread_text, stopped_text, stops_text, counted_text, kind_text, all_text, commands_text, outcomes_text, ended_text, resent_text, way_name, vain_words, vain_text, vain_line, lost_text, fates_text, before_text, longest_text, gap_text, first_datagrams_text, delays_from, end_text, far_text, guess_text, is_guessed, made_text, near_text, seems_text, shortest_of, TellsPart, Summarizes};
 
 use crate::drawing::{CONNECTIONS, DATAGRAMS};
 use crate::labels::push_seconds;
 use enet_captured::{
-    Filter, Kind, Mark, Marked, Outcome, Part, Seen, Timeline, Way, count_of, early, ended, going,
-    in_vain, longest_gap, lost, resent, stopped_by,
+    Delays, Filter, Kind, Mark, Marked, Outcome, Part, Seen, Source, Timeline, Way, count_of,
+    early, ended, going, in_vain, longest_gap, lost, made_at, resent, stopped_by,
 };
 use enet_codec::Stop;
 use enet_text::{address_text, bytes_text};
@@ -48,7 +48,7 @@ pub(crate) fn summarize(
     let mut text = String::new(alloc);
     push_whole(&mut text, timeline, asked, parts.len())?;
     for index in 0..parts.len() {
-        push_part(alloc, &mut text, &parts[index], at)?;
+        push_part(alloc, &mut text, &parts[index], timeline.source, at)?;
     }
     Ok(text)
 }
@@ -177,20 +177,22 @@ fn push_first_connections(text: &mut String, connections: usize) -> Result<(), A
     Ok(())
 }
 
-/// The lines of a connection.
+/// The lines of a connection of what is from such a source.
 pub(crate) fn push_part(
     alloc: Global,
     text: &mut String,
     part: &Part,
+    source: Source,
     at: Option<Way>,
 ) -> Result<(), AllocError>
-    ensures { OnOk result ((told : List ℕ) × (string_bytes text.new ≡ string_bytes text.old ++ told) × TellsPart part.now at told) }
+    ensures { OnOk result ((told : List ℕ) × (string_bytes text.new ≡ string_bytes text.old ++ told) × TellsPart part.now source at told) }
 {
     push_ends(alloc, text, part)?;
     push_datagrams(text, part.seen.as_slice())?;
     push_stops(text, part.seen.as_slice())?;
     push_commands(text, part.marks.as_slice())?;
     push_fates(text, part.marked.as_slice(), at)?;
+    push_guess(text, part, source, at)?;
     push_gap(text, longest_gap(part.seen.as_slice()))?;
     push_first_datagrams(text, part.seen.len())?;
     Ok(())
@@ -449,6 +451,103 @@ pub(crate) fn vain_words(at: Option<Way>, way: Way) -> &'static str
             }
         }
     }
+}
+
+// At which end it was captured, as it seems, where that is asked.
+fn push_guess(
+    text: &mut String,
+    part: &Part,
+    source: Source,
+    at: Option<Way>,
+) -> Result<(), AllocError>
+    ensures { OnOk result (string_bytes text.new ≡ string_bytes text.old ++ guess_text source at part.now) }
+{
+    if !is_guessed(source, at) {
+        return Ok(());
+    }
+    push_seems(text, made_at(part.right, part.left), part.right, part.left)
+}
+
+// Whether it is to be guessed at which end it was captured: a capture was, and nobody says where.
+fn is_guessed(source: Source, at: Option<Way>) -> bool
+    ensures { result ≡ is_guessed source at }
+{
+    match source {
+        Source::Capture => at.is_none(),
+        Source::Script | Source::Sockets => false,
+    }
+}
+
+fn push_seems(
+    text: &mut String,
+    end: Option<Way>,
+    right: Delays,
+    left: Delays,
+) -> Result<(), AllocError>
+    ensures { OnOk result (string_bytes text.new ≡ string_bytes text.old ++ seems_text end right left) }
+{
+    match end {
+        None => push_untold(text),
+        Some(end) => push_seen_at(text, end, right, left),
+    }
+}
+
+fn push_seen_at(text: &mut String, end: Way, right: Delays, left: Delays) -> Result<(), AllocError>
+    ensures { OnOk result (string_bytes text.new ≡ string_bytes text.old ++ end_text end right left) }
+{
+    let soon = shortest_of(delays_from(end, right, left));
+    let late = shortest_of(delays_from(end.other(), right, left));
+    push_made(text, end, soon, late)
+}
+
+// How soon an end acknowledges: what goes there.
+fn delays_from(end: Way, right: Delays, left: Delays) -> Delays
+    ensures { result ≡ delays_from end right left }
+{
+    match end {
+        Way::Right => right,
+        Way::Left => left,
+    }
+}
+
+fn push_untold(text: &mut String) -> Result<(), AllocError>
+    ensures { OnOk result (string_bytes text.new ≡ string_bytes text.old ++ codes "  it can't be told at which end it was captured\n") }
+{
+    text.push_str("  it can't be told at which end it was captured\n")?;
+    Ok(())
+}
+
+fn shortest_of(delays: Delays) -> u64
+    ensures { result ≡ shortest_of delays }
+{
+    delays.shortest.unwrap_or(0)
+}
+
+// The end, and how soon acknowledgements came from there and from the other end.
+fn push_made(text: &mut String, end: Way, soon: u64, late: u64) -> Result<(), AllocError>
+    ensures { OnOk result (string_bytes text.new ≡ string_bytes text.old ++ made_text end soon late) }
+{
+    push_near(text, way_name(end))?;
+    push_seconds(text, soon)?;
+    text.push_str(" s from there, ")?;
+    push_seconds(text, late)?;
+    push_far(text, way_name(end.other()))?;
+    Ok(())
+}
+
+fn push_near(text: &mut String, name: &str) -> Result<(), AllocError>
+    ensures { OnOk result (string_bytes text.new ≡ string_bytes text.old ++ near_text name.now) }
+{
+    write!(
+        text,
+        "  captured at the {name} end, as it seems: the soonest acknowledgement took "
+    )
+}
+
+fn push_far(text: &mut String, name: &str) -> Result<(), AllocError>
+    ensures { OnOk result (string_bytes text.new ≡ string_bytes text.old ++ far_text name.now) }
+{
+    write!(text, " s from the {name} end\n")
 }
 
 fn push_gap(text: &mut String, gap: Option<(u64, u64)>) -> Result<(), AllocError>

@@ -6,4 +6,4 @@ use Rattle.enet_timeline.proofs.summary.summarize.Given as goal
 -- so far each part is told, one behind another
 abbrev pub invariant-loop-index : goal.invariant-loop-index
 invariant-loop-index l =
-    (told : List ℕ) × (string_bytes l.text ≡ whole_text l.timeline l.fn.asked (length l.parts) ++ told) × TellsParts l.parts l.fn.at l.index told
+    (told : List ℕ) × (string_bytes l.text ≡ whole_text l.timeline l.fn.asked (length l.parts) ++ told) × TellsParts l.parts l.timeline.source l.fn.at l.index told
