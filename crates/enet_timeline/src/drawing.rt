@@ -364,8 +364,7 @@ fn draw_seen(
     push_moment(alloc, pen, &one.seen)?;
     push_arrow(alloc, pen, name_of(timeline, one.seen.number), one, marks)?;
     let followed = marks.get(..COMMANDS).unwrap_or(marks);
-    pen.queue
-        .follow(alloc, &mut pen.text, followed, one.fate, pen.y)
+    pen.queue.follow(alloc, &mut pen.text, followed, one, pen.y)
 }
 
 // How many of the first commands are of a datagram.

@@ -6,7 +6,7 @@ ghost use Rattle.enet_timeline.specs.Private.Queues.{is_answer_to, is_of};
 use crate::element::{push_dot, push_line, push_words_down};
 use crate::labels::push_channel;
 use crate::places::{LANES, left_lane, reach_of, right_lane};
-use enet_captured::{Fate, Mark, Told, Way, answers, is_same};
+use enet_captured::{Fate, Mark, Marked, Told, Way, answers, is_same};
 use std::alloc::{AllocError, Global};
 
 /// No more numbers than these are followed at once.
@@ -43,18 +43,21 @@ impl Queue {
         }
     }
 
-    /// Follows the commands of a datagram that stands there, and of which that became.
+    /// Follows the commands of a datagram that stands there, and of which that became. What was never delivered ends no bar.
     pub(crate) fn follow(
         &mut self,
         alloc: Global,
         text: &mut String,
         marks: &[Mark],
-        fate: Fate,
+        one: &Marked,
         y: u64,
     ) -> Result<(), AllocError> {
         let mut undrawn = None;
         for mark in marks {
-            undrawn = self.follow_one(alloc, text, mark, fate, y)?.or(undrawn);
+            if !one.seen.is_lost {
+                self.end_answered(text, mark, y)?;
+            }
+            undrawn = self.follow_one(alloc, text, mark, one.fate, y)?.or(undrawn);
         }
         match undrawn {
             None => Ok(()),
@@ -62,7 +65,18 @@ impl Queue {
         }
     }
 
-    // Follows a command. Its way where it begins to wait and there is no lane for it.
+    // Draws the bar of the number that a command answers, where one waits.
+    fn end_answered(&mut self, text: &mut String, mark: &Mark, y: u64) -> Result<(), AllocError> {
+        match answered(self.waiting.as_slice(), mark) {
+            None => Ok(()),
+            Some(place) => {
+                let waiting = self.waiting.remove(place);
+                push_bar(text, &waiting, y, bar_class(&waiting))
+            }
+        }
+    }
+
+    // Follows a command that may wait for an answer. Its way where it begins to wait and there is no lane for it.
     fn follow_one(
         &mut self,
         alloc: Global,
@@ -71,11 +85,6 @@ impl Queue {
         fate: Fate,
         y: u64,
     ) -> Result<Option<Way>, AllocError> {
-        if let Some(place) = answered(self.waiting.as_slice(), mark) {
-            let waiting = self.waiting.remove(place);
-            push_bar(text, &waiting, y, bar_class(&waiting))?;
-            return Ok(None);
-        }
         if !mark.told.asks {
             return Ok(None);
         }
