@@ -1,4 +1,5 @@
 //! How the clients of a server are told that it ends.
+ghost use Rattle.std.specs.Prelude.{◌≡◌};
 ghost use Rattle.enet_serve.specs.Leaving.{TakesLeave, over};
 ghost use Rattle.enet_serve.specs.Private.SeeingOff.{HasSeenOff, Idles};
 
