@@ -227,6 +227,7 @@ figures() {
     # What the relay sends on channel 0 is reliable, and nothing else is.
     same sends "$(($(sends "$told") - $(resends "$told")))" "$taken"
     same passed-over "$(figure enet_connects_passed_over_total "$told")" 0
+    same dropped "$(figure enet_packets_dropped_total "$told")" 0
     same in-transit "$(figure enet_in_transit_bytes "$told")" 0
     same refused "$(figure 'enet_orders_refused_total{reason="E4"}' "$told")" 20
     logged=$(awk '/^orders refused [0-9]+, the last to .*: E4 NoSuchChannel$/ { lines++; refused += $3 } /^connect / { came++ } /^disconnect / { went++ }
