@@ -5,7 +5,8 @@
 //! - [`Relay`] is a thread of its own between a service's two queues. [`LoneRelay`] shares the service's thread: what a turn told is expanded
 //!   between two of its phases.
 //! - [`Table`] is who is connected, by the events; a [`Gauge`] shows others how far a relay has come.
-//! - [`end_of_slow`] ends a client that can't be sent all that is reliable. The server gives it as an order of its own, beside the relay's.
+//! - [`end_of_slow`] ends a client that can't be sent all that is reliable, [`end_of_loud`] one that sends more than its share. The server gives
+//!   these as orders of its own, beside the relay's.
 //!
 //! # Proved
 //!
@@ -21,7 +22,7 @@
 //! - Of the relay in its service's own thread (`Expands`): what it expands are the oldest events, and the orders behind those that waited are
 //!   for every receiver and in order what these give. Just these events and orders it counts, up to what 64 bits hold; after a refusal, too.
 //!   It ends well only with all expanded or with 256 orders that wait.
-//! - How a client that is too slow is ended (`slow_end`).
+//! - How a client that is too slow, or too loud, is ended (`slow_end`, `loud_end`).
 //! - The list of its events takes one of the host only if fewer than 256 events and fewer than 1,048,576 bytes of packets wait (`IsPut`).
 //!
 //! # Only tested, or neither
@@ -53,5 +54,5 @@ pub use lists::{EventList, OrderList};
 pub use lone::LoneRelay;
 pub use relay::relay_step;
 pub use relaying::{Relay, RelayParts};
-pub use slow::{TOO_SLOW, end_of_slow};
+pub use slow::{TOO_LOUD, TOO_SLOW, end_of_loud, end_of_slow};
 pub use table::Table;
