@@ -4,3 +4,4 @@ pub mod Learning
 mod Rests
 mod Loading
 mod Paying
+mod Spending

@@ -1,3 +1,4 @@
+pub mod Allowing
 pub mod Asking
 pub mod Guarding
 pub mod Journals

@@ -13,7 +13,8 @@
 //! ([`Guard::lets_pass`]). A wait lets the guard's time go on by what it tells, and has it learn who is connected in some slots, and no more
 //! (`Waits`). Faults are those of the wire inside. All that a guarded wire tells is what the wire inside told since it is behind the guard,
 //! less what was passed over: an invariant, so that nothing has the wire inside take or send a datagram but through the guard
-//! (`TellsTheRest`, [`Guarded::wire`]).
+//! (`TellsTheRest`, [`Guarded::wire`]). And a law: while nobody new is told in a slot, fewer packets of the client there pass in T milliseconds
+//! than T + 2,000 allow, and those of one datagram; so it is with bytes ([`shares_are_kept`]).
 //! Neither: that what the guard learns is what its [`Register`] was told, and when; how much was passed over, and of whom ([`PassedOver`]);
 //! that a host keeps a slot for a peer that doesn't answer for 8 seconds at most.
 #![tactic(auto)]
@@ -21,6 +22,7 @@
 mod asking;
 mod guard;
 mod guarded;
+mod law;
 mod loads;
 mod passed_over;
 mod register;
@@ -29,6 +31,7 @@ mod share;
 pub use asking::asks;
 pub use guard::{Asked, Guard, Rules, Seated};
 pub use guarded::Guarded;
+pub use law::shares_are_kept;
 pub use loads::{Load, carried};
 pub use passed_over::{Dropped, PassedOver};
 pub use register::Register;
