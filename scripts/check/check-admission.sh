@@ -1,9 +1,10 @@
 #!/usr/bin/env bash
 # Whom `enet_relay serve` lets in: clients of the reference library (clients/knock.c) at several addresses of 127.0.0.0/8, and a sender of
 # CONNECTs that nobody stands behind (clients/forge.c), under `--per-address`, `--connects-per-address`, `--connects-per-second`, `--ban` and
-# the control lines `ban` and `unban`, what `--mtu` grants and `--max-packet` takes (clients/steady.c), in one thread and in two: `check-admission.sh [PROGRAM]`. PROGRAM is the built `enet_relay`, by default
-# the one that `rt ci`, or `rt run` in crates/enet_relay, leaves. Prints what failed, and as last line 'N passed, M failed'; the status is 1
-# where one failed. It takes two minutes.
+# the control lines `ban` and `unban`, what `--mtu` grants and `--max-packet` takes (clients/steady.c), and what clients within and beyond the
+# share of `--packets-per-client` and `--bytes-per-client` get through (clients/loud.c), in one thread and in two: `check-admission.sh
+# [PROGRAM]`. PROGRAM is the built `enet_relay`, by default the one that `rt ci`, or `rt run` in crates/enet_relay, leaves. Prints what failed,
+# and as last line 'N passed, M failed'; the status is 1 where one failed. It takes three minutes.
 cd "$(dirname "$0")/../.." || exit 1
 . scripts/lib/clients.sh
 . scripts/lib/tally.sh
@@ -278,6 +279,55 @@ longest_packet() {
     finish
 }
 
+# Has a client of clients/loud.c send for $2 seconds $3 packets of $4 bytes a second, of the kind $5, as background job; what it says is in the
+# file of the name $1.
+loud() {
+    "$room/loud" "$port" "${@:2}" > "$room/$1" 2>&1 &
+    knocking+=($!)
+}
+
+# Whether the file $2 says that at least $3 and at most $4 packets came, and what became of their sender, as the pattern $5 has it; the case is
+# $1. (Until the server has looked at who is connected, in a third of a second at most, nothing counts.)
+heard() {
+    local sent came rest
+    read -r _ sent _ came _ _ rest < "$room/$2"
+    if [[ $came -ge $3 && $came -le $4 && $rest =~ ^$5$ ]]; then passed=$((passed + 1)); else fail "$1 in $threads threads" "$2 says '$(<"$room/$2")'"; fi
+}
+
+# Of two that talk at once one stays within the share, and all of it comes. Of the other, which sends nearly twice its share unreliably, as much
+# comes as two seconds allow at once and the seconds after them, and it stays.
+share() {
+    begin --packets-per-client 50
+    loud within 6 40 20 reliable
+    loud beyond 6 90 20 unreliable
+    await
+    heard share within 239 240 stayed
+    heard share beyond 300 500 stayed
+    grep -Eq '^beyond its share [0-9]+\.0 at 127\.0\.0\.1:[0-9]+ packets [1-9][0-9]*$' "$room/log" && passed=$((passed + 1)) ||
+        fail "share in $threads threads" "the log names nobody: $(<"$room/log")"
+    finish
+}
+
+# Who sends ten times its share is ended after some five seconds and told why; what came until then is within the share. So it is by bytes, too.
+# Of reliable packets fewer come than pass: those behind a packet that didn't pass wait for it, and 184 to 358 came of 445 to 640 that passed.
+# At least half of a burst comes: on a busy machine a packet is sent again before its acknowledgement comes, passes twice, and counts twice.
+too_loud() {
+    begin --packets-per-client 50
+    loud ten-times 20 500 20 reliable
+    loud unreliably 20 500 20 unreliable
+    await
+    heard too-loud ten-times 50 600 'ended 4294967293 after [5-9]\.[0-9] s'
+    heard too-loud unreliably 100 700 'ended 4294967293 after [5-9]\.[0-9] s'
+    grep -Eq '^too loud [0-9]+\.0 at 127\.0\.0\.1:[0-9]+ info 4294967293$' "$room/log" && passed=$((passed + 1)) ||
+        fail "too-loud in $threads threads" "the log names nobody: $(<"$room/log")"
+    finish
+    begin --bytes-per-client 10000
+    loud bytes 20 100 1000 reliable
+    await
+    heard too-loud bytes 20 120 'ended 4294967293 after [5-9]\.[0-9] s'
+    finish
+}
+
 # With none of these options all get in.
 no_rule() {
     begin
@@ -308,6 +358,8 @@ else
         ban
         mtu
         longest_packet
+        share
+        too_loud
     done
 fi
 echo "$passed passed, $failed failed"

@@ -248,6 +248,10 @@ serve --port 47001 --connects-per-second 0
 serve --port 47001 --connects-per-second 1000001
 serve --port 47001 --connects-per-address 0
 serve --port 47001 --connects-per-address 1000001
+serve --port 47001 --packets-per-client 0
+serve --port 47001 --packets-per-client 1000001
+serve --port 47001 --bytes-per-client 0
+serve --port 47001 --bytes-per-client 1073741825
 serve --port 47001 --ban localhost
 serve --port 47001 --ban 127.0.0.1 --ban 127.0.0
 serve --port 47001 --metrics 127.0.0.1:9100
@@ -290,7 +294,7 @@ services() {
     service_line serve-small-room 0 "$(listening)" 'served 2 received 0 sent 0' serve --port "$port" --turns 2 --room 1
     service_line serve-small-mtu 0 "$(listening)" 'served 2 received 0 sent 0' serve --port "$port" --turns 2 --mtu 576
     service_line serve-limited 0 "$(listening)" 'served 2 received 0 sent 0' serve --port "$port" --turns 2 --per-address 4095 \
-        --connects-per-second 1 --connects-per-address 1 --ban 127.0.0.1 --ban 127.0.0.2
+        --connects-per-second 1 --connects-per-address 1 --packets-per-client 1 --bytes-per-client 1 --ban 127.0.0.1 --ban 127.0.0.2
     small_buffer serve-small-receive-buffer
     service_line serve-with-log 0 "$(listening)" 'served 2 received 0 sent 0' serve --port "$port" --turns 2 --log
     service_line serve-in-two-threads 0 "$(listening)" 'served 2 received 0 sent 0' serve --port "$port" --turns 2 --threads 2

@@ -12,7 +12,7 @@ build_clients() {
     fi
     local source sources=("${@:2}")
     [ ${#sources[@]} -gt 0 ] || sources=(client crowd echo guess guests server steady soak proxy load tell hostile hoard swarm flood knock forge
-        tally hold told passers gossip join many fray)
+        tally hold told passers gossip join many fray loud)
     for source in "${sources[@]}"; do
         cc -std=gnu11 -O2 -Wall -Wextra -pthread -o "$1/$source" "clients/$source.c" -lenet || return 1
     done

@@ -1,4 +1,4 @@
-//! What `serve` can be told of its socket and of whom it lets in.
+//! What `serve` can be told of its socket, of whom it lets in, and of how much of them.
 
 use clap::{Arg, ArgAction, ArgMatches, Command, value_parser};
 use std::alloc::{AllocError, Global};
@@ -17,6 +17,10 @@ pub struct Admission {
     pub connects_per_address: Option<u32>,
     /// The same in all.
     pub connects_per_second: Option<u32>,
+    /// How many packets, or pieces of long ones, a client may send in a second.
+    pub packets_per_client: Option<u32>,
+    /// How many bytes of packets.
+    pub bytes_per_client: Option<u32>,
     /// The addresses that are banned.
     pub banned: Vec<u32>,
 }
@@ -29,6 +33,8 @@ pub fn with_admission<'a>(alloc: Global, command: Command<'a>) -> Result<Command
         .arg(per_address(alloc))?
         .arg(connects_per_second(alloc))?
         .arg(connects_per_address(alloc))?
+        .arg(packets_per_client(alloc))?
+        .arg(bytes_per_client(alloc))?
         .arg(ban(alloc))
 }
 
@@ -64,6 +70,18 @@ fn connects_per_address<'a>(alloc: Global) -> Arg<'a> {
     )
 }
 
+fn packets_per_client<'a>(alloc: Global) -> Arg<'a> {
+    number(alloc, "packets-per-client", 1, 1_000_000).help(
+        "How many packets, or pieces of long ones, a client may send in a second: beyond those of two seconds at once they are passed over [default: no limit]",
+    )
+}
+
+fn bytes_per_client<'a>(alloc: Global) -> Arg<'a> {
+    number(alloc, "bytes-per-client", 1, 1_073_741_824).help(
+        "How many bytes of packets, in the same way [default: no limit]",
+    )
+}
+
 fn ban<'a>(alloc: Global) -> Arg<'a> {
     Arg::new(alloc, "ban")
         .long("ban")
@@ -95,6 +113,8 @@ pub fn read_admission(
         per_address: found.get_one::<u32>("per-address"),
         connects_per_address: found.get_one::<u32>("connects-per-address"),
         connects_per_second: found.get_one::<u32>("connects-per-second"),
+        packets_per_client: found.get_one::<u32>("packets-per-client"),
+        bytes_per_client: found.get_one::<u32>("bytes-per-client"),
         banned,
     }))
 }

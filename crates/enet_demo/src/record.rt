@@ -161,6 +161,8 @@ impl Wire for TappedWire {
 
     ghost faults = { λ w. failures_of w.wire };
 
+    ghost kept = { λ w. tt };
+
     fn recv(&mut self, buf: &mut [u8; 4096]) -> Result<Option<(Addr, usize)>, Refusal> {
         let given = self.wire.recv(buf)?;
         if let Some((from, len)) = given {

@@ -1,9 +1,9 @@
-//! What the server does at its operator's word, and about clients that are too slow.
+//! What the server does at its operator's word, and about clients that are too slow or too loud.
 
 use bytes::Bytes;
 use enet_codec::{DisconnectMode, PeerRef, Refusal};
 use enet_console::{Control, Outlet, Stream, Word};
-use enet_serve::{ChatServer, Met, Note, WatchedHost, end_of_slow};
+use enet_serve::{ChatServer, Met, Note, WatchedHost, end_of_loud, end_of_slow};
 use enet_submit::Order;
 use std::alloc::{AllocError, Global};
 use std::collections::VecDeque;
@@ -98,15 +98,20 @@ impl Desk {
         for note in host.notes() {
             match note {
                 Note::Came { met, .. } => self.note_met(rt, met.peer),
-                Note::Lacks { met } => self.end_slow(met.peer),
+                Note::Lacks { met } => self.end(end_of_slow(met.peer)),
                 _ => {}
             }
         }
     }
 
-    // Has the connection of a peer end that lacks a reliable packet.
-    fn end_slow(&mut self, peer: PeerRef) {
-        if self.orders.push_back(end_of_slow(peer)).is_err() {
+    /// Has the connection of a peer end that has sent more than its share for long.
+    pub fn end_loud(&mut self, peer: PeerRef) {
+        self.end(end_of_loud(peer));
+    }
+
+    // Has a connection end by this order.
+    fn end(&mut self, order: Order) {
+        if self.orders.push_back(order).is_err() {
             self.lacks_memory = true;
         }
     }

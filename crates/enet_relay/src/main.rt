@@ -25,6 +25,7 @@ mod failure;
 mod following;
 mod inspecting;
 mod looking;
+mod loudness;
 mod monitor;
 mod reading;
 mod serving;

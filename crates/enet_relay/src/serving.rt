@@ -1,6 +1,7 @@
 //! The server, as it tells of itself.
 
 use crate::failure::Failure;
+use crate::loudness::{Loudness, Share};
 use crate::monitor::Monitor;
 use crate::watching::Operator;
 use enet_codec::{Refusal, Secret};
@@ -77,13 +78,21 @@ fn address_limit(per_address: Option<u32>, slots: u16) -> Option<u16> {
     Some(most.min(slots))
 }
 
-// Whom it lets in.
+// Whom it lets in, and how much of each.
 fn rules_of(admission: &Admission) -> Rules {
     Rules {
         connects_of_address: admission.connects_per_address,
         connects: admission.connects_per_second,
-        packets_of_client: None,
-        bytes_of_client: None,
+        packets_of_client: admission.packets_per_client,
+        bytes_of_client: admission.bytes_per_client,
+    }
+}
+
+// How much a client may send.
+fn share_of(admission: &Admission) -> Share {
+    Share {
+        packets: admission.packets_per_client,
+        bytes: admission.bytes_per_client,
     }
 }
 
@@ -134,6 +143,10 @@ where
         options.logs,
         options.is_controlled,
     )?;
+    let share = share_of(&options.admission);
+    if share.packets.is_some() || share.bytes.is_some() {
+        operator.hear(Loudness::new(rt.alloc(), server.passed_over()?, share, slots)?);
+    }
     let Some(address) = options.metrics else {
         return serve_watched(rt, server, options, &gauge, &mut operator);
     };

@@ -1,11 +1,12 @@
 //! What the server's operator is told while it serves.
 
 use crate::desk::Desk;
+use crate::loudness::{Loud, Loudness};
 use crate::monitor::{Counted, Monitor};
 use enet_codec::{PeerRef, Refusal};
 use enet_console::{Outlet, Stream, Word};
 use enet_peer::Ending;
-use enet_serve::{ChatServer, Gauge, Met, Note, TOO_SLOW, Watch, WatchedHost};
+use enet_serve::{ChatServer, Gauge, Met, Note, TOO_LOUD, TOO_SLOW, Watch, WatchedHost};
 use enet_service::Report;
 use std::alloc::{AllocError, Global};
 use std::net::Ipv4Addr;
@@ -23,8 +24,8 @@ const BETWEEN_REFUSALS: u64 = 1;
 const MOST_LINES: u32 = 16;
 
 /// Tells the server's operator on standard error: its totals each minute and, if that is asked, each connection, each client that is too
-/// slow, each end of one and, once a second, how many orders were refused; and does what the operator says. A line that can't be written,
-/// or not at once, ends nothing and holds up nothing.
+/// slow or too loud, each end of one and, once a second, how many orders were refused and whose packets were passed over; and does what the
+/// operator says. A line that can't be written, or not at once, ends nothing and holds up nothing.
 #[derive(Drop)]
 pub struct Operator<'a, R> {
     rt: &'a R,
@@ -34,6 +35,7 @@ pub struct Operator<'a, R> {
     errors: Outlet,
     desk: Desk,
     monitor: Option<Monitor>,
+    loudness: Option<Loudness>,
     told_at: Option<Instant>,
     lost: u64,
     refused: u64,
@@ -65,6 +67,7 @@ impl<'a, R> Operator<'a, R> {
             errors: Outlet::new(Stream::Error),
             desk: Desk::new(alloc, slots, is_controlled)?,
             monitor: None,
+            loudness: None,
             told_at: None,
             lost: 0,
             refused: 0,
@@ -79,6 +82,11 @@ impl<'a, R> Operator<'a, R> {
     /// Has a monitor told, too.
     pub fn tell(&mut self, monitor: Monitor) {
         self.monitor = Some(monitor);
+    }
+
+    /// Has those ended, too, who send more than their share for long.
+    pub fn hear(&mut self, loudness: Loudness) {
+        self.loudness = Some(loudness);
     }
 
     /// Hands to the server what its operator asked for. True where nothing was, and it is to end: so what was said before comes before
@@ -107,6 +115,7 @@ impl<R: Clock + Print + Eprint> Watch for Operator<'_, R> {
         }
         self.errors.settle(self.rt);
         self.desk.note(self.rt, host);
+        self.listen(host);
         self.obey(host);
     }
 
@@ -227,6 +236,38 @@ impl<R: Clock + Print + Eprint> Operator<'_, R> {
         self.log_refusals();
     }
 
+    // Once a second, what was passed over of what clients sent.
+    fn listen(&mut self, host: &WatchedHost) {
+        let Some(mut loudness) = self.loudness.take() else {
+            return;
+        };
+        if loudness.is_time(self.rt) {
+            for met in host.met() {
+                if let Some(met) = met {
+                    if let Some(loud) = loudness.hear(met) {
+                        self.note_loud(&loud);
+                    }
+                }
+            }
+        }
+        self.loudness = Some(loudness);
+    }
+
+    // Has a client end that is too loud, and tells of what was passed over of it, if that is asked.
+    fn note_loud(&mut self, loud: &Loud) {
+        if loud.is_too_loud {
+            self.desk.end_loud(loud.met.peer);
+        }
+        if !self.logs {
+            return;
+        }
+        self.errors.line(self.rt, logged_loud(self.alloc, loud));
+        if loud.is_too_loud {
+            let line = logged_met(self.alloc, "too loud", &loud.met, TOO_LOUD, "");
+            self.errors.line(self.rt, line);
+        }
+    }
+
     fn log_refusals(&mut self) {
         let Some((peer, why)) = self.last_refused else {
             return;
@@ -237,6 +278,15 @@ impl<R: Clock + Print + Eprint> Operator<'_, R> {
             self.untold = 0;
         }
     }
+}
+
+fn logged_loud(alloc: Global, loud: &Loud) -> Result<String, AllocError> {
+    let slot = loud.met.peer.slot;
+    let generation = loud.met.peer.generation;
+    let ip = Ipv4Addr::from_bits(loud.met.address.ip);
+    let port = loud.met.address.port;
+    let packets = loud.packets;
+    format!(in alloc; "beyond its share {slot}.{generation} at {ip}:{port} packets {packets}\n")
 }
 
 // A server that only relays gives no order to connect: of such a one nothing is told. Refused orders are counted.

@@ -31,26 +31,28 @@
 //!
 //! # Only tested, or neither
 //!
-//! - By scripts/check/check-admission.sh: whom the guard of a server and its limit of an address let in.
+//! - By scripts/check/check-admission.sh: whom the guard of a server and its limit of an address let in, and what becomes of clients
+//!   beyond their share.
 //! - By scripts/check/check-rows.sh and scripts/check/check-clients.sh: what real clients get, that a call ends, that the system puts the
 //!   server at the address that it is asked for, what it says where it can't, that the queues settle (no E16), that the server ends once its
 //!   relay has, that its clients are told of its end, and that the threads end.
 //! - Neither: what a network gives, and when; when E1, E10 and E16 come; that in one thread the service doesn't sleep while orders wait; what
-//!   `gauge` shows and `watch` is told.
+//!   `gauge` shows and `watch` is told; when the guard is told who is connected.
 //! - Of leave-taking: from which clients leave is taken, and when it gives them up. That the clock alone does that can't be said: the kit ties
 //!   no reading of the clock to anything that a contract could name.
-//! - Which CONNECTs the guard passes over while a server serves or takes leave: the turns say of the wire only what it told, how often it
-//!   failed, and that the guard's rules and bans stay. What the socket told is what the guard told, and the CONNECTs that this passed over
+//! - Which datagrams the guard passes over while a server serves or takes leave: the turns say of the wire only what it told, how often it
+//!   failed, and that the guard's rules and bans stay. What the socket told is what the guard told, and the datagrams that this passed over
 //!   (`TellsTheRest` of `enet_guard`).
 #![tactic(auto)]
 
 mod alone;
 mod leaving;
 mod lone_turn;
+mod registrar;
 mod server;
 mod threads;
 
-pub use enet_chat::{Gauge, TOO_SLOW, end_of_slow};
-pub use enet_guard::{PassedOver, Rules};
+pub use enet_chat::{Gauge, TOO_LOUD, TOO_SLOW, end_of_loud, end_of_slow};
+pub use enet_guard::{Dropped, PassedOver, Rules};
 pub use enet_service::{Met, Note, RunLength, SendLimit, Unopened, Unwatched, Watch, WatchedHost};
 pub use server::{ChatServer, Settings};

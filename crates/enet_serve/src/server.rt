@@ -6,6 +6,7 @@ ghost use Rattle.enet_serve.specs.Private.Threads.{IsLeft, returned};
 
 use crate::alone::Alone;
 use crate::leaving::take_leave;
+use crate::registrar::Registrar;
 use crate::threads::{Carryover, begin_alone, begin_relay, end_alone, left_or_nothing, relay_on};
 use enet_chat::{Gauge, RelayParts};
 use enet_codec::{Addr, Config, MAX_PEERS, Refusal, Secret};
@@ -57,7 +58,7 @@ pub struct Settings {
     /// How many clients of one IP address there may be, also those that haven't confirmed yet: 1 to as many as its host has slots
     /// (`Config::of_address`); None for as many as there are slots.
     pub of_address: Option<u16>,
-    /// Whom the guard in front of its host lets ask for a connection.
+    /// Whom the guard in front of its host lets ask for a connection, and how much clients may send.
     pub rules: Rules,
     /// By what its host draws (`Config::secret`); with none it goes as ENet does.
     pub secret: Option<Secret>,
@@ -171,6 +172,8 @@ impl ChatServer {
         ensures guard { ruling (guard_of self.new) ≡ ruling (guard_of self.old) }
     {
         let bell = self.bound.wire.wire().bell()?;
+        let register = self.bound.wire.register()?;
+        let mut watch = Registrar { register, watch };
         let Queues {
             orders,
             events,
@@ -182,7 +185,7 @@ impl ChatServer {
             bell: &bell,
             signals: &Signals::new(),
         };
-        self.run_turns(rt, shared, ends, run_length, gauge, watch)
+        self.run_turns(rt, shared, ends, run_length, gauge, &mut watch)
     }
 
     /// Serves for a run, as [`ChatServer::serve`] does, in one thread: in each turn this thread expands what the service told, and the
@@ -212,6 +215,8 @@ impl ChatServer {
         ensures guard { ruling (guard_of self.new) ≡ ruling (guard_of self.old) }
     {
         let bell = self.bound.wire.wire().bell()?;
+        let register = self.bound.wire.register()?;
+        let mut watch = Registrar { register, watch };
         let kept = mem::replace(&mut self.kept, Carryover::new(self.alloc));
         let mut alone = Alone {
             relay: begin_alone(self.alloc, kept, gauge),
@@ -219,7 +224,7 @@ impl ChatServer {
             gauge,
         };
         alone.relay.expand()?;
-        let served = alone.run(rt, &mut self.bound, run_length, watch);
+        let served = alone.run(rt, &mut self.bound, run_length, &mut watch);
         self.kept = end_alone(alone.relay);
         served
     }
@@ -334,7 +339,8 @@ impl ChatServer {
         self.bound.wire.unban(ip);
     }
 
-    /// What tells how many CONNECTs the guard passed over. E1 where so many of it are held that no more can be counted.
+    /// What tells how many CONNECTs the guard passed over, and how much of what clients sent. E1 where so many of it are held that no more
+    /// can be counted.
     pub fn passed_over(&self) -> Result<Arc<PassedOver, Global>, Refusal>
         ensures { IfErr result (λ why. why ≡ Refusal.Memory) }
     {
