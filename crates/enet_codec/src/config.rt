@@ -52,17 +52,17 @@ pub struct Config {
     /// confirm a connection in another's name. With none all begin at 0, as in ENet: whoever knows the clock knows the sent times, and can
     /// tell which CONNECTs are looked for in the same place.
     pub secret: Option<Secret>,
-    /// Whether a CONNECT that finds no free slot takes that of the peer which has been waiting longest for its client to confirm an answer:
-    /// that peer is let go, with no event (our profile). Each such CONNECT uses up a generation of a slot, so this wants 4,294,967,295
-    /// `generations`: a flood spends the standard 1,000,000 within hours.
+    /// Whether a CONNECT that finds no free slot takes that of the peer which has been waiting longest for its client to confirm an answer,
+    /// or to hear that the host is full (`most`): that peer is let go, with no event (our profile). Each such CONNECT uses up a generation of a
+    /// slot, so this wants 4,294,967,295 `generations`: a flood spends the standard 1,000,000 within hours.
     pub gives_way: bool,
     /// How many peers that began by a CONNECT may be connected or leaving at once: 1 to `peers`; with none said as many as there are slots.
     /// A client that confirms where as many are there is told that the host is full, and let go, with no event (our profile).
     pub most: Option<u16>,
-    /// How many peers that began by a CONNECT there may be at once of one IP address, whatever their ports: 1 to `peers`; with none said as
-    /// many as there are slots. A CONNECT that comes where as many are there takes the slot of the one of them that has been waiting longest
-    /// for its client: that peer is let go, with no event. It is stopped where none of them waits (our profile). This, too, wants
-    /// 4,294,967,295 `generations`.
+    /// How many peers that began by a CONNECT there may be at once of one IP address, whatever their ports: 1 to `peers`. None is no limit,
+    /// which `Some(peers)` isn't: with that an address that has all slots gives way to itself. A CONNECT that comes where as many are there
+    /// takes the slot of the one of them that has been waiting longest for its client: that peer is let go, with no event. It is stopped where
+    /// none of them waits in a slot that has a generation left (our profile). This, too, wants 4,294,967,295 `generations`.
     pub of_address: Option<u16>,
 }
 

@@ -197,7 +197,7 @@ impl HostCore {
     /// parting, S4 where the peer is at another address, S5 where its session is another, once the other end's slot is known.
     /// Of an offer S6 where it names no slot, S8 where it asks for no channel or for more than 255, S13 where no slot is free
     /// that has a generation left and none is given up (`Config::gives_way`), or as many peers of the address are there as may be and none of
-    /// them waits for its client (`Config::of_address`), S11 where memory is refused; an offer of a connection that is there has no effect.
+    /// them is given up (`Config::of_address`), S11 where memory is refused; an offer of a connection that is there has no effect.
     /// Else it is the stop of the first command that the peer stops: the commands before it have taken effect, and the stopped one has
     /// none, that of S12 excepted. Each datagram counts in the totals. Its bytes count for the peer to whose slot it comes from the peer's
     /// address, and an offer's for the peer that it is or becomes, also where the datagram is stopped: see `tick`. Where `Config::of_address`

@@ -204,7 +204,7 @@ impl HostCore {
     }
 
     /// How many commands are queued for the peer, or sent and not acknowledged, and the bytes of their payloads: what `set_send_limit`
-    /// limits. Each number stops at 2^64 - 1. None if there is no such peer.
+    /// limits. Neither acknowledgements nor commands of channel 0xFF count. Each number stops at 2^64 - 1. None if there is no such peer.
     pub fn outstanding(&self, peer: PeerRef) -> Option<Outstanding>
         ensures { result ≡ option_map (λ p. capped (outstanding_of p.outbox)) (named self.now.slots peer) }
     {

@@ -56,7 +56,7 @@ pub struct Settings {
     /// How many bytes of datagrams the system is asked to keep until they are received; None for as many as [`MioWire`] asks for.
     pub receive_buffer: Option<u32>,
     /// How many clients of one IP address there may be, also those that haven't confirmed yet: 1 to as many as its host has slots
-    /// (`Config::of_address`); None for as many as there are slots.
+    /// (`Config::of_address`); None for no limit.
     pub of_address: Option<u16>,
     /// Whom the guard in front of its host lets ask for a connection, and how much clients may send.
     pub rules: Rules,

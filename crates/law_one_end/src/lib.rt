@@ -90,7 +90,7 @@ pub fn a_datagram_comes_as_commands()
         → Hears a bytes e.peer answer q → HasCome a bytes e q ⊎ Happens e TellAgain (with_peer e q) }
 {}
 
-/// Each peer of a host that there is, by the calls of the host alone, whatever is called on it and whoever sends to it: datagrams from any
+/// Each peer of a host that there is, by the calls of the host alone (those of `law_network`: no broadcast), whoever sends: datagrams from any
 /// address, submissions, disconnects, settings, ticks, turns and takes, each with what was answered (`Steps`). Of each name that nobody has
 /// at first, nothing is told, submitted or put out (`IsNobody`); or its peer began by one of these calls, a `connect` of the user's or a
 /// CONNECT that came, at an address where it stayed, and is one end since (`IsEnd`). What the user was told of it is that end's, and one
